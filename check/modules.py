@@ -133,11 +133,11 @@ def pairs(count):
     return head + "".join(lines) + "ret i64 0\n}\n"
 
 
-def strands(rounds):
-    """As many children as @main's argument says, up to 64, each of which calls a loop of so many rounds and stores what it gives."""
+def strands(rounds, children=64):
+    """As many children as @main's argument says, up to so many, each of which calls a loop of so many rounds and stores what it gives."""
     work = 5 * rounds + 2
     each = work + 9
-    return f"""@a = global [64 x i64] zeroinitializer
+    return f"""@a = global [{children} x i64] zeroinitializer
 define i64 @work(i64 %seed) {{
 ;! budget 0 {work}
 entry:
@@ -160,9 +160,9 @@ ret i64 %next
 }}
 define i64 @main(i64 %n) {{
 ;! requires %n >= 0
-;! requires %n <= 64
-;! writes @a 0 64
-;! budget 0 {64 * each + 6}
+;! requires %n <= {children}
+;! writes @a 0 {children}
+;! budget 0 {children * each + 6}
 entry:
 ;! left 0 {each}*%n+6
 %s = call token @llvm.syncregion.start()
@@ -170,7 +170,7 @@ br label %head
 head:
 ;! keeps %i >= 0
 ;! keeps %i <= %n
-;! keeps %n <= 64
+;! keeps %n <= {children}
 ;! pending %s writes @a 0 %i
 ;! left 0 {each}*%n-{each}*%i+4
 %i = phi i64 [ 0, %entry ], [ %k, %next ]
@@ -178,15 +178,15 @@ head:
 br i1 %c, label %fork, label %done
 fork:
 ;! keeps %i >= 0
-;! keeps %i <= 63
+;! keeps %i <= {children - 1}
 ;! keeps %i+1 <= %n
-;! keeps %n <= 64
+;! keeps %n <= {children}
 ;! pending %s writes @a 0 %i
 ;! left 0 {each}*%n-{each}*%i+2
 detach within %s, label %body, label %next
 body:
 ;! keeps %i >= 0
-;! keeps %i <= 63
+;! keeps %i <= {children - 1}
 ;! left 0 {work + 4}
 ;! foot writes @a %i %i+1
 %v = call i64 @work(i64 %i)
@@ -196,7 +196,7 @@ reattach within %s, label %next
 next:
 ;! keeps %i >= 0
 ;! keeps %i+1 <= %n
-;! keeps %n <= 64
+;! keeps %n <= {children}
 ;! pending %s writes @a 0 %i+1
 ;! left 0 {each}*%n-{each}*%i-{each - 6}
 %k = add nsw i64 %i, 1

@@ -1,17 +1,15 @@
-//! Annotations that follow from others, put into a module's text.
+//! A module's text with annotations put in that follow from it, each of them tried.
 //!
-//! [`annotated`] adds lines and changes none. At each block it adds the `keeps` that all ways to it bring along, the `pending` zones that are
-//! handed on to it, and what is `left` by what the block does and what is left behind it; at a function's head its `budget`, by what is
-//! left at its entry. It proposes and judges nothing: whether the lines are right is for the verifier to say.
+//! [`annotate_lines`] proposes lines. Here each is tried by the functions of the verifier's phases, and taken out again where it is refused. What is accepted
+//! without the lines is accepted with them. [`pruned`] goes the other way: it takes out what an accepted text can do without.
 #![tactic(auto)]
 
-mod budget;
-mod edge;
-mod fact;
-mod keep;
-mod left;
-mod pending;
-mod proposal;
-mod sum;
+mod new_lines;
+mod plain;
+mod pruning;
+mod trial;
+mod trying;
 
-pub use proposal::annotated;
+pub use new_lines::NewLines;
+pub use pruning::pruned;
+pub use trying::annotated;

@@ -10,7 +10,7 @@ use crate::reach::reached;
 use crate::structure::{BlockEdges, Edge};
 use program::{Block, Function, Phi, PhiEntry};
 use reachability::{no_marks, one_mark};
-use refusal::{Broken, lower};
+use refusal::{Broken, lower, rule};
 use std::alloc::{AllocError, Global};
 
 /// Marks the blocks that a path from the entry leads to.
@@ -96,7 +96,7 @@ fn phi_fault(
         } else {
             Some(Broken {
                 line: phi.line,
-                number: 211,
+                number: rule::PHI_ENTRIES,
             })
         };
         named = lower(named, broken);
@@ -111,7 +111,10 @@ fn label_fault(blocks: &[BlockEdges], on_paths: &[bool], block: usize, line: u32
     ensures { IsJudged (IsLabelRight blocks.now block) (IsLabelBroken blocks.now block line) result }
 {
     if !on_paths[block] || (block == 0 && is_followed(blocks, block)) {
-        Some(Broken { line, number: 212 })
+        Some(Broken {
+            line,
+            number: rule::BLOCK_ON_NO_PATH,
+        })
     } else {
         None
     }
@@ -125,7 +128,7 @@ fn ending_fault(block: &Block) -> Option<Broken>
         Some(_) => None,
         None => Some(Broken {
             line: block.line,
-            number: 213,
+            number: rule::NO_TERMINATOR,
         }),
     }
 }

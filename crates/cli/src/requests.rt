@@ -4,9 +4,8 @@ use crate::clocks::microseconds_since;
 use crate::recorded::run_told;
 use crate::speedup::run_speedup;
 use cli_answers::{
-    Beside, Job, Question, Request, Status, Verb, answer, answer_verified, effort_of, fail,
-    is_told, prepared, print_run, print_unprepared, print_unreadable, print_unverified,
-    verify_within,
+    Beside, Job, Question, Request, Status, Verb, Verdict, answer, answer_verified, fail, is_told,
+    prepared, print_run, print_unprepared, print_unreadable, print_unverified, verdict_on,
 };
 use deque_pool::OpenGate;
 use std::io;
@@ -98,15 +97,18 @@ fn verify_and_run<T: Threads + Wait + Clock + Sync, R: Read, W: Write>(
         return print_unreadable(alloc, request.file.as_str(), output);
     };
     let begun = Instant::now(rt)?;
-    let verdict = verify_within(alloc, state, text, &effort_of(request));
+    let Verdict {
+        text: judged,
+        answer,
+    } = verdict_on(alloc, state, request, text, beside)?;
     beside.times.verifying = microseconds_since(rt, begun)?;
-    match verdict {
+    match answer {
         Ok(verified) => {
             let job = Job {
                 alloc,
                 state,
                 request,
-                text,
+                text: judged.as_slice(),
                 verified: &verified,
                 schedule,
             };

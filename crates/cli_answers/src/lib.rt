@@ -14,6 +14,7 @@ mod people;
 mod requests;
 mod runs;
 mod tell;
+mod verdict;
 
 pub use cli_modules::{
     Beside, Dump, Status, Times, fail, print_unreadable, print_unverified, read_data, read_file,
@@ -31,4 +32,5 @@ pub use job::{Job, Question};
 pub use requests::{answer, answer_verified, effort_of};
 pub use runs::{prepared, print_run, print_unprepared};
 pub use tell::{is_told, tell_course};
+pub use verdict::{Verdict, verdict_on};
 pub use view_traces::Course;

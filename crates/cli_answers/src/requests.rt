@@ -5,12 +5,13 @@ use crate::job::{Job, Question};
 use crate::json::answer_json;
 use crate::runs::{debug, run_serial};
 use crate::tell::tell_replay;
+use crate::verdict::{Verdict, verdict_on};
 use cli_modules::{
     Beside, Status, answer_text, note_unverified, print_known, print_rule, print_unreadable,
     print_unverified, print_verified,
 };
 use cli_words::{Request, Verb, completions, manual};
-use debugger::{Effort, verify_within};
+use debugger::Effort;
 use std::alloc::Global;
 use std::io;
 use std::io::{Read, Write};
@@ -69,13 +70,17 @@ pub fn answer<R: Read, W: Write>(
     if let Some(status) = answer_text(alloc, state, request, text, &effort, output, beside)? {
         return Ok(status);
     }
-    match verify_within(alloc, state, text, &effort) {
+    let Verdict {
+        text: judged,
+        answer,
+    } = verdict_on(alloc, state, request, text, beside)?;
+    match answer {
         Ok(verified) => {
             let job = Job {
                 alloc,
                 state,
                 request,
-                text,
+                text: judged.as_slice(),
                 verified: &verified,
                 schedule,
             };

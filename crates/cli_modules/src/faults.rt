@@ -15,6 +15,19 @@ pub fn note_fault(
     line: u32,
     beside: &mut Beside,
 ) -> Result<(), AllocError> {
+    note_fault_at(alloc, file, line, text, number, line, beside)
+}
+
+/// The same of a text with lines put in, where the file has the line at another place.
+pub fn note_fault_at(
+    alloc: Global,
+    file: &str,
+    own_line: u32,
+    text: &[u8],
+    number: u16,
+    line: u32,
+    beside: &mut Beside,
+) -> Result<(), AllocError> {
     let text = str::from_utf8(text).unwrap_or("");
     let broken = line_at(text, line).unwrap_or("").trim();
     let mut heads = String::new(alloc);
@@ -22,7 +35,7 @@ pub fn note_fault(
         return Err(AllocError);
     }
     let what = format!(in alloc; "rule {}", heads.as_str().trim())?;
-    beside.note_at(file, u64::from(line), what.as_str())
+    beside.note_at(file, u64::from(own_line), what.as_str())
 }
 
 /// The same of a module that is not verified, if it is refused.

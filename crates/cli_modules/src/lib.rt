@@ -3,15 +3,18 @@
 #![tactic(auto)]
 
 mod accepted;
+mod annotations;
 mod beside;
 mod faults;
 mod files;
+mod own_lines;
 mod reasons;
 mod refusals;
 mod shown;
 mod status;
 
 pub use accepted::{find_function, print_verified};
+pub use annotations::{in_own_lines, judged_text};
 pub use beside::{Beside, Dump, FileText, Times};
 pub use faults::{note_effort, note_fault, note_unverified};
 pub use files::{read_data, read_file, read_text, write_bytes, write_file};

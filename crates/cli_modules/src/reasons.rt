@@ -1,23 +1,29 @@
 //! What `explain` prints: a rule, or why a module is refused.
 
+use crate::annotations::{judged_text, lines_put_in};
 use crate::beside::Beside;
-use crate::faults::note_fault;
+use crate::faults::note_fault_at;
+use crate::own_lines::with_own_lines;
 use crate::refusals::{print_undecided, stop_for_memory};
 use crate::status::Status;
+use annotate::NewLines;
+use cli_words::Request;
 use explain::{Explanation, explain, rule_text, told};
 use lists::OutOfMemory;
 use std::alloc::Global;
 use std::hash::RandomState;
 use std::io;
 use std::io::Write;
-use verifier::Effort;
+use verifier::{Effort, Refused};
 
-/// The text of an explanation, and the status: 1 where the module is refused, 3 where there is no verdict. Its first fault is told beside it.
+/// The text of an explanation, and the status: 1 where the module is refused, 3 where there is no verdict. Its first fault is told beside it, on the own line
+/// of the text without those that were put in.
 fn explained(
     alloc: Global,
     state: RandomState,
     file: &str,
     text: &[u8],
+    new: &NewLines,
     effort: &Effort,
     beside: &mut Beside,
 ) -> Result<(String, Status), OutOfMemory> {
@@ -25,25 +31,58 @@ fn explained(
     let status = match &explanation {
         Explanation::Accepted { .. } => Status::Done,
         Explanation::Refused { first, .. } => {
-            note_fault(alloc, file, text, first.number, first.line, beside)?;
+            let own_line = new.own_line(first.line);
+            note_fault_at(
+                alloc,
+                file,
+                own_line,
+                text,
+                first.number,
+                first.line,
+                beside,
+            )?;
             Status::Refused
         }
         Explanation::Undecided => Status::Stopped,
     };
-    Ok((told(alloc, text, &explanation)?, status))
+    let told = told(alloc, text, &explanation)?;
+    Ok((with_own_lines(alloc, new, told.as_str())?, status))
+}
+
+/// The explanation of a text as it is judged; of one that cannot be read as it is.
+fn explained_as_judged(
+    alloc: Global,
+    state: RandomState,
+    request: &Request,
+    text: &[u8],
+    effort: &Effort,
+    beside: &mut Beside,
+) -> Result<(String, Status), OutOfMemory> {
+    let file = request.file.as_str();
+    match judged_text(alloc, state, request, text, effort) {
+        Ok(more) => {
+            let new = lines_put_in(alloc, text, more.as_slice())?;
+            explained(alloc, state, file, more.as_slice(), &new, effort, beside)
+        }
+        Err(Refused::Fault { .. }) => {
+            let new = lines_put_in(alloc, text, text)?;
+            explained(alloc, state, file, text, &new, effort, beside)
+        }
+        Err(Refused::Memory) => Err(OutOfMemory),
+    }
 }
 
 /// Prints why a module is refused, or what it could do without, as far as the effort reaches.
 pub fn print_explanation<W: Write>(
     alloc: Global,
     state: RandomState,
-    file: &str,
+    request: &Request,
     text: &[u8],
     effort: &Effort,
     output: &mut W,
     beside: &mut Beside,
 ) -> io::Result<Status> {
-    match explained(alloc, state, file, text, effort, beside) {
+    match explained_as_judged(alloc, state, request, text, effort, beside) {
         Ok((_, Status::Stopped)) => print_undecided(output, beside),
         Ok((told, status)) => {
             output.write_all(told.as_bytes())?;

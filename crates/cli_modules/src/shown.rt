@@ -1,10 +1,10 @@
 //! Modules as people see them: answers that run nothing.
 
+use crate::annotations::print_annotated;
 use crate::beside::Beside;
 use crate::reasons::print_explanation;
 use crate::refusals::print_refused;
 use crate::status::Status;
-use annotate_trial::annotated;
 use cli_words::{Request, Verb};
 use std::alloc::Global;
 use std::hash::RandomState;
@@ -24,17 +24,6 @@ fn print_text<W: Write>(text: Result<String, Refused>, output: &mut W) -> io::Re
     }
 }
 
-/// Prints a module's text with annotations put in.
-fn print_annotated<W: Write>(text: Result<Vec<u8>, Refused>, output: &mut W) -> io::Result<Status> {
-    match text {
-        Ok(text) => {
-            output.write_all(text.as_slice())?;
-            Ok(Status::Done)
-        }
-        Err(refused) => print_refused(&refused, output),
-    }
-}
-
 /// Prints a module that is not run, or explains it within this effort; none where it is verified first.
 pub fn answer_text<W: Write>(
     alloc: Global,
@@ -47,16 +36,8 @@ pub fn answer_text<W: Write>(
 ) -> io::Result<Option<Status>> {
     let status = match request.verb {
         Verb::Print => print_text(printed(alloc, state, text), output)?,
-        Verb::Annotate => print_annotated(annotated(alloc, state, text, effort), output)?,
-        Verb::Explain => print_explanation(
-            alloc,
-            state,
-            request.file.as_str(),
-            text,
-            effort,
-            output,
-            beside,
-        )?,
+        Verb::Annotate => print_annotated(alloc, state, request, text, effort, output, beside)?,
+        Verb::Explain => print_explanation(alloc, state, request, text, effort, output, beside)?,
         _ => return Ok(None),
     };
     Ok(Some(status))

@@ -4,6 +4,7 @@
 //! ([`text_of`]) and a word again where a file is opened ([`bytes_of`]).
 #![tactic(auto)]
 
+mod annotating;
 mod command;
 mod data;
 mod manual_page;
@@ -15,6 +16,7 @@ mod values;
 mod version;
 mod word;
 
+pub use annotating::Annotating;
 pub use data::{DataWord, DataWords, RowWord};
 pub use manual_page::manual;
 pub use parsing::words;

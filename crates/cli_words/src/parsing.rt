@@ -3,6 +3,7 @@
 ghost use Rattle.std.specs.Prelude.{◌≡◌, IfOk, IfSome, map};
 ghost use Rattle.cli_words.specs.Asked.{IsAsked, word_of};
 
+use crate::annotating::read_annotating;
 use crate::command::{command, endings, fault_of};
 use crate::data::data_of;
 use crate::request::{Request, Verb, WordsFault};
@@ -174,9 +175,10 @@ fn read_options(
         Verb::Serial => read_running(alloc, matches, request)?,
         Verb::Completions => request.shell = Some(shell_of(alloc, request.file.as_str())?),
         Verb::Show => read_show(alloc, matches, request)?,
-        Verb::Print | Verb::Annotate | Verb::Man => {}
+        Verb::Annotate => read_effort(alloc, matches, request)?,
+        Verb::Print | Verb::Man => {}
     }
-    Ok(())
+    read_annotating(alloc, matches, request)
 }
 
 /// The verb that a word names.

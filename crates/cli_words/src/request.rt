@@ -1,6 +1,7 @@
 ghost use Rattle.std.specs.Prelude.{◌≡◌};
 ghost use Rattle.cli_words.specs.Asked.{word_of};
 
+use crate::annotating::Annotating;
 use crate::data::DataWords;
 use std::alloc::{AllocError, AllocFailed, Global};
 
@@ -100,6 +101,7 @@ pub struct Request {
     pub dialogue: Dialogue,
     /// The name, without `@`, of the function whose costs to print, for the verb that takes one.
     pub table: Option<String>,
+    pub annotating: Annotating,
     /// How many steps of search a verdict may take, where a number is named; of the verbs that ask for one.
     pub effort: Option<u64>,
     /// The number of the rule to print in place of a module, for the verb that takes one.
@@ -128,6 +130,7 @@ impl Drop for Request {
             is_timed: _,
             dialogue: _,
             table: _,
+            annotating: _,
             effort: _,
             rule: _,
             shell: _,
@@ -158,6 +161,7 @@ impl Request {
                 has_colours: false,
             },
             table: None,
+            annotating: Annotating::nothing(),
             effort: None,
             rule: None,
             shell: None,

@@ -263,18 +263,41 @@ const INTERACTIVE: Part = Part {
     help: "has a prompt and help, as between terminals",
 };
 
+const ANNOTATE: Part = Part {
+    name: "annotate",
+    value: "",
+    given: Given::Flag,
+    help: "puts in lines that follow from others first, as the command of this name does",
+};
+
+const PRUNE: Part = Part {
+    name: "prune",
+    value: "",
+    given: Given::Flag,
+    help: "takes annotations out that an accepted module can do without, and puts none in",
+};
+
+const WRITE: Part = Part {
+    name: "write",
+    value: "",
+    given: Given::Flag,
+    help: "writes the text into FILE, and does not print it",
+};
+
 /// The words and options of the commands, as their help lists them; a command that only reads a module takes its file alone.
 static MODULE_PARTS: [Part; 1] = [FILE];
 
-static VERIFY_PARTS: [Part; 4] = [FILE, TABLE, EFFORT, JSON];
+static VERIFY_PARTS: [Part; 5] = [FILE, TABLE, ANNOTATE, EFFORT, JSON];
 
-static EXPLAIN_PARTS: [Part; 3] = [FILE_OR_NUMBER, EFFORT, JSON];
+static EXPLAIN_PARTS: [Part; 4] = [FILE_OR_NUMBER, ANNOTATE, EFFORT, JSON];
 
 static KNOWN_PARTS: [Part; 3] = [FILE, EFFORT, JSON];
 
-static SERIAL_PARTS: [Part; 10] = [FILE, ARG, SET, SHOW, LOAD, DUMP, RAW, CELLS, TIME, EFFORT];
+static SERIAL_PARTS: [Part; 11] = [
+    FILE, ARG, SET, SHOW, LOAD, DUMP, RAW, CELLS, TIME, ANNOTATE, EFFORT,
+];
 
-static RUN_PARTS: [Part; 19] = [
+static RUN_PARTS: [Part; 20] = [
     FILE,
     ARG,
     SET,
@@ -293,6 +316,7 @@ static RUN_PARTS: [Part; 19] = [
     EVENTS,
     PAGE,
     TIME,
+    ANNOTATE,
     EFFORT,
 ];
 
@@ -318,6 +342,8 @@ static COMPLETIONS_PARTS: [Part; 1] = [SHELL];
 
 static MAN_PARTS: [Part; 0] = [];
 
+static ANNOTATE_PARTS: [Part; 4] = [FILE, PRUNE, WRITE, EFFORT];
+
 /// What the help tells of a verb first.
 pub(crate) fn about_of(verb: Verb) -> &'static str {
     match verb {
@@ -333,7 +359,9 @@ pub(crate) fn about_of(verb: Verb) -> &'static str {
         }
         Verb::Print => "prints the canonical text of a module",
         Verb::Show => "tells what the verifier knows of each block of a module",
-        Verb::Annotate => "prints a module with annotations put in that follow from others",
+        Verb::Annotate => {
+            "prints a module with annotations put in that follow from others, or without those that it does not need"
+        }
         Verb::Completions => "prints a script that completes the words of this program in a shell",
         Verb::Man => "prints the manual page",
     }
@@ -351,7 +379,8 @@ pub(crate) fn example_of(verb: Verb) -> &'static str {
         Verb::Debug => "$ tapirvm debug pair.ll s.txt --workers 2 --arg 7",
         Verb::Print => "$ tapirvm print fib.ll",
         Verb::Show => "$ tapirvm show fib.ll",
-        Verb::Annotate => "$ tapirvm annotate fib.ll > annotated.ll",
+        Verb::Annotate =>
+            "$ tapirvm annotate fib.ll > annotated.ll\n$ tapirvm annotate --prune --write annotated.ll",
         Verb::Completions => "$ source <(tapirvm completions bash)",
         Verb::Man => "$ tapirvm man > tapirvm.1 && man ./tapirvm.1",
     }
@@ -369,6 +398,7 @@ pub(crate) fn parts_of(verb: Verb) -> &'static [Part] {
         Verb::Completions => &COMPLETIONS_PARTS,
         Verb::Man => &MAN_PARTS,
         Verb::Show => &KNOWN_PARTS,
-        Verb::Print | Verb::Annotate => &MODULE_PARTS,
+        Verb::Annotate => &ANNOTATE_PARTS,
+        Verb::Print => &MODULE_PARTS,
     }
 }

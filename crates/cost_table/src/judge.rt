@@ -16,7 +16,7 @@ use linear_shown::{Effort, FactBranches, Known};
 use lists::OutOfMemory;
 use program::{Argument, Block, BlockId, Ending, Function, Instruction, Step, Terminator};
 use ranges::{EdgeFacts, Unanswered, argument_moves};
-use refusal::{Broken, lower};
+use refusal::{Broken, lower, rule};
 use std::alloc::Global;
 
 /// The greatest cost that a call may have.
@@ -44,7 +44,7 @@ pub fn start_fault(
     let left = &block.left;
     let calls = covers_work(alloc, known, &left.self_calls, 0)?;
     let instructions = covers_work(alloc, known, &left.instructions, 0)?;
-    Ok(fault_unless(calls, instructions, left.line, 701))
+    Ok(fault_unless(calls, instructions, left.line, rule::LEFT_BELOW_ZERO))
 }
 
 /// How many self calls a block leaves, and none where there is no such block.
@@ -100,7 +100,7 @@ fn edge_fault(
         moves,
         next,
     )?;
-    Ok(fault_unless(calls, instructions, line, 702))
+    Ok(fault_unless(calls, instructions, line, rule::LEFT_TOO_SMALL))
 }
 
 /// What is left of a block does not cover what it does and what is left behind one of its edges, where this is known at its end.
@@ -156,7 +156,7 @@ fn fork_fault(
         child,
         parent,
     )?;
-    Ok(fault_unless(calls, instructions, line, 702))
+    Ok(fault_unless(calls, instructions, line, rule::LEFT_TOO_SMALL))
 }
 
 /// What is left of a block at a `ret` or `reattach` does not cover what it does.
@@ -173,7 +173,7 @@ fn end_fault(
     let left = &block.left;
     let calls = covers_work(alloc, known, &left.self_calls, work.calls)?;
     let instructions = covers_work(alloc, known, &left.instructions, work.instructions)?;
-    Ok(fault_unless(calls, instructions, line, 702))
+    Ok(fault_unless(calls, instructions, line, rule::LEFT_TOO_SMALL))
 }
 
 /// What is left of a block does not cover what it does and what is left where it goes on.
@@ -230,7 +230,7 @@ pub fn measure_fault(
     let measure = &function.measure;
     let low = covers_work(alloc, known, &measure.form, 0)?;
     let high = is_at_most(alloc, known, measure.bound, &measure.form)?;
-    Ok(fault_unless(low, high, measure.line, 703))
+    Ok(fault_unless(low, high, measure.line, rule::MEASURE))
 }
 
 /// The measure of a self call is not shown to be at least 0 and less than the call's own.
@@ -247,7 +247,7 @@ fn falling_fault(
     let moves = argument_moves(alloc, arguments)?;
     let low = is_at_least_zero(alloc, known, &moves, form)?;
     let falls = covers_next(alloc, known, form, 1, &moves, form)?;
-    Ok(fault_unless(low, falls, line, 703))
+    Ok(fault_unless(low, falls, line, rule::MEASURE))
 }
 
 /// The measure of a step that is a self call is not shown to be at least 0 and less than the call's own.
@@ -296,7 +296,7 @@ pub fn budget_fault(
     let budget = &function.budget;
     let calls = is_at_most(alloc, known, budget.self_calls, &entry.left.self_calls)?;
     let instructions = is_at_most(alloc, known, budget.instructions, &entry.left.instructions)?;
-    Ok(fault_unless(calls, instructions, budget.line, 704))
+    Ok(fault_unless(calls, instructions, budget.line, rule::BUDGET))
 }
 
 /// A call of the function may cost over a million million.
@@ -306,7 +306,7 @@ pub fn cost_fault(function: &Function) -> Option<Broken>
     if whole_cost(function) > GREATEST_COST {
         Some(Broken {
             line: function.line,
-            number: 705,
+            number: rule::RECURSION_COST,
         })
     } else {
         None

@@ -19,7 +19,7 @@ use crate::unsure::unsure_rows;
 use cfg::{BlockEdges, Graph};
 use lists::Seq;
 use program::{Block, Function};
-use refusal::{Broken, lower};
+use refusal::{Broken, lower, rule};
 use region_match::{Regions, Task};
 use std::alloc::{AllocError, Global};
 
@@ -51,7 +51,7 @@ fn register_fault(
     let all = all_given(alloc, &table)?;
     let greatest = greatest_needed(&table);
     let rows = missing_rows(alloc, blocks, &all, greatest)?;
-    Ok(table_fault(alloc, &rows, 401, &table)?)
+    Ok(table_fault(alloc, &rows, rule::UNDEFINED_REGISTER, &table)?)
 }
 
 /// What the blocks of a function do with allocas.
@@ -109,7 +109,7 @@ fn alloca_fault(
         &all,
         greatest,
     )?;
-    Ok(table_fault(alloc, &rows, 402, &table)?)
+    Ok(table_fault(alloc, &rows, rule::UNSTORED_CELL, &table)?)
 }
 
 /// What is named of a function.

@@ -55,7 +55,6 @@ fn ended_detach(
     requires within { block < length bodies.now }
     ensures { (detach : ℕ) → (result ≡ Some detach) ↔ IsEndOf bodies.now blocks.now detach block }
 {
-    let _blocks = blocks;
     if is_reattach(bodies, block) {
         child_of(tasks[block])
     } else {

@@ -115,7 +115,6 @@ fn narrow(
     ensures lowers { OnOk result (Lowers stops.now forks.now blocks.now sets.old work.old.items sets.new work.new.items) }
     ensures taken { OnOk result ((k : Option RegisterId) → label_of sets.new k to ≡ true → label_in given k ≡ true) }
 {
-    let _blocks = blocks;
     match given {
         Label::Sure => Ok(()),
         Label::Due(regions) => {

@@ -88,7 +88,6 @@ fn never_sure(
     ensures marks { IfOk result (λ marks. (b : ℕ) → b < length blocks.now
         → (slice_index_or marks.items b false ≡ true) ↔ IsNeverSure bodies.now blocks.now all.now alloca b) }
 {
-    let _bodies = bodies;
     let stops = giving(alloc, all, alloca)?;
     settle_next(alloc, stops, forks, blocks, last)?;
     let marks = last.marks.as_slice().to_vec(alloc)?;

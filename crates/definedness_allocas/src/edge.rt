@@ -42,7 +42,6 @@ fn joined(sets: &Sets, stops: &[bool], forks: &[Fork], from: usize, way: Way) ->
     requires within { from < length sets.now.labels.items }
     ensures { (region : RegisterId) → (result ≡ Some region) ↔ IsJoined stops.now forks.now (label_of sets.now) from way region }
 {
-    let _stops = stops;
     match way {
         Way::Continued => match forks.get(from) {
             Some(fork) => {

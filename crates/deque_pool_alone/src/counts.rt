@@ -127,7 +127,6 @@ impl Counts {
         ensures refused { OnErr result (IsFull self.old (Stores at number)) }
         ensures unchanged { OnErr result (self.new ≡ self.old) }
     {
-        let _number = number;
         let page = page_of(at);
         let mut mark = self.mark(page);
         if mark.stored & bit_of(at) != 0 {
@@ -150,7 +149,6 @@ impl Counts {
         ensures refused { OnErr result (IsFull self.old (Adds at number)) }
         ensures unchanged { OnErr result (self.new ≡ self.old) }
     {
-        let _number = number;
         let page = page_of(at);
         let mut mark = self.mark(page);
         if (mark.stored | mark.raised) & bit_of(at) != 0 {

@@ -49,6 +49,13 @@ impl Counted {
         }
     }
 
+    fn unit(self) -> &'static str {
+        match self {
+            Counted::SelfCalls => "self call",
+            Counted::Instructions => "instruction",
+        }
+    }
+
     fn of_left(self, left: &Left) -> &Form {
         match self {
             Counted::SelfCalls => &left.self_calls,
@@ -189,7 +196,7 @@ impl Doing<'_> {
             self.push_share(alloc, counted, share, out)?;
         }
         out.push_str("\n    ")?;
-        self.known.push_gap(alloc, rest, out)?;
+        self.known.push_gap(alloc, rest, counted.unit(), out)?;
         self.push_edge_to(shares, out)?;
         Ok(out.push_str("\n")?)
     }
@@ -310,7 +317,7 @@ fn push_unshown(
     notes: &mut String,
 ) -> Result<(), Unanswered> {
     write!(notes, "  {what}: ")?;
-    known.push_gap(alloc, sum, notes)?;
+    known.push_gap(alloc, sum, "", notes)?;
     Ok(notes.push_str("\n")?)
 }
 

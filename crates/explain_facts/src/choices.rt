@@ -1,6 +1,6 @@
 //! Faults of numbers, each with what was to be shown.
 
-use crate::gap::{edge_known, first_facts, is_against, spend};
+use crate::gap::{edge_known, first_facts, is_against, raised, spend};
 use crate::known::{Known, fact_lines};
 use crate::scene::Scene;
 use crate::spelling::push_inequality;
@@ -184,7 +184,15 @@ fn push_mending(
     }
 }
 
-/// A line at the block's start that says a form, unless the form is known to be below 0.
+/// Whether a form is known to be at most 0, so that a line that says it leaves one number at most.
+fn leaves_one(alloc: Global, known: Known<'_>, form: &Form) -> Result<bool, Unanswered> {
+    match raised(alloc, form, -1)? {
+        Some(less) => is_against(alloc, known.facts, &less, known.effort),
+        None => Ok(false),
+    }
+}
+
+/// A line at the block's start that says a form, unless that would leave no number but one.
 fn push_if_possible(
     alloc: Global,
     source: Source<'_>,
@@ -194,7 +202,7 @@ fn push_if_possible(
     old: &[Unmet],
     notes: &mut String,
 ) -> Result<(), Unanswered> {
-    if is_against(alloc, known.facts, form, known.effort)? {
+    if leaves_one(alloc, known, form)? {
         Ok(())
     } else {
         push_start_line(alloc, source, known, block, form, old, notes)

@@ -95,6 +95,14 @@ pub fn fact_lines(
     Ok(lines)
 }
 
+/// Whether a register stands in a form, and does not fall out of it.
+fn has_registers(form: &Form) -> bool {
+    form.terms
+        .as_slice()
+        .iter()
+        .any(|term| term.coefficient != 0)
+}
+
 fn has_register(form: &Form, register: RegisterId) -> bool {
     form.terms
         .as_slice()
@@ -110,8 +118,10 @@ fn share_register(left: &Form, right: &Form) -> bool {
         .any(|term| has_register(right, term.register))
 }
 
-fn push_short(out: &mut String, short: Option<i128>) -> Result<(), AllocError> {
+fn push_short(out: &mut String, short: Option<i128>, unit: &str) -> Result<(), AllocError> {
     match short {
+        Some(1) if !unit.is_empty() => write!(out, "short by 1 {unit}"),
+        Some(short) if !unit.is_empty() => write!(out, "short by {short} {unit}s"),
         Some(short) => write!(out, "short by {short}"),
         None => out.push_str("shown by no one or two facts"),
     }
@@ -190,7 +200,7 @@ impl Known<'_> {
     ) -> Result<(), Unanswered> {
         out.push_str("    nearest: ")?;
         self.push_used(alloc, nearest, out)?;
-        Ok(writeln!(out, ", short by {short}")?)
+        Ok(writeln!(out, ", short of that by {short}")?)
     }
 
     /// The facts that come nearest to a form that they are short of by this much.
@@ -216,7 +226,9 @@ impl Known<'_> {
     ) -> Result<(), Unanswered> {
         match shortfall(alloc, self.facts, form, self.effort)? {
             Some(short) => self.push_nearest(alloc, form, short, out),
-            None => Ok(out.push_str("    no one or two facts have just these registers\n")?),
+            None => Ok(out.push_str(
+                "    no one or two facts add up to these registers: bring one along by `keeps`, or go by smaller steps of `shows`\n",
+            )?),
         }
     }
 
@@ -253,20 +265,27 @@ impl Known<'_> {
         &self,
         alloc: Global,
         form: &Form,
+        unit: &str,
         out: &mut String,
     ) -> Result<(), Unanswered> {
-        if !form.terms.is_empty() {
+        if has_registers(form) {
             push_inequality(alloc, self.scene, form, out)?;
             out.push_str(" is ")?;
         }
         let short = shortfall(alloc, self.facts, form, self.effort)?;
-        Ok(push_short(out, short)?)
+        Ok(push_short(out, short, unit)?)
     }
 
-    /// How far what is known is from showing a sum, in a few words.
-    pub fn push_gap(&self, alloc: Global, sum: &Sum, out: &mut String) -> Result<(), Unanswered> {
+    /// How far what is known is from showing a sum of such units, in a few words.
+    pub fn push_gap(
+        &self,
+        alloc: Global,
+        sum: &Sum,
+        unit: &str,
+        out: &mut String,
+    ) -> Result<(), Unanswered> {
         match sum_form(alloc, sum)? {
-            Some(form) => self.push_form_gap(alloc, &form, out),
+            Some(form) => self.push_form_gap(alloc, &form, unit, out),
             None => Ok(out.push_str("a number past the bounds of a form")?),
         }
     }

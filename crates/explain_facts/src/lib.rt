@@ -11,7 +11,7 @@ mod trial;
 mod unmet;
 
 pub use choices::number_findings;
-pub use gap::{edge_known, first_facts, is_against, spend};
+pub use gap::{edge_known, first_facts, is_against, raised, spend};
 pub use known::{Known, fact_lines, start_lines};
 pub use scene::Scene;
 pub use spelling::{push_form, push_inequality};

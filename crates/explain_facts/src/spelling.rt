@@ -6,6 +6,9 @@ use linear::{Form, Term, side_of};
 use lists::OutOfMemory;
 use std::alloc::{AllocError, Global};
 
+/// A bound so far below 0 is that of a width, and stands on the side of its own.
+const FAR_BELOW: i128 = 1_000_000_000;
+
 /// Registers times numbers in the order of the registers' names, and a number.
 #[derive(Drop)]
 struct Spelled<'a> {
@@ -126,7 +129,13 @@ pub fn push_inequality(
     out: &mut String,
 ) -> Result<(), OutOfMemory> {
     let low = spell(alloc, scene, form, Part::Negative)?;
-    let high = spell(alloc, scene, form, Part::Positive)?;
+    let mut high = spell(alloc, scene, form, Part::Positive)?;
+    if low.parts.is_empty() && high.constant >= FAR_BELOW {
+        let bound = high.constant;
+        high.constant = 0;
+        high.push_to(out)?;
+        return Ok(write!(out, " >= -{bound}")?);
+    }
     Ok(push_sides(&low, &high, out)?)
 }
 

@@ -1,20 +1,26 @@
 //! Faults of zones, each with the zone and what stands beside it.
 
 use crate::zone_text::{as_written, push_why_beside, push_why_not, push_zone};
-use explain_facts::{Known, Matched, Scene, fact_lines, spend};
-use explain_findings::{Finding, Source, push_finding};
+use explain_facts::{Known, Matched, Scene, fact_lines, match_text, spend};
+use explain_findings::{Finding, Source, push_finding, with_line_before};
 use footprints::{
     Cell, Place, PlacedZone, address_cell, cells_zone, conflict, covers, end_use, is_allowed,
     is_clear, is_empty, passes_on, pointers_of, put_object, step_use,
 };
 use linear::RegisterId;
 use linear_shown::{FactBranches, FactCursor, Known as KnownFacts};
+use lists::OutOfMemory;
 use program::{
     Address, Argument, Block, BlockId, Ending, Function, Instruction, Mode, ObjectName, Operand,
     Pending, Step, Terminator, Zone,
 };
-use ranges::{BlockFacts, EdgeFacts, Effort, Task, Unanswered, Way, argument_moves, block_facts};
+use ranges::{
+    BlockFacts, EdgeFacts, Effort, Move, Task, Unanswered, Way, argument_moves, block_facts,
+};
 use std::alloc::Global;
+
+/// The steps that a byte of a text counts for that is judged as far as its uses.
+const STEPS_A_BYTE: usize = 30;
 
 /// A place of a block, with what is known there and what it may touch.
 #[derive(Clone, Copy)]
@@ -114,10 +120,15 @@ impl Spot<'_, '_> {
     ) -> Result<(), Unanswered> {
         self.push_touched(alloc, y, out)?;
         if self.push_covering(alloc, y, out)? {
-            Ok(())
-        } else {
-            Ok(out.push_str("    no zone here is of that object\n")?)
+            return Ok(());
         }
+        out.push_str("    no zone here is of that object\n")?;
+        if !self.place.own {
+            return Ok(());
+        }
+        let mut line = String::from_str(alloc, ";! ")?;
+        push_zone(alloc, self.known.scene, y, &mut line)?;
+        self.push_line(alloc, line.as_str(), self.known.scene.function.line, out)
     }
 
     /// What is pending and conflicts with this zone.
@@ -334,10 +345,29 @@ impl Spot<'_, '_> {
         let y = as_written(zone);
         push_still_pending(alloc, scene, edge.to, &y, out)?;
         if self.push_waiting(alloc, facts, edge, region, &y, out)? {
-            Ok(())
-        } else {
-            push_none_pending(scene, edge.to, region, out)
+            return Ok(());
         }
+        push_none_pending(scene, edge.to, region, out)?;
+        let moves = moved_back(alloc, edge.moves.as_slice())?;
+        let line = pending_line(alloc, scene, region, zone, moves.as_slice())?;
+        self.push_line(alloc, line.as_str(), scene.label_line(edge.to), out)
+    }
+
+    /// A line to put in behind another one, if the text with it is right up to what is known of numbers.
+    fn push_line(
+        &self,
+        alloc: Global,
+        line: &str,
+        after: u32,
+        out: &mut String,
+    ) -> Result<(), Unanswered> {
+        let text = self.source.text;
+        spend(self.known.effort, text.len().saturating_mul(STEPS_A_BYTE))?;
+        let changed = with_line_before(alloc, text, after.saturating_add(1), line)?;
+        if match_text(alloc, self.source.state, changed.as_bytes(), true)?.is_some() {
+            writeln!(out, "    to put in: {line}, after line {after}")?;
+        }
+        Ok(())
     }
 
     /// Whether a zone is empty, or one that is pending at the target of an edge covers it.
@@ -470,6 +500,38 @@ fn push_none_pending(
         out,
         "    %{label} has no `pending %{name}` line of that object"
     )?)
+}
+
+/// Of each phi that takes a register along an edge, the phi in place of that.
+fn moved_back(alloc: Global, moves: &[Move]) -> Result<Vec<Move>, OutOfMemory> {
+    let mut back = Vec::new(alloc);
+    for taken in moves {
+        if let Operand::Register(register) = taken.value {
+            let value = Operand::Register(taken.register);
+            back.push(Move { register, value })?;
+        }
+    }
+    Ok(back)
+}
+
+/// A `pending` line of a zone, at the target of an edge whose phis stand for what they take.
+fn pending_line(
+    alloc: Global,
+    scene: &Scene<'_>,
+    region: RegisterId,
+    zone: &Zone,
+    moves: &[Move],
+) -> Result<String, OutOfMemory> {
+    let name = scene.register(region);
+    let mut line = format!(in alloc; ";! pending %{name} ")?;
+    let object = zone.object;
+    let placed = PlacedZone {
+        object,
+        moves,
+        zone,
+    };
+    push_zone(alloc, scene, &placed, &mut line)?;
+    Ok(line)
 }
 
 fn no_notes(alloc: Global) -> Notes {

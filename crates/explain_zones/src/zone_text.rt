@@ -100,7 +100,7 @@ fn push_gap_line(
     out: &mut String,
 ) -> Result<(), Unanswered> {
     out.push_str(what)?;
-    known.push_gap(alloc, sum, out)?;
+    known.push_gap(alloc, sum, "cell", out)?;
     Ok(out.push_str("\n")?)
 }
 

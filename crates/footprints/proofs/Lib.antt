@@ -3,3 +3,4 @@ pub mod ByTables
 pub mod Looked
 pub mod After
 pub mod Passing
+mod Callees

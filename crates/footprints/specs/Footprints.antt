@@ -35,7 +35,7 @@ use Rattle.footprints_zones.specs.declared.place.Use.{Use}
 use Rattle.footprints_zones.specs.Zones.{Span, span, as_written, covers, is_empty}
 pub use Rattle.footprints_zones.specs.Places.{Place, place_of, is_own}
 unfoldable pub use Rattle.footprints_zones.specs.Places.{is_allowed, is_clear}
-pub use Rattle.footprints_feet.specs.Feet.{foot_use}
+pub use Rattle.footprints_feet.specs.Feet.{no_use, foot_use}
 
 -- ---- the cell of an address
 
@@ -115,8 +115,9 @@ abbrev pub is_put_clear : Place → Option Span → Bool
 is_put_clear p None = true
 is_put_clear p (Some y) = is_clear p y
 
-abbrev pub no_use : Use
-no_use = record { number = 604; covered = true; clear = true }
+-- 604: a callee's zone
+abbrev pub put_use : Place → Option Span → Use
+put_use p y = record { number = 604; covered = is_put_allowed p y; clear = is_put_clear p y }
 
 -- 604: a callee's zones
 abbrev pub callee_use : Place → Function → List Argument → Use

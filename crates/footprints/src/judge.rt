@@ -15,7 +15,7 @@ use linear::Fact;
 use linear_shown::{Effort, FactBranches};
 use program::{Block, Ending, Function, Step};
 use ranges::{EdgeFacts, Unanswered};
-use refusal::{Broken, lower};
+use refusal::{Broken, lower, rule};
 use std::alloc::Global;
 
 /// The rule of this number at this line, unless it holds.
@@ -34,7 +34,7 @@ pub fn use_fault(line: u32, used: Use) -> Option<Broken>
     ensures { IsEarliest (IsUseBroken line used) result }
 {
     let uncovered = fault_unless(used.covered, line, used.number);
-    let unclear = fault_unless(used.clear, line, 602);
+    let unclear = fault_unless(used.clear, line, rule::CONFLICT);
     lower(uncovered, unclear)
 }
 
@@ -75,7 +75,7 @@ fn edge_fault(
 {
     let pending = block.pending.as_slice();
     let passed = passes_on(alloc, blocks, facts, pending, &ending.terminator, edge)?;
-    Ok(fault_unless(passed, ending.line, 603))
+    Ok(fault_unless(passed, ending.line, rule::PENDING))
 }
 
 /// What is not passed on along one of the edges of a block where this is known at its end.

@@ -1,34 +1,22 @@
 ghost use Rattle.std.specs.Prelude.{◌≡◌, List, Some, IfOk, slice_get};
-ghost use Rattle.std.specs.List.{list_all};
 ghost use Rattle.syntax.specs.declared.operator.Mode.TheVariants.{Writes};
-ghost use Rattle.program.specs.declared.annotation.Zone.{Zone as ZoneKind};
 ghost use Rattle.footprints_zones.specs.Zones.{as_written};
 ghost use Rattle.ranges.specs.ranges_owed.Inequalities.{argument_moves};
 ghost use Rattle.program.specs.declared.instruction.Step.{Step as StepKind};
 ghost use Rattle.footprints.specs.Pointers.{pointers_of};
 ghost use Rattle.footprints.specs.Footprints.{place_of, address_cell, first_cell, cells_zone, is_allowed, is_clear, cell_use, access_use, put_object};
-ghost use Rattle.footprints.specs.Footprints.{put_in, is_put_allowed, is_put_clear, no_use, callee_use, call_use, foot_use, step_use, child_foot};
+ghost use Rattle.footprints.specs.Footprints.{put_in, put_use, callee_use, call_use, foot_use, step_use, child_foot};
 ghost use Rattle.footprints.specs.Footprints.{end_use};
 
 use crate::access::{Cell, Pointer, cell_of, cells_zone, first_cell};
-use footprints_feet::foot_use;
+use footprints_feet::{foot_use, joined_use, no_use, zone_use};
 use footprints_zones::{MeasuredPlace, Place, PlacedZone, Use, as_written, is_allowed, is_clear};
 use program::{
     Address, Argument, Block, Function, FunctionId, Instruction, Mode, ObjectName, Terminator, Zone,
 };
 use ranges::{Move, Unanswered, argument_moves};
+use refusal::rule;
 use std::alloc::Global;
-
-/// Of what touches nothing.
-fn no_use() -> Use
-    ensures { result ≡ no_use }
-{
-    Use {
-        number: 604,
-        covered: true,
-        clear: true,
-    }
-}
 
 /// 601: of an access of these cells.
 fn access_use(alloc: Global, place: &Place<'_>, zone: &Zone) -> Result<Use, Unanswered>
@@ -36,7 +24,7 @@ fn access_use(alloc: Global, place: &Place<'_>, zone: &Zone) -> Result<Use, Unan
 {
     let y = as_written(zone);
     Ok(Use {
-        number: 601,
+        number: rule::UNCOVERED_CELL,
         covered: is_allowed(alloc, place, &y)?,
         clear: is_clear(alloc, place, &y)?,
     })
@@ -58,7 +46,7 @@ fn cell_use(
             access_use(alloc, place, &zone)
         }
         None => Ok(Use {
-            number: 601,
+            number: rule::UNCOVERED_CELL,
             covered: false,
             clear: true,
         }),
@@ -112,93 +100,36 @@ pub fn put_object(arguments: &[Argument], object: ObjectName) -> Option<ObjectNa
     }
 }
 
-/// Whether a callee's zone, with the arguments put in, needs no cover, or has one.
-fn is_put_allowed(
+/// 604: of a callee's zone, with the arguments put in; one of what is no object of the caller is not covered.
+fn put_use(
     alloc: Global,
     place: &MeasuredPlace<'_>,
     moves: &[Move],
     arguments: &[Argument],
     zone: &Zone,
-) -> Result<bool, Unanswered>
+) -> Result<Use, Unanswered>
     requires { moves.now ≡ argument_moves 0 arguments.now }
-    ensures { IfOk result (λ b. b ≡ is_put_allowed place.now (put_in arguments.now zone.now)) }
+    ensures { IfOk result (λ u. u ≡ put_use place.now (put_in arguments.now zone.now)) }
 {
     match put_object(arguments, zone.object) {
-        None => Ok(false),
+        None => Ok(Use {
+            number: rule::UNCOVERED_ZONE,
+            covered: false,
+            clear: true,
+        }),
         Some(object) => {
             let y = PlacedZone {
                 object,
                 moves,
                 zone,
             };
-            place.is_allowed(alloc, &y)
+            zone_use(alloc, place, &y)
         }
     }
-}
-
-/// Whether nothing that is pending conflicts with a callee's zone, with the arguments put in.
-fn is_put_clear(
-    alloc: Global,
-    place: &MeasuredPlace<'_>,
-    moves: &[Move],
-    arguments: &[Argument],
-    zone: &Zone,
-) -> Result<bool, Unanswered>
-    requires { moves.now ≡ argument_moves 0 arguments.now }
-    ensures { IfOk result (λ b. b ≡ is_put_clear place.now (put_in arguments.now zone.now)) }
-{
-    match put_object(arguments, zone.object) {
-        None => Ok(true),
-        Some(object) => {
-            let y = PlacedZone {
-                object,
-                moves,
-                zone,
-            };
-            place.is_clear(alloc, &y)
-        }
-    }
-}
-
-/// Whether each zone of a callee needs no cover, or has one.
-fn are_put_allowed(
-    alloc: Global,
-    place: &MeasuredPlace<'_>,
-    moves: &[Move],
-    arguments: &[Argument],
-    zones: &[Zone],
-) -> Result<bool, Unanswered>
-    requires { moves.now ≡ argument_moves 0 arguments.now }
-    ensures { IfOk result (λ b. b ≡ list_all (λ (z : ZoneKind). is_put_allowed place.now (put_in arguments.now z)) zones.now) }
-{
-    for zone in zones {
-        if !is_put_allowed(alloc, place, moves, arguments, zone)? {
-            return Ok(false);
-        }
-    }
-    Ok(true)
-}
-
-/// The same of each zone of a callee: nothing that is pending conflicts with it.
-fn are_put_clear(
-    alloc: Global,
-    place: &MeasuredPlace<'_>,
-    moves: &[Move],
-    arguments: &[Argument],
-    zones: &[Zone],
-) -> Result<bool, Unanswered>
-    requires { moves.now ≡ argument_moves 0 arguments.now }
-    ensures { IfOk result (λ b. b ≡ list_all (λ (z : ZoneKind). is_put_clear place.now (put_in arguments.now z)) zones.now) }
-{
-    for zone in zones {
-        if !is_put_clear(alloc, place, moves, arguments, zone)? {
-            return Ok(false);
-        }
-    }
-    Ok(true)
 }
 
 /// 604: of a call of this function, which has some zones.
+#[tactic(auto, using(crate::proofs::Callees::zones_use_more))]
 fn zones_use(
     alloc: Global,
     place: &MeasuredPlace<'_>,
@@ -209,11 +140,12 @@ fn zones_use(
 {
     let moves = argument_moves(alloc, arguments)?;
     let zones = callee.zones.as_slice();
-    Ok(Use {
-        number: 604,
-        covered: are_put_allowed(alloc, place, &moves, arguments, zones)?,
-        clear: are_put_clear(alloc, place, &moves, arguments, zones)?,
-    })
+    let mut all = no_use();
+    for zone in zones {
+        let one = put_use(alloc, place, &moves, arguments, zone)?;
+        all = joined_use(all, one);
+    }
+    Ok(all)
 }
 
 /// 604: of a call of this function, its zones.

@@ -1,48 +1,62 @@
 ghost use Rattle.std.specs.Prelude.{◌≡◌, IfOk};
-ghost use Rattle.std.specs.List.{list_all};
-ghost use Rattle.program.specs.declared.annotation.Zone.{Zone as ZoneKind};
-ghost use Rattle.footprints_zones.specs.Zones.{as_written};
-ghost use Rattle.footprints_zones.specs.Places.{place_of, is_allowed, is_clear};
-ghost use Rattle.footprints_feet.specs.Feet.{foot_use};
+ghost use Rattle.footprints_zones.specs.Zones.{span};
+ghost use Rattle.footprints_zones.specs.Places.{place_of};
+ghost use Rattle.footprints_feet.specs.Feet.{no_use, zone_use, joined_use, foot_use};
 
-use footprints_zones::{MeasuredPlace, Place, Use, as_written};
+use footprints_zones::{MeasuredPlace, Place, PlacedZone, Use, as_written};
 use program::Zone;
 use ranges::Unanswered;
+use refusal::rule;
 use std::alloc::Global;
 
-/// Whether each zone needs no cover, or has one.
-fn are_allowed(alloc: Global, place: &MeasuredPlace<'_>, zones: &[Zone]) -> Result<bool, Unanswered>
-    ensures { IfOk result (λ b. b ≡ list_all (λ (z : ZoneKind). is_allowed place.now (as_written z)) zones.now) }
+/// 604: of what touches no cell.
+pub fn no_use() -> Use
+    ensures { result ≡ no_use }
 {
-    for zone in zones {
-        if !place.is_allowed(alloc, &as_written(zone))? {
-            return Ok(false);
-        }
+    Use {
+        number: rule::UNCOVERED_ZONE,
+        covered: true,
+        clear: true,
     }
-    Ok(true)
 }
 
-/// Whether nothing that is pending conflicts with one of the zones.
-fn are_clear(alloc: Global, place: &MeasuredPlace<'_>, zones: &[Zone]) -> Result<bool, Unanswered>
-    ensures { IfOk result (λ b. b ≡ list_all (λ (z : ZoneKind). is_clear place.now (as_written z)) zones.now) }
+/// 604: of what is touched in one zone.
+pub fn zone_use(
+    alloc: Global,
+    place: &MeasuredPlace<'_>,
+    y: &PlacedZone<'_>,
+) -> Result<Use, Unanswered>
+    ensures { IfOk result (λ u. u ≡ zone_use place.now (span y.now.object y.now.moves.now y.now.zone.now)) }
 {
-    for zone in zones {
-        if !place.is_clear(alloc, &as_written(zone))? {
-            return Ok(false);
-        }
+    Ok(Use {
+        number: rule::UNCOVERED_ZONE,
+        covered: place.is_allowed(alloc, y)?,
+        clear: place.is_clear(alloc, y)?,
+    })
+}
+
+/// Of what two parts touch, by the rule of the first.
+pub fn joined_use(one: Use, other: Use) -> Use
+    ensures { result ≡ joined_use one other }
+{
+    Use {
+        number: one.number,
+        covered: one.covered && other.covered,
+        clear: one.clear && other.clear,
     }
-    Ok(true)
 }
 
 /// 604: of a new child, a foot with some zones.
+#[tactic(auto, using(crate::proofs::Zones::foot_use_more))]
 fn zones_use(alloc: Global, place: &MeasuredPlace<'_>, foot: &[Zone]) -> Result<Use, Unanswered>
     ensures { IfOk result (λ u. u ≡ foot_use place.now foot.now) }
 {
-    Ok(Use {
-        number: 604,
-        covered: are_allowed(alloc, place, foot)?,
-        clear: are_clear(alloc, place, foot)?,
-    })
+    let mut all = no_use();
+    for zone in foot {
+        let one = zone_use(alloc, place, &as_written(zone))?;
+        all = joined_use(all, one);
+    }
+    Ok(all)
 }
 
 /// 604: of a new child, its foot.
@@ -50,11 +64,7 @@ pub fn foot_use(alloc: Global, place: &Place<'_>, foot: &[Zone]) -> Result<Use, 
     ensures { IfOk result (λ u. u ≡ foot_use (place_of place.now.facts.now place.now.covering.now place.now.own place.now.pending.now) foot.now) }
 {
     if foot.is_empty() {
-        return Ok(Use {
-            number: 604,
-            covered: true,
-            clear: true,
-        });
+        return Ok(no_use());
     }
     let place = MeasuredPlace::new(alloc, place)?;
     zones_use(alloc, &place, foot)

@@ -11,7 +11,7 @@ use crate::limits::{BUDGET_MOST, Limited, MEASURE_MOST};
 use crate::meaning::{Annotation, AnnotationLine};
 use crate::words::{read_mode, read_number, read_object, read_register, read_relation, unexpected};
 use lists::Name;
-use refusal::Refused;
+use refusal::{Refused, rule};
 use std::alloc::Global;
 use syntax::{Budget, Inequality, Left, Measure, Mode, Pending, Zone};
 
@@ -262,7 +262,10 @@ pub fn read_annotation(alloc: Global, words: &[Name], line: u32) -> Result<Annot
         return Err(unexpected(line));
     };
     match read_keyword(word.as_bytes()) {
-        None => Err(Refused::Fault { number: 107, line }),
+        None => Err(Refused::Fault {
+            number: rule::UNKNOWN_ANNOTATION,
+            line,
+        }),
         Some(keyword) => read_behind(alloc, keyword, words, line),
     }
 }

@@ -7,7 +7,7 @@ ghost use Rattle.ir_annotation.specs.Words.{is_numeral, small_value, number_of, 
 use crate::limits::{Limited, NAME_MOST, up_to};
 use ir_lex::{is_name, is_positive, is_text};
 use lists::Name;
-use refusal::Refused;
+use refusal::{Refused, rule};
 use std::alloc::Global;
 use syntax::{Address, Mode, Relation};
 
@@ -15,7 +15,10 @@ use syntax::{Address, Mode, Relation};
 pub fn unexpected(line: u32) -> Refused
     ensures { result ≡ Refused.Fault 103 line }
 {
-    Refused::Fault { number: 103, line }
+    Refused::Fault {
+        number: rule::MISPLACED_WORD,
+        line,
+    }
 }
 
 /// Whether these are the digits of a number without leading zeros.

@@ -14,7 +14,7 @@ use ir_annotation::read_annotation;
 use ir_instruction::{LineFault, Numeral, Symbol, symbols_of, words_of};
 use ir_lex::{Kind, Token, lex};
 use lists::Name;
-use refusal::Refused;
+use refusal::{Refused, rule};
 use std::alloc::Global;
 
 /// An item with the judgement of its numbers and names.
@@ -53,7 +53,7 @@ fn read_symbols(alloc: Global, symbols: &[Symbol], number: u32) -> Result<Option
     match item_of(alloc, number, symbols) {
         Err(LineFault::Memory) => Err(Refused::Memory),
         Err(LineFault::Unexpected) => Err(Refused::Fault {
-            number: 103,
+            number: rule::MISPLACED_WORD,
             line: number,
         }),
         Ok(item) => Ok(Some(Line {

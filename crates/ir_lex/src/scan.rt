@@ -10,7 +10,7 @@ use crate::spelling::{
     is_mark, is_note_mark, is_printed, is_space, kind_of, run_len, spaces, word_len,
 };
 use crate::token::{Kind, Token};
-use refusal::Refused;
+use refusal::{Refused, rule};
 use std::alloc::Global;
 
 /// What stands at the front of the rest of a line.
@@ -106,7 +106,7 @@ fn scan_from(
                 at += len;
             }
             Front::Wrong => return Err(Refused::Fault {
-                number: 102,
+                number: rule::NO_TOKEN,
                 line: number,
             }),
         }
@@ -120,7 +120,7 @@ fn tokens_of(alloc: Global, line: &[u8], number: u32) -> Result<Vec<Token>, Refu
 {
     if let Err(_) = str::from_utf8(line) {
         return Err(Refused::Fault {
-            number: 101,
+            number: rule::NOT_UTF8,
             line: number,
         });
     }

@@ -17,7 +17,7 @@ use crate::lines::{content, cut_line};
 use crate::scope::Scope;
 use ir_item::{Line, read_line};
 use lists::{OutOfMemory, Seq};
-use refusal::Refused;
+use refusal::{Refused, rule};
 use std::alloc::Global;
 use std::hash::RandomState;
 use syntax::Module;
@@ -36,7 +36,7 @@ fn or_too_late(fault: Refused) -> Refused
 {
     match fault {
         Refused::Fault { number, line } => Refused::Fault {
-            number: number.min(104),
+            number: number.min(rule::OVER_LIMIT),
             line,
         },
         Refused::Memory => Refused::Memory,
@@ -51,12 +51,18 @@ fn judged(reader: Reader, line: u32, is_within: bool, is_new: bool) -> Result<Re
     let is_good = is_within_limits(&reader.draft, reader.counts);
     if !is_within || !is_good {
         drop(reader);
-        Err(Refused::Fault { number: 104, line })
+        Err(Refused::Fault {
+            number: rule::OVER_LIMIT,
+            line,
+        })
     } else if is_new {
         Ok(reader)
     } else {
         drop(reader);
-        Err(Refused::Fault { number: 106, line })
+        Err(Refused::Fault {
+            number: rule::DEFINED_TWICE,
+            line,
+        })
     }
 }
 
@@ -91,7 +97,7 @@ fn placed(
         Ok(None) => {
             drop(scope);
             Err(Refused::Fault {
-                number: 103,
+                number: rule::MISPLACED_WORD,
                 line: number,
             })
         }
@@ -172,12 +178,12 @@ impl Reader {
             Ok(Some(draft)) => {
                 drop(draft);
                 Refused::Fault {
-                    number: 104,
+                    number: rule::OVER_LIMIT,
                     line: number,
                 }
             }
             Ok(None) => Refused::Fault {
-                number: 103,
+                number: rule::MISPLACED_WORD,
                 line: number,
             },
             Err(_) => Refused::Memory,
@@ -193,7 +199,7 @@ impl Reader {
             Ok(None) => {
                 drop(self);
                 Refused::Fault {
-                    number: 104,
+                    number: rule::OVER_LIMIT,
                     line: number,
                 }
             }
@@ -218,7 +224,7 @@ impl Reader {
                 drop(other);
                 drop(whole);
                 Err(Refused::Fault {
-                    number: 105,
+                    number: rule::UNCLOSED_FUNCTION,
                     line: number,
                 })
             }

@@ -14,7 +14,7 @@ use linear::Fact;
 use linear_shown::{Effort, FactBranches, FactList, Known};
 use program::{Block, BlockId, Inequality};
 use ranges_owed::{Obligation, difference_of, inequalities_owed};
-use refusal::{Broken, lower};
+use refusal::{Broken, lower, rule};
 use std::alloc::Global;
 
 /// An obligation that the facts do not meet.
@@ -71,7 +71,7 @@ fn push_shown(
     } else {
         Some(Broken {
             line: inequality.line,
-            number: 508,
+            number: rule::SHOWS,
         })
     };
     push_fact(alloc, facts, &sum)?;
@@ -117,7 +117,7 @@ fn edge_fault(
     ensures fault { IfOk result (IsEarliest (AreUnmet (facts.old.0 ++ edge.now.facts) line (edge_owed blocks.now edge.now))) }
 {
     let keeps = keeps_of(blocks, edge.to);
-    let owed = inequalities_owed(alloc, 505, edge.moves.as_slice(), keeps)?;
+    let owed = inequalities_owed(alloc, rule::KEEPS, edge.moves.as_slice(), keeps)?;
     facts.switch_to(alloc, edge.facts.as_slice())?;
     unmet_fault(alloc, &facts.known(), line, &owed)
 }

@@ -16,6 +16,7 @@ use program::{
     Argument, BinaryOperator, Function, FunctionId, Inequality, Instruction, ObjectName, Operand,
     Parameter, Program, Terminator, Width,
 };
+use refusal::rule;
 use std::alloc::Global;
 
 /// The size of the least value.
@@ -88,7 +89,7 @@ fn push_not_zero(
     push_choice(alloc, &mut choices, -1, 1, y)?;
     push_choice(alloc, &mut choices, -1, -1, y)?;
     obligations.push(Obligation {
-        number: 502,
+        number: rule::DIVISOR,
         choices,
     })?;
     Ok(())
@@ -109,7 +110,7 @@ fn push_not_least_by_minus_one(
     push_choice(alloc, &mut choices, -2, -1, y)?;
     push_choice(alloc, &mut choices, greatest(width), 1, x)?;
     obligations.push(Obligation {
-        number: 502,
+        number: rule::DIVISOR,
         choices,
     })?;
     Ok(())
@@ -148,9 +149,9 @@ fn sum_owed(
 {
     let mut obligations = Vec::new(alloc);
     let above = Sum::two(alloc, half(width), 1, x, 1, y)?;
-    push_must(alloc, &mut obligations, 503, above)?;
+    push_must(alloc, &mut obligations, rule::NO_SIGNED_WRAP, above)?;
     let below = Sum::two(alloc, greatest(width), -1, x, -1, y)?;
-    push_must(alloc, &mut obligations, 503, below)?;
+    push_must(alloc, &mut obligations, rule::NO_SIGNED_WRAP, below)?;
     Ok(obligations)
 }
 
@@ -165,9 +166,9 @@ fn difference_owed(
 {
     let mut obligations = Vec::new(alloc);
     let above = Sum::two(alloc, half(width), 1, x, -1, y)?;
-    push_must(alloc, &mut obligations, 503, above)?;
+    push_must(alloc, &mut obligations, rule::NO_SIGNED_WRAP, above)?;
     let below = Sum::two(alloc, greatest(width), -1, x, 1, y)?;
-    push_must(alloc, &mut obligations, 503, below)?;
+    push_must(alloc, &mut obligations, rule::NO_SIGNED_WRAP, below)?;
     Ok(obligations)
 }
 
@@ -182,9 +183,9 @@ fn push_product(
     ensures { OnOk result (obligations.new.items ≡ obligations.old.items ++ product_owed width (Some part)) }
 {
     let above = Sum::one(alloc, half(width), part.factor, part.operand)?;
-    push_must(alloc, obligations, 503, above)?;
+    push_must(alloc, obligations, rule::NO_SIGNED_WRAP, above)?;
     let below = Sum::one(alloc, greatest(width), opposite(part.factor), part.operand)?;
-    push_must(alloc, obligations, 503, below)?;
+    push_must(alloc, obligations, rule::NO_SIGNED_WRAP, below)?;
     Ok(())
 }
 
@@ -201,7 +202,7 @@ fn product_owed(
     match scale_of(x, y) {
         Some(part) => push_product(alloc, &mut obligations, width, part)?,
         None => obligations.push(Obligation {
-            number: 503,
+            number: rule::NO_SIGNED_WRAP,
             choices: Seq::new(alloc),
         })?,
     }
@@ -214,9 +215,9 @@ fn amount_owed(alloc: Global, width: Width, y: Operand) -> Result<Vec<Obligation
 {
     let mut obligations = Vec::new(alloc);
     let least = Sum::one(alloc, 0, 1, y)?;
-    push_must(alloc, &mut obligations, 504, least)?;
+    push_must(alloc, &mut obligations, rule::SHIFT_AMOUNT, least)?;
     let most = Sum::one(alloc, last_bit(width), -1, y)?;
-    push_must(alloc, &mut obligations, 504, most)?;
+    push_must(alloc, &mut obligations, rule::SHIFT_AMOUNT, most)?;
     Ok(obligations)
 }
 
@@ -278,9 +279,9 @@ fn index_owed(alloc: Global, cells: u64, index: Operand) -> Result<Vec<Obligatio
 {
     let mut obligations = Vec::new(alloc);
     let least = Sum::one(alloc, 0, 1, index)?;
-    push_must(alloc, &mut obligations, 501, least)?;
+    push_must(alloc, &mut obligations, rule::INDEX, least)?;
     let most = Sum::one(alloc, i128::from(cells) - 1, -1, index)?;
-    push_must(alloc, &mut obligations, 501, most)?;
+    push_must(alloc, &mut obligations, rule::INDEX, most)?;
     Ok(obligations)
 }
 
@@ -313,7 +314,12 @@ fn call_owed(
     match functions.get(callee.0) {
         Some(callee) => {
             let moves = argument_moves(alloc, arguments)?;
-            inequalities_owed(alloc, 506, &moves, callee.requirements.as_slice())
+            inequalities_owed(
+                alloc,
+                rule::REQUIRES,
+                &moves,
+                callee.requirements.as_slice(),
+            )
         }
         None => Ok(Vec::new(alloc)),
     }
@@ -371,7 +377,7 @@ pub fn owed_at_end(
     match terminator {
         Terminator::Return { value } => {
             let moves = result_moves(alloc, function, *value)?;
-            inequalities_owed(alloc, 507, &moves, function.guarantees.as_slice())
+            inequalities_owed(alloc, rule::ENSURES, &moves, function.guarantees.as_slice())
         }
         Terminator::Jump { .. }
         | Terminator::Branch { .. }

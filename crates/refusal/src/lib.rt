@@ -4,6 +4,7 @@
 
 mod broken;
 mod refused;
+pub mod rule;
 
 pub use broken::{Broken, lower};
 pub use refused::Refused;

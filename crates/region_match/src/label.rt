@@ -10,7 +10,7 @@ use crate::task::first_tasks;
 use cfg::BlockEdges;
 use lists::Seq;
 use program::{Block, Function};
-use refusal::{Broken, lower};
+use refusal::{Broken, lower, rule};
 use std::alloc::{AllocError, Global};
 
 /// 306: a block is marked, since two paths give it different tasks.
@@ -20,13 +20,12 @@ fn mixed_fault(bodies: &[Block], blocks: &[BlockEdges], marks: &[bool]) -> Optio
     requires blocks { length blocks.now ≡ length bodies.now }
     ensures { IsJudged ((b : ℕ) → b < length blocks.now → slice_index_or marks.now b false ≡ false) (IsMixedBlock bodies.now blocks.now) result }
 {
-    let _blocks = blocks;
     let mut named: Option<Broken> = None;
     for (b, block) in bodies.iter().enumerate() {
         let broken = if marks[b] {
             Some(Broken {
                 line: block.line,
-                number: 306,
+                number: rule::TWO_TASKS,
             })
         } else {
             None

@@ -25,3 +25,4 @@ pub use matching::ending_of;
 pub use refusal::Refused as RegionFault;
 pub use tables::{FunctionTasks, Regions};
 pub use task::Task;
+pub use unsynced::{detach_of, open_marks};

@@ -10,7 +10,7 @@ ghost use Rattle.region_match.specs.ByLabel.{IsStartedBy, IsStrayBy, IsElsewhere
 use crate::clash::is_same;
 use crate::task::Task;
 use program::{Block, BlockId, Ending, Instruction, Pending, RegisterId, Step, Terminator};
-use refusal::{Broken, lower};
+use refusal::{Broken, lower, rule};
 
 /// The terminator of the block of a number.
 pub fn ending_of(bodies: &[Block], block: usize) -> Option<&Terminator>
@@ -72,7 +72,10 @@ fn use_fault(
     ensures { IsEarliest (λ broken. (broken.number ≡ 303) × (broken.line ≡ line) × IsForeignBy bodies.now tasks.now task region) result }
 {
     if task.is_reached() && !is_started(bodies, tasks, region, task) {
-        Some(Broken { line, number: 303 })
+        Some(Broken {
+            line,
+            number: rule::FOREIGN_REGION,
+        })
     } else {
         None
     }
@@ -116,12 +119,21 @@ fn reattach_fault(
 {
     match task {
         Task::Unreached => None,
-        Task::Body => Some(Broken { line, number: 301 }),
+        Task::Body => Some(Broken {
+            line,
+            number: rule::STRAY_REATTACH,
+        }),
         Task::Child(detach) => {
             if !is_detach_within(bodies, detach, region) {
-                Some(Broken { line, number: 301 })
+                Some(Broken {
+                    line,
+                    number: rule::STRAY_REATTACH,
+                })
             } else if !is_detach_before(bodies, detach, continuation) {
-                Some(Broken { line, number: 302 })
+                Some(Broken {
+                    line,
+                    number: rule::OTHER_CONTINUATION,
+                })
             } else {
                 None
             }
@@ -146,7 +158,10 @@ pub fn ending_fault(
     match &ending.terminator {
         Terminator::Return { .. } => {
             if let Task::Child(_) = task {
-                Some(Broken { line, number: 305 })
+                Some(Broken {
+                    line,
+                    number: rule::RETURN_IN_TASK,
+                })
             } else {
                 None
             }

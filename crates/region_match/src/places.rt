@@ -8,7 +8,7 @@ ghost use Rattle.refusal.specs.Earliest.{IsEarliest};
 
 use cfg::{BlockEdges, Edge, Way};
 use program::{Block, Instruction, Phi, Step, Zone};
-use refusal::{Broken, lower};
+use refusal::{Broken, lower, rule};
 
 /// Whether two edges go the same way.
 fn is_way(left: Way, right: Way) -> bool
@@ -110,7 +110,10 @@ fn named_at(is_broken: bool, line: u32) -> Option<Broken>
     ensures { IsEarliest (λ b. (IsTrue is_broken) × (b.number ≡ 307) × (b.line ≡ line)) result }
 {
     if is_broken {
-        Some(Broken { line, number: 307 })
+        Some(Broken {
+            line,
+            number: rule::MISPLACED_IN_BLOCK,
+        })
     } else {
         None
     }

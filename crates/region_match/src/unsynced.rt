@@ -14,7 +14,7 @@ use crate::places::is_both;
 use crate::task::Task;
 use cfg::{BlockEdges, one_mark, reached};
 use program::{Block, BlockId, Ending, RegisterId, Terminator};
-use refusal::{Broken, lower};
+use refusal::{Broken, lower, rule};
 use std::alloc::{AllocError, Global};
 
 /// Whether a block ends with a sync within a region.
@@ -28,7 +28,7 @@ fn is_sync(bodies: &[Block], block: usize, region: RegisterId) -> bool
 }
 
 /// The region and the continuation of the detach that a block ends with.
-fn detach_of(bodies: &[Block], block: usize) -> Option<(RegisterId, BlockId)>
+pub fn detach_of(bodies: &[Block], block: usize) -> Option<(RegisterId, BlockId)>
     ensures { MatchOption result ((region : RegisterId) (continuation : BlockId) → IsDetach (ending_at bodies.now block) region continuation → ⊥)
         (λ d. IsDetach (ending_at bodies.now block) d.0 d.1) }
 {
@@ -58,7 +58,7 @@ fn sync_marks(alloc: Global, bodies: &[Block], region: RegisterId) -> Result<Vec
 }
 
 /// Marks the blocks that a path from a continuation leads to with no sync of the region.
-fn open_marks(
+pub fn open_marks(
     alloc: Global,
     bodies: &[Block],
     blocks: &[BlockEdges],
@@ -101,7 +101,7 @@ fn end_fault(ending: &Option<Ending>, is_open: bool) -> Option<Broken>
     if is_open && is_leaving(&ending.terminator) {
         Some(Broken {
             line: ending.line,
-            number: 304,
+            number: rule::UNSYNCED_DETACH,
         })
     } else {
         None

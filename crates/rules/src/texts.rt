@@ -3,8 +3,8 @@
 
 pub const RULES: &str = "\
 101 | the line | the line is not UTF-8 | save the file as UTF-8; outside comments only ASCII may stand | a comment with the byte 255
-102 | the line | a run of bytes is no token, or a byte stands outside comments that may not: a control byte, a carriage return, one past \
-ASCII | write the word as LANGUAGE.md says; save with LF alone | `%x = add i64 %n, 007`; right is `%x = add i64 %n, 7`
+102 | the line | bytes are no word of the language; or outside comments stands a control byte, a carriage return or a byte past ASCII | \
+write the word as LANGUAGE.md says; save with LF alone | `%x = add i64 %n, 007`; right is `%x = add i64 %n, 7`
 103 | the line | a word or a whole line stands where it may not | compare with the grammar of the line; a block is label, annotations, phis, \
 instructions, terminator | `%x = add i64 %n 7`; right is `%x = add i64 %n, 7`
 104 | the line | a limit is passed: of the text, a name, a number, or how many of a kind | split the module or the function; the limits \
@@ -28,9 +28,9 @@ an `alloca` outside the entry block, an object that is too small or passed twice
 objects; take the address again in each block | `call void @put(ptr @a, ptr @a)`; right is `call void @put(ptr @a, ptr @b)`
 205 | the line | a call of a function that stands below | move the callee up; there is no mutual recursion | a call in `@main` of a function \
 that is written after `@main`
-206 | the line | a form over its limits (4 registers, coefficients up to 1,000,000, for the difference of both sides too); a `keeps`, \
-`pending` or `left` that names what its own block defines after its phis | shorten the form; name registers that the block has when it \
-begins | `;! shows 1000001*%n >= 0`; the greatest coefficient is 1000000
+206 | the line | a form has more than 4 registers or a coefficient over 1,000,000, or the difference of both sides has; or a `keeps`, \
+`pending` or `left` names what its own block defines after its phis | shorten the form; name registers that the block has when it begins | \
+`;! shows 1000001*%n >= 0`; the greatest coefficient is 1000000
 211 | the line | a phi has not exactly one entry for each predecessor | add or remove entries; a reattach is no edge, so its block is no \
 predecessor | `%i = phi i64 [ 0, %entry ]` in a loop's head; right is `%i = phi i64 [ 0, %entry ], [ %k, %head ]`
 212 | the line | something leads to the entry block, or a block is on no path | put a new entry before it; remove the block | `br label \
@@ -55,23 +55,23 @@ block than its detach | move it; carry a value into a continuation by a register
 401 | the use, the phi or the annotation | on some path from the entry to the use no definition of the register stands before it | define it \
 before the branch, or take it by a phi; what a child defines is not defined in its parent | `%t = add i64 %r, %y` after a continuation, \
 where the child defines `%r`
-402 | the load, the `atomicrmw` or the call | the cells of an alloca that is read or passed may have no values | clear an array by `store [N \
-x i64] zeroinitializer`, store to a single cell through its own name, on every path; read what a child stores after the sync | `%x = load \
-i64, ptr %a` right after `%a = alloca [2 x i64]`; right after `store [2 x i64] zeroinitializer, ptr %a`
+402 | the load, the `atomicrmw` or the call | an alloca is read or passed while some of its cells may have no values | clear an array by \
+`store [N x i64] zeroinitializer`, store to a single cell through its own name, on every path; read what a child stores after the sync | `%x \
+= load i64, ptr %a` right after `%a = alloca [2 x i64]`; right after `store [2 x i64] zeroinitializer, ptr %a`
 501 | the instruction | the index of a `getelementptr` is not shown to be at least 0 and at most the extent less 1 | `keeps` with both \
 bounds, in the entry block `requires`; `and` with a mask | `%p = getelementptr inbounds i64, ptr @a, i64 2`, where `@a` has 2 cells; right is \
 an index from 0 to 1
 502 | the instruction | a divisor is not shown to be at least 1 or at most -1; or, at `sdiv` and `srem`, neither the divisor to be at least \
 0 or at most -2 nor the dividend to be above the least value | branch on the divisor; `requires` for the dividend | `%q = urem i64 %a, %b` \
 with `;! requires %b >= 0`; right is `;! requires %b >= 1`
-503 | the instruction | the exact result of an `nsw` operation is not shown to lie in its width; a `mul nsw` without a number within a \
-million | bound the operands by `keeps`, in the entry block by `requires`; leave `nsw` out where a fact is not needed | `%s = add nsw \
-i64 %a, 1` with `;! requires %a >= 0` alone; right with `;! requires %a <= 9` too
+503 | the instruction | the result of an `nsw` operation is not shown to fit its width; or a `mul nsw` has no number within a million | \
+bound the operands by `keeps`, in the entry block by `requires`; leave `nsw` out where a fact is not needed | `%s = add nsw i64 %a, 1` with \
+`;! requires %a >= 0` alone; right with `;! requires %a <= 9` too
 504 | the instruction | the amount of a shift is not shown to be from 0 to 63 (31 at i32) | shift by a number, or by an `and` with 63 | `%s \
 = shl i64 %a, %b` with `;! requires %b >= 0` alone; right with `;! requires %b <= 63` too
-505 | the terminator of the edge's source | a block's `keeps` is not shown on an edge to it, with what its phis take there put in | add \
-`keeps` to the source; put `shows` before the terminator | `;! keeps %i >= 1` at a loop's head with `%i = phi i64 [ 0, %entry ], ..`; right \
-is `;! keeps %i >= 0`
+505 | the terminator of the edge's source | an edge to a block does not show one of the block's `keeps`, where each phi is what it takes on \
+that edge | add `keeps` to the source; put `shows` before the terminator | `;! keeps %i >= 1` at a loop's head with `%i = phi i64 [ 0, \
+%entry ], ..`; right is `;! keeps %i >= 0`
 506 | the call | a callee's `requires` is not shown at a call, with the arguments put in | add `keeps`, or `shows` before the call | `%r = \
 call i64 @next(i64 10)`, where `@next` requires `%x <= 9`; right is an argument up to 9
 507 | the `ret` | a function's `ensures` is not shown at a `ret`, with the returned value for `%.ret` | `shows` before the `ret` | `ret i64 \
@@ -85,18 +85,20 @@ at its head
 602 | the load, store, `atomicrmw`, call or detach | what it touches conflicts with a `pending` zone of its block: a child that may still \
 run has these cells | sync first; cut the cells so that each has its own; add in place of a load and a store | `store i64 2, ptr @a` in a \
 continuation with `;! pending %s writes @a 0 1`; right after a sync
-603 | the terminator of the edge's source | what is pending there, or the foot of the new child on the edge to the continuation, is covered \
-by no `pending` zone of the same region at the target, with what its phis take put in | add a `pending` line to the target, or widen it; \
-after a sync of the region nothing of it is owed | a detach whose child writes cell 0 of `@a`, and a continuation without `;! pending %s \
-writes @a 0 1`
-604 | the call or the detach | a callee's zone, with the arguments put in, or a zone of the new child's `foot`, has no covering zone | widen \
-the function's zones, or the `foot` of the child that detaches; a function's own blocks need no cover for its own allocas | a detach of a \
-child with `;! foot writes @a 0 1` in a function with `;! writes @a 1 2` alone; right is `;! writes @a 0 2`
+603 | the terminator of the edge's source | an edge leads to a block whose `pending` lines, with each phi as what it takes there, do not \
+cover what children may still touch: what was pending before and, behind a detach, the new child's foot | put a `pending` line of the region \
+into that block, or widen its line; behind a sync of the region it needs none | a detach whose child writes cell 0 of `@a`, and a \
+continuation without `;! pending %s writes @a 0 1`
+604 | the call or the detach | a callee or a new child may touch what the caller may not: no zone covers the callee's, with the arguments \
+put in, or the child's `foot` | widen the function's zones, or the `foot` of the child that detaches; a function's own blocks need no cover \
+for its own allocas | a detach of a child with `;! foot writes @a 0 1` in a function with `;! writes @a 1 2` alone; right is `;! writes @a 0 \
+2`
 701 | the `left` line, else the label | one of its two forms is not shown to be at least 0 at the block's start | `keeps` that bound its \
 registers; more left from the entry on | `;! left 0 2*%n` with nothing known of `%n`; right with `;! keeps %n >= 0`
-702 | the terminator | what is left, less what the block does, is not shown to be at least what is left at the target of an edge, in both \
-targets of a detach together, or at a `ret` or `reattach` 0 | raise `left` here and before, or lower it after; `keeps` for the registers \
-that the forms name | `;! left 0 3` and 3 instructions up to `br label %j`, where `j` has `;! left 0 1`; right is `;! left 0 4`
+702 | the terminator | a block's `left`, less what the block does, is not shown to be enough for what comes next: the `left` of each target, \
+of both targets of a detach together, and 0 at a `ret` or `reattach` | raise `left` here and in the blocks before, or lower that of the \
+target; `keeps` for the registers that the forms name | `;! left 0 3` and 3 instructions up to `br label %j`, where `j` has `;! left 0 1`; \
+right is `;! left 0 4`
 703 | the `measure` line | the measure is not shown to be from 0 to its bound by `requires` | `requires` with both bounds | `;! measure %n \
 max 20` with nothing known of `%n`; right with `;! requires %n >= 0` and `;! requires %n <= 20`
 703 | the self call | the measure of the arguments is not shown to be at least 0 and below the call's own | `keeps`, or `shows` before the \

@@ -34,8 +34,6 @@ fn go_deep(
     ensures workers { length run.new.hands.items ≡ length run.old.hands.items }
     ensures moves { run.new.moves ≡ run.old.moves }
 {
-    let _program = program;
-    let _places = places;
     let links = links_of(run.alloc, worker, pile)?;
     let slots = run.cactus.add_chain(slot, links)?;
     commit(run, worker, slot, slots.as_slice(), pile);

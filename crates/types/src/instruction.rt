@@ -12,6 +12,7 @@ use program::{
     RegisterId, Step, Width, source_width,
 };
 use std::alloc::Global;
+use syntax::Instruction as Text;
 use types_names::{
     AnnotationPlace, Holding, Scope, TypeFault, both, joined, pointer_misuse, resolve_address,
     resolve_inequalities, resolve_label, resolve_object, resolve_operand, resolve_register,
@@ -249,7 +250,7 @@ fn resolve_store(
     Ok(Instruction::Store { value, address })
 }
 
-fn resolve_atomic_add(
+fn resolve_add(
     world: &World,
     scope: &Scope,
     spot: Spot,
@@ -266,7 +267,7 @@ fn resolve_atomic_add(
 }
 
 /// An array store clears just as many cells as its pointer's extent.
-fn resolve_store_zeros(
+fn resolve_zeros(
     world: &World,
     scope: &Scope,
     line: u32,
@@ -307,7 +308,7 @@ fn resolve_call_step(
     spot: Spot,
     register: &Option<Name>,
     callee: &Name,
-    arguments: &[syntax::Argument],
+    arguments: &Seq<syntax::Argument>,
 ) -> Result<Instruction, TypeFault>
     ensures { Gives result
         (spec.call_step_of world.now.items.now world.now.functions.now world.now.named.now scope.now
@@ -318,7 +319,7 @@ fn resolve_call_step(
         line,
         has_result: register.is_some(),
         callee,
-        arguments,
+        arguments: arguments.as_slice(),
     };
     let register = call_register(scope, line, register);
     let call = resolve_call(alloc, world, scope, spot.function, &text);
@@ -342,65 +343,47 @@ fn resolve_instruction(
     world: &World,
     scope: &Scope,
     spot: Spot,
-    instruction: &syntax::Instruction,
+    instruction: &Text,
 ) -> Result<Instruction, TypeFault>
     ensures { Gives result (spec.instruction_of world.now.items.now world.now.functions.now world.now.named.now scope.now spot instruction.now) }
 {
     let line = spot.line;
     match instruction {
-        syntax::Instruction::Binary {
+        Text::Binary {
             register,
             operator,
             width,
             left,
             right,
         } => resolve_binary(scope, line, register, *operator, *width, left, right),
-        syntax::Instruction::Compare {
+        Text::Compare {
             register,
             predicate,
             width,
             left,
             right,
         } => resolve_compare(scope, line, register, *predicate, *width, left, right),
-        syntax::Instruction::Convert {
+        Text::Convert {
             register,
             conversion,
             value,
         } => resolve_convert(scope, line, register, *conversion, value),
-        syntax::Instruction::Alloca { register, .. } => resolve_alloca(scope, spot, register),
-        syntax::Instruction::ElementPointer {
+        Text::Alloca { register, .. } => resolve_alloca(scope, spot, register),
+        Text::ElementPointer {
             register,
             base,
             index,
         } => resolve_element_pointer(world, scope, line, register, base, index),
-        syntax::Instruction::Load { register, address } => {
-            resolve_load(world, scope, spot, register, address)
-        }
-        syntax::Instruction::Store { value, address } => {
-            resolve_store(world, scope, spot, value, address)
-        }
-        syntax::Instruction::StoreZeros { cells, address } => {
-            resolve_store_zeros(world, scope, line, *cells, address)
-        }
-        syntax::Instruction::AtomicAdd { address, value } => {
-            resolve_atomic_add(world, scope, spot, address, value)
-        }
-        syntax::Instruction::Call {
+        Text::Load { register, address } => resolve_load(world, scope, spot, register, address),
+        Text::Store { value, address } => resolve_store(world, scope, spot, value, address),
+        Text::StoreZeros { cells, address } => resolve_zeros(world, scope, line, *cells, address),
+        Text::AtomicAdd { address, value } => resolve_add(world, scope, spot, address, value),
+        Text::Call {
             register,
             callee,
             arguments,
-        } => resolve_call_step(
-            alloc,
-            world,
-            scope,
-            spot,
-            register,
-            callee,
-            arguments.as_slice(),
-        ),
-        syntax::Instruction::StartRegion { register } => {
-            resolve_region_start(scope, line, register)
-        }
+        } => resolve_call_step(alloc, world, scope, spot, register, callee, arguments),
+        Text::StartRegion { register } => resolve_region_start(scope, line, register),
     }
 }
 

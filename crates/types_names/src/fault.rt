@@ -4,48 +4,66 @@ ghost use Rattle.refusal.specs.declared.refused.Refused.TheVariants.{Fault, Memo
 
 use crate::TypeFault;
 use lists::Seq;
-use refusal::Broken;
+use refusal::{Broken, rule};
 
 /// 201: nothing has this name.
 pub fn unknown_name(line: u32) -> TypeFault
     ensures { result ≡ Fault 201 line }
 {
-    TypeFault::Fault { number: 201, line }
+    TypeFault::Fault {
+        number: rule::UNKNOWN_NAME,
+        line,
+    }
 }
 
 /// 202: what has this name is of another type than stands here.
 pub fn type_mismatch(line: u32) -> TypeFault
     ensures { result ≡ Fault 202 line }
 {
-    TypeFault::Fault { number: 202, line }
+    TypeFault::Fault {
+        number: rule::WRONG_TYPE,
+        line,
+    }
 }
 
 /// 203: a call with more or fewer arguments than the callee has parameters.
 pub fn wrong_count(line: u32) -> TypeFault
     ensures { result ≡ Fault 203 line }
 {
-    TypeFault::Fault { number: 203, line }
+    TypeFault::Fault {
+        number: rule::ARGUMENT_COUNT,
+        line,
+    }
 }
 
 /// 204: a pointer is used as none may be.
 pub fn pointer_misuse(line: u32) -> TypeFault
     ensures { result ≡ Fault 204 line }
 {
-    TypeFault::Fault { number: 204, line }
+    TypeFault::Fault {
+        number: rule::MISUSED_POINTER,
+        line,
+    }
 }
 
 /// 205: a call of a function that stands below.
 pub fn downward_call(line: u32) -> TypeFault
     ensures { result ≡ Fault 205 line }
 {
-    TypeFault::Fault { number: 205, line }
+    TypeFault::Fault {
+        number: rule::CALLEE_BELOW,
+        line,
+    }
 }
 
 /// 206: a form over a limit, or a note that names what its own block defines.
 pub fn form_limit(line: u32) -> TypeFault
     ensures { result ≡ Fault 206 line }
 {
-    TypeFault::Fault { number: 206, line }
+    TypeFault::Fault {
+        number: rule::FORM_LIMIT,
+        line,
+    }
 }
 
 /// Nothing where the rule holds, else the fault.

@@ -1,8 +1,10 @@
 //! Regions in which a child may still run where a block begins.
 
-use cfg::{BlockEdges, Way};
-use program::{Block, RegisterId, Terminator};
-use region_match::Task;
+ghost use Rattle.std.specs.Prelude.{◌≡◌, length};
+
+use cfg::BlockEdges;
+use program::{Block, RegisterId};
+use region_match::{Task, detach_of, open_marks};
 use std::alloc::{AllocError, Global};
 
 /// A function's blocks with their edges and tasks, in one order.
@@ -11,78 +13,29 @@ pub struct Blocks<'a> {
     pub bodies: &'a [Block],
     pub edges: &'a [BlockEdges],
     pub tasks: &'a [Task],
+    ghost same: { length edges.now ≡ length bodies.now },
 }
 
-impl Blocks<'_> {
-    /// The region within which a block detaches, and the block that goes on beside the child.
-    fn detach(self, block: usize) -> Option<(RegisterId, usize)> {
-        match &self.bodies.get(block)?.ending {
-            Some(ending) => match &ending.terminator {
-                Terminator::Detach {
-                    region,
-                    continuation,
-                    ..
-                } => Some((*region, continuation.0)),
-                _ => None,
-            },
-            None => None,
+impl<'a> Blocks<'a> {
+    /// None where they are not as many.
+    pub fn new(
+        bodies: &'a [Block],
+        edges: &'a [BlockEdges],
+        tasks: &'a [Task],
+    ) -> Option<Blocks<'a>> {
+        if edges.len() != bodies.len() {
+            return None;
         }
+        Some(Blocks {
+            bodies,
+            edges,
+            tasks,
+        })
     }
 
     fn task(self, block: usize) -> Option<Task> {
         self.tasks.get(block).copied()
     }
-}
-
-/// The blocks that a path from a detach leads to with no sync of its region, and which wait for a look at their edges.
-#[derive(Drop)]
-struct Search {
-    marks: Vec<bool>,
-    work: Vec<usize>,
-}
-
-impl Search {
-    fn mark(&mut self, block: usize) -> Result<(), AllocError> {
-        if block < self.marks.len() && !self.marks[block] {
-            self.marks[block] = true;
-            self.work.push(block)?;
-        }
-        Ok(())
-    }
-
-    /// Marks what the edges of a block lead to, but behind no sync of the region.
-    fn mark_behind(&mut self, edges: &BlockEdges, region: RegisterId) -> Result<(), AllocError> {
-        for edge in edges.edges.as_slice() {
-            match edge.way {
-                Way::Synced(synced) if synced == region => {}
-                _ => self.mark(edge.to.0)?,
-            }
-        }
-        Ok(())
-    }
-}
-
-/// The blocks that a path from a continuation leads to with no sync of the region.
-fn unsynced(
-    alloc: Global,
-    blocks: Blocks<'_>,
-    region: RegisterId,
-    continuation: usize,
-) -> Result<Vec<bool>, AllocError> {
-    let mut search = Search {
-        marks: vec![in alloc; false; blocks.bodies.len()]?,
-        work: Vec::new(alloc),
-    };
-    search.mark(continuation)?;
-    for _look in 0..blocks.bodies.len() {
-        let Some(block) = search.work.pop() else {
-            break;
-        };
-        if let Some(edges) = blocks.edges.get(block) {
-            search.mark_behind(edges, region)?;
-        }
-    }
-    Ok(search.marks)
 }
 
 /// For each block the regions of which a child may still run where it begins: in the blocks of the task that detaches it, from the
@@ -105,10 +58,10 @@ fn put_detached(
     blocks: Blocks<'_>,
     detach: usize,
 ) -> Result<(), AllocError> {
-    let Some((region, continuation)) = blocks.detach(detach) else {
+    let Some((region, continuation)) = detach_of(blocks.bodies, detach) else {
         return Ok(());
     };
-    let marks = unsynced(alloc, blocks, region, continuation)?;
+    let marks = open_marks(alloc, blocks.bodies, blocks.edges, region, continuation)?;
     put_region(open, blocks, detach, region, marks.as_slice())
 }
 

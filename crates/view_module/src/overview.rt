@@ -220,6 +220,17 @@ fn push_blocks(out: &mut String, part: Part<'_>) -> Result<(), Refused> {
     Ok(())
 }
 
+/// The blocks of a function, whose place in the module is `index`.
+fn blocks_of<'a>(subject: Subject<'a>, index: usize, function: &'a Function) -> Option<Blocks<'a>> {
+    let edges = subject.graph.functions.as_slice().get(index)?;
+    let tasks = subject.regions.functions.as_slice().get(index)?;
+    Blocks::new(
+        function.blocks.as_slice(),
+        edges.blocks.as_slice(),
+        tasks.tasks.as_slice(),
+    )
+}
+
 fn push_function(
     out: &mut String,
     subject: Subject<'_>,
@@ -230,9 +241,7 @@ fn push_function(
     let name = spelled.name.as_str();
     let line = spelled.line;
     writeln!(out, "function @{name} line {line}")?;
-    let edges = subject.graph.functions.as_slice().get(index);
-    let tasks = subject.regions.functions.as_slice().get(index);
-    let (Some(edges), Some(tasks)) = (edges, tasks) else {
+    let Some(blocks) = blocks_of(subject, index, function) else {
         return Ok(());
     };
     let names = register_names(subject.alloc, spelled)?;
@@ -242,11 +251,7 @@ fn push_function(
         spelled,
         function,
         names: names.as_slice(),
-        blocks: Blocks {
-            bodies: function.blocks.as_slice(),
-            edges: edges.blocks.as_slice(),
-            tasks: tasks.tasks.as_slice(),
-        },
+        blocks,
     };
     push_blocks(out, part)
 }

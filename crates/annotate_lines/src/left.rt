@@ -1,7 +1,9 @@
 //! What a block needs, from its own instructions and from what is left behind it.
 
+use crate::budget::greatest;
 use crate::edge::{Edge, Way, block_at, phi_value, register_of};
-use crate::keep::Known;
+use crate::keep::{Known, MOST_BLOCKS};
+use crate::ring::{Ring, names_inner, ring_of};
 use crate::sum::Sum;
 use lists::Name;
 use std::alloc::{AllocError, Global};
@@ -20,6 +22,8 @@ struct Finder<'w, 'a> {
     known: &'w Known<'a>,
     /// The names and the greatest costs of functions.
     costs: &'w [(&'a str, u128)],
+    /// The loops whose rounds are counted.
+    rings: &'w [Ring<'a>],
     lefts: Vec<Option<Need<'a>>>,
 }
 
@@ -195,8 +199,63 @@ impl<'a> Finder<'_, 'a> {
         Ok(true)
     }
 
-    /// What a block needs. None where that is not known, or no form of its start's registers.
-    fn need(&self, block: usize) -> Result<Option<Need<'a>>, AllocError> {
+    /// Joins what is needed behind the edge of this number, if it leads out of a loop, at the loop's head. Whether it is known.
+    fn join_exit(
+        &self,
+        ring: &Ring<'a>,
+        edge: Edge<'a>,
+        is_first: bool,
+        all: &mut Need<'a>,
+    ) -> Result<bool, AllocError> {
+        let Some(next) = self.behind(edge)? else {
+            return Ok(false);
+        };
+        let is_inner = names_inner(self.known, ring.head, ring.last, &next.calls)
+            || names_inner(self.known, ring.head, ring.last, &next.instructions);
+        if is_first {
+            all.add(&next)?;
+        } else {
+            all.raise(self.known, ring.head, &next)?;
+        }
+        Ok(edge.from == ring.head || !is_inner)
+    }
+
+    /// Joins what is needed behind all edges out of a loop to nothing. Whether it is known, and whether all of them begin at the head.
+    fn join_exits(&self, ring: &Ring<'a>, all: &mut Need<'a>) -> Result<(bool, bool), AllocError> {
+        let mut is_first = true;
+        let mut is_tested_first = true;
+        for edge in &self.known.edges {
+            if ring.has(edge.from) && !ring.has(edge.to) {
+                if !self.join_exit(ring, *edge, is_first, all)? {
+                    return Ok((false, false));
+                }
+                is_first = false;
+                is_tested_first = is_tested_first && edge.from == ring.head;
+            }
+        }
+        Ok((true, is_tested_first))
+    }
+
+    /// What is needed at the head of a loop: so many rounds, as the rank says, and what is needed behind it.
+    fn need_of_ring(&self, ring: &Ring<'a>) -> Result<Option<Need<'a>>, AllocError> {
+        let Some(head) = block_at(self.known.function, ring.head) else {
+            return Ok(None);
+        };
+        let mut need = Need::none(self.known.alloc);
+        let (is_known, is_tested_first) = self.join_exits(ring, &mut need)?;
+        if is_tested_first {
+            need.add_steps(head.steps.as_slice(), &self.known.function.name, self.costs);
+        } else {
+            need.calls.add_number(ring.calls);
+            need.instructions.add_number(ring.instructions);
+        }
+        ring.add_rounds(&mut need.calls, ring.calls)?;
+        ring.add_rounds(&mut need.instructions, ring.instructions)?;
+        Ok(if is_known { Some(need) } else { None })
+    }
+
+    /// What a block needs by the edges behind it, if that is known.
+    fn need_behind(&self, block: usize) -> Result<Option<Need<'a>>, AllocError> {
         let function = self.known.function;
         let Some(own) = block_at(function, block) else {
             return Ok(None);
@@ -204,12 +263,20 @@ impl<'a> Finder<'_, 'a> {
         let mut need = Need::none(self.known.alloc);
         let is_known = self.join_all(block, &mut need)?;
         need.add_steps(own.steps.as_slice(), &function.name, self.costs);
-        let is_form = need.calls.is_form() && need.instructions.is_form();
-        Ok(if is_known && is_form {
-            Some(need)
-        } else {
-            None
-        })
+        Ok(if is_known { Some(need) } else { None })
+    }
+
+    /// What a block needs. None where that is not known, or no form of its start's registers.
+    fn need(&self, block: usize) -> Result<Option<Need<'a>>, AllocError> {
+        let need = match ring_at(self.rings, block) {
+            Some(ring) => self.need_of_ring(ring)?,
+            None => self.need_behind(block)?,
+        };
+        let is_form = match &need {
+            Some(need) => need.calls.is_form() && need.instructions.is_form(),
+            None => false,
+        };
+        Ok(if is_form { need } else { None })
     }
 
     /// Finds what a block needs, if that is not known yet; whether it was found.
@@ -234,6 +301,16 @@ impl<'a> Finder<'_, 'a> {
         Ok(is_new)
     }
 
+    /// Round after round until nothing new is found.
+    fn draw_until_known(&mut self) -> Result<(), AllocError> {
+        for _round in 0..self.lefts.len() {
+            if !self.draw_all()? {
+                return Ok(());
+            }
+        }
+        Ok(())
+    }
+
     /// Begins with what the lines of the blocks say.
     fn begin(&mut self) -> Result<(), AllocError> {
         for block in self.known.function.blocks.as_slice() {
@@ -242,6 +319,90 @@ impl<'a> Finder<'_, 'a> {
         }
         Ok(())
     }
+}
+
+/// The loop of this head.
+fn ring_at<'w, 'a>(rings: &'w [Ring<'a>], head: usize) -> Option<&'w Ring<'a>> {
+    for ring in rings {
+        if ring.head == head {
+            return Some(ring);
+        }
+    }
+    None
+}
+
+/// The greatest number that a sum may come to at a block.
+fn greatest_at<'a>(
+    known: &Known<'a>,
+    block: usize,
+    sum: &Sum<'a>,
+) -> Result<Option<i128>, AllocError> {
+    match sum.as_number() {
+        Some(number) => Ok(Some(number)),
+        None => {
+            let facts = known.facts_at(block)?;
+            Ok(match greatest(facts.as_slice(), sum)? {
+                Some(most) => Some(i128::from(most)),
+                None => None,
+            })
+        }
+    }
+}
+
+/// What a round needs, where nothing is needed once it is done and behind the loop.
+fn round_need<'w, 'a>(
+    known: &'w Known<'a>,
+    costs: &'w [(&'a str, u128)],
+    rings: &'w [Ring<'a>],
+    ring: &Ring<'a>,
+) -> Result<Option<Need<'a>>, AllocError> {
+    let mut finder = Finder {
+        known,
+        costs,
+        rings,
+        lefts: Vec::new(known.alloc),
+    };
+    for block in 0..known.function.blocks.len() {
+        let is_asked = block != ring.head && ring.has(block);
+        let left = Need::none(known.alloc);
+        finder.lefts.push(if is_asked { None } else { Some(left) })?;
+    }
+    finder.draw_until_known()?;
+    finder.need_behind(ring.head)
+}
+
+/// Counts what a round needs. Whether that is known.
+fn count_round<'a>(
+    known: &Known<'a>,
+    costs: &[(&'a str, u128)],
+    rings: &[Ring<'a>],
+    ring: &mut Ring<'a>,
+) -> Result<bool, AllocError> {
+    let Some(need) = round_need(known, costs, rings, ring)? else {
+        return Ok(false);
+    };
+    let calls = greatest_at(known, ring.head, &need.calls)?;
+    let instructions = greatest_at(known, ring.head, &need.instructions)?;
+    ring.calls = calls.unwrap_or(0);
+    ring.instructions = instructions.unwrap_or(0);
+    Ok(calls.is_some() && instructions.is_some())
+}
+
+/// The loops whose rounds are counted, the inner ones first.
+fn rings_of<'a>(known: &Known<'a>, costs: &[(&'a str, u128)]) -> Result<Vec<Ring<'a>>, AllocError> {
+    let mut rings = Vec::new(known.alloc);
+    let count = known.function.blocks.len();
+    if count > MOST_BLOCKS {
+        return Ok(rings);
+    }
+    for head in (0..count).rev() {
+        if let Some(mut ring) = ring_of(known, head)? {
+            if count_round(known, costs, rings.as_slice(), &mut ring)? {
+                rings.push(ring)?;
+            }
+        }
+    }
+    Ok(rings)
 }
 
 /// How often an operator's left and right operand stand in the sum that it makes, but for what its width cannot hold; none where it makes
@@ -293,21 +454,28 @@ fn given<'a>(alloc: Global, block: &'a Block) -> Result<Option<Need<'a>>, AllocE
     Ok(Some(need))
 }
 
+/// The same, where the rounds of loops are counted.
+fn needs_by<'w, 'a>(
+    known: &'w Known<'a>,
+    costs: &'w [(&'a str, u128)],
+    rings: &'w [Ring<'a>],
+) -> Result<Vec<Option<Need<'a>>>, AllocError> {
+    let mut finder = Finder {
+        known,
+        costs,
+        rings,
+        lefts: Vec::new(known.alloc),
+    };
+    finder.begin()?;
+    finder.draw_until_known()?;
+    Ok(finder.lefts)
+}
+
 /// What each block needs: what its line says, and where it has none what follows, from the ends back. None where that is not known.
 pub fn needs_of<'a>(
     known: &Known<'a>,
     costs: &[(&'a str, u128)],
 ) -> Result<Vec<Option<Need<'a>>>, AllocError> {
-    let mut finder = Finder {
-        known,
-        costs,
-        lefts: Vec::new(known.alloc),
-    };
-    finder.begin()?;
-    for _round in 0..finder.lefts.len() {
-        if !finder.draw_all()? {
-            break;
-        }
-    }
-    Ok(finder.lefts)
+    let rings = rings_of(known, costs)?;
+    needs_by(known, costs, rings.as_slice())
 }

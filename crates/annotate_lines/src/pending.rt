@@ -1,6 +1,7 @@
 //! The zones that children may still touch where a block begins, because they are handed on to it.
 
 use crate::edge::{Edge, Way, block_at, edges_of};
+use crate::hull::Hull;
 use crate::keep::names_own;
 use crate::sum::Sum;
 use std::alloc::{AllocError, Global};
@@ -56,16 +57,21 @@ impl<'a> Handed<'a> {
         )
     }
 
-    /// Whether a block says itself what is pending of the region's object, or a register of the zone is another one there.
-    fn is_kept_out(self, alloc: Global, block: &Block) -> Result<bool, AllocError> {
+    /// Whether a block says itself what is pending of the region's object.
+    fn is_said(self, block: &Block) -> bool {
         for pending in block.notes.pending.as_slice() {
             if pending.region.as_str() == self.region
                 && is_same_object(&pending.zone.object, &self.zone.object)
             {
-                return Ok(true);
+                return true;
             }
         }
-        self.is_renamed(alloc, block)
+        false
+    }
+
+    /// Whether a block says that itself, or a register of the zone is another one there.
+    fn is_kept_out(self, alloc: Global, block: &Block) -> Result<bool, AllocError> {
+        Ok(self.is_said(block) || self.is_renamed(alloc, block)?)
     }
 }
 
@@ -184,6 +190,25 @@ impl<'a> Waiting<'a> {
         }
         Ok(())
     }
+
+    /// Puts in what may be pending at the heads of loops.
+    fn guess(&mut self, hulls: &'a [Hull<'a>]) -> Result<(), AllocError> {
+        for hull in hulls {
+            let region = hull.region;
+            let zone = &hull.zone;
+            self.put_guess(hull.block, Handed { region, zone })?;
+        }
+        Ok(())
+    }
+
+    /// Puts a zone to a block that does not say itself what is pending.
+    fn put_guess(&mut self, to: usize, next: Handed<'a>) -> Result<(), AllocError> {
+        let blocks = self.function.blocks.as_slice();
+        if to < blocks.len() && to < self.handed.len() && !next.is_said(&blocks[to]) {
+            self.handed[to].push(next)?;
+        }
+        Ok(())
+    }
 }
 
 fn is_put<'a>(alloc: Global, handed: &[Handed<'a>], next: Handed<'a>) -> Result<bool, AllocError> {
@@ -235,7 +260,11 @@ fn push_foot<'a>(
 }
 
 /// What is handed on along the edges of a function, again and again until nothing is new.
-pub fn waiting_of<'a>(alloc: Global, function: &'a Function) -> Result<Waiting<'a>, AllocError> {
+pub fn waiting_of<'a>(
+    alloc: Global,
+    function: &'a Function,
+    hulls: &'a [Hull<'a>],
+) -> Result<Waiting<'a>, AllocError> {
     let edges = edges_of(alloc, function)?;
     let mut waiting = Waiting {
         alloc,
@@ -244,6 +273,7 @@ pub fn waiting_of<'a>(alloc: Global, function: &'a Function) -> Result<Waiting<'
         handed: Vec::new(alloc),
     };
     waiting.begin()?;
+    waiting.guess(hulls)?;
     waiting.hand_down()?;
     Ok(waiting)
 }

@@ -205,7 +205,7 @@ impl<'a> Sum<'a> {
     }
 
     /// The terms in the order of their names.
-    fn sorted(&self) -> Result<Vec<(&'a str, i128)>, AllocError> {
+    pub fn sorted(&self) -> Result<Vec<(&'a str, i128)>, AllocError> {
         let mut terms = Vec::new(self.alloc);
         for term in &self.terms {
             terms.push(*term)?;

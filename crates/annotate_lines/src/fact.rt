@@ -7,7 +7,12 @@ use std::alloc::{AllocError, Global};
 use std::mem::replace;
 use syntax::{BinaryOperator, Function, Inequality, Instruction, Operand, Predicate, Step};
 
-/// The facts that a function's text states anywhere, each once.
+/// The most facts of a function that are kept, and the most instructions of one whose sums are facts.
+const MOST_FACTS: usize = 512;
+
+const MOST_INSTRUCTIONS: usize = 2_048;
+
+/// The facts that a function's text states anywhere, each once, as far as there is room.
 #[derive(Drop)]
 pub struct Facts<'a> {
     alloc: Global,
@@ -36,22 +41,22 @@ impl<'a> Facts<'a> {
     /// The number of a fact that is stated already.
     fn find(&self, sum: &Sum<'a>) -> Option<usize> {
         for number in 0..self.sums.len() {
-            if matches!(self.sums[number].number_with(sum, -1), Some(0)) {
+            let other = &self.sums[number];
+            if other.constant == sum.constant && other.number_with(sum, -1).is_some() {
                 return Some(number);
             }
         }
         None
     }
 
-    /// States that a sum is at least 0.
-    fn add(&mut self, sum: Sum<'a>) -> Result<(), AllocError> {
+    /// States that a sum is at least 0, if it is stated already or there is room.
+    pub fn add(&mut self, sum: Sum<'a>) -> Result<(), AllocError> {
         if let Some(number) = self.find(&sum) {
             self.stated.push(number)?;
-            return Ok(());
+        } else if self.sums.len() < MOST_FACTS {
+            self.stated.push(self.sums.len())?;
+            self.sums.push(sum)?;
         }
-        let number = self.sums.len();
-        self.sums.push(sum)?;
-        self.stated.push(number)?;
         Ok(())
     }
 
@@ -142,8 +147,11 @@ impl<'a> Facts<'a> {
         }
     }
 
-    /// States what a block's own instructions make of registers that other blocks take.
+    /// States what a block's own instructions make of registers that other blocks take, unless the function has many.
     pub fn make_all(&mut self, index: usize) -> Result<(), AllocError> {
+        if is_long(self.function) {
+            return Ok(());
+        }
         if let Some(block) = block_at(self.function, index) {
             for step in block.steps.as_slice() {
                 self.make(index, &step.instruction)?;
@@ -176,6 +184,15 @@ impl<'a> Facts<'a> {
     }
 }
 
+/// Whether a function has many instructions.
+fn is_long(function: &Function) -> bool {
+    let mut count = 0usize;
+    for block in function.blocks.as_slice() {
+        count = count.saturating_add(block.steps.len());
+    }
+    count > MOST_INSTRUCTIONS
+}
+
 /// Whether a comparison says, where it holds or does not, that its left operand is at most the right one, or if turned the right one the
 /// left one; and if so, whether it is less.
 fn order_of(predicate: Predicate, holds: bool, is_turned: bool) -> Option<bool> {
@@ -185,13 +202,12 @@ fn order_of(predicate: Predicate, holds: bool, is_turned: bool) -> Option<bool> 
         Predicate::SignedGreater if holds == is_turned => Some(holds),
         Predicate::SignedAtLeast if holds == is_turned => Some(!holds),
         Predicate::Equal if holds => Some(false),
-        Predicate::NotEqual if !holds => Some(false),
         _ => None,
     }
 }
 
 /// Whether an instruction makes its sum or product as it is, without a remainder by the width.
-fn is_exact(instruction: &Instruction) -> bool {
+pub fn is_exact(instruction: &Instruction) -> bool {
     match instruction {
         Instruction::Binary { operator, .. } => matches!(
             operator,

@@ -1,4 +1,4 @@
--- What a text with annotations put in is beside the text that it was made of.
+-- What a text with annotations put in or taken out is beside the text that it was made of.
 use Rattle.std.specs.Prelude.{◌≡◌, ◌⊎◌, ℕ, List}
 use Rattle.program.specs.declared.function.Program.{Program}
 use Rattle.refusal.specs.declared.refused.Refused.{Refused}

@@ -1,9 +1,10 @@
 ghost use Rattle.std.specs.Prelude.{◌≡◌, IfOk};
-ghost use Rattle.annotate_trial.specs.Kept.{StaysAccepted};
+ghost use Rattle.annotate.specs.Kept.{StaysAccepted};
 
 use crate::new_lines::{NewLines, without};
+use crate::plain::push_plain;
 use crate::trial::Trial;
-use annotate::annotated as proposed;
+use annotate_lines::{Kind, proposed};
 use explain_facts::{match_text, spend};
 use ir_reader::read;
 use ranges::{Effort, Unanswered};
@@ -13,13 +14,13 @@ use std::hash::RandomState;
 use verifier::{Unverified, verify_within};
 
 /// The steps that a byte of a text counts for whose lines are tried.
-const STEPS_A_BYTE: usize = 200;
+const STEPS_A_BYTE: usize = 100;
 
 /// How often lines are tried anew once some were taken out.
 const MOST_ROUNDS: usize = 64;
 
 /// A text as it was.
-fn copied(alloc: Global, text: &[u8]) -> Result<Vec<u8>, Refused>
+pub fn copied(alloc: Global, text: &[u8]) -> Result<Vec<u8>, Refused>
     ensures { IfOk result (λ out. out.items ≡ text.now) }
 {
     let mut out = Vec::new(alloc);
@@ -51,8 +52,8 @@ fn judged(
     }
 }
 
-/// The lines of the text that were put in and are refused: those about facts first, on which the others rest. None where a phase before that of numbers
-/// refuses the text.
+/// Lines of the text that were put in and do not stay: those that are refused; where there is none, those that say no more than others, if they are asked for.
+/// None where a phase before that of numbers refuses the text.
 fn refused_of(
     alloc: Global,
     state: RandomState,
@@ -73,6 +74,9 @@ fn refused_of(
     };
     trial.try_facts(program)?;
     if trial.refused.is_empty() {
+        push_plain(alloc, new, program, &mut trial.refused)?;
+    }
+    if trial.refused.is_empty() {
         trial.try_zones(program)?;
         trial.try_costs(&matched)?;
     }
@@ -90,7 +94,7 @@ fn tried(
     let mut more = proposal;
     for _round in 0..MOST_ROUNDS {
         let new = NewLines::between(alloc, text, more.as_str())?;
-        if new.is_empty() {
+        if new.count() == 0 {
             return Ok(more);
         }
         let Some(refused) = refused_of(alloc, state, more.as_str(), &new, effort)? else {
@@ -104,18 +108,33 @@ fn tried(
     Ok(String::from_str(alloc, text)?)
 }
 
-/// A text with those lines put in that follow from others and stand their trial; as it was, where it cannot be read.
-fn with_lines(
+/// A text with lines of a kind put in that follow from others and stand their trial; as it was, where it cannot be read.
+fn with_kind(
+    alloc: Global,
+    state: RandomState,
+    text: String,
+    kind: Kind,
+    effort: &Effort,
+) -> Result<String, Unanswered> {
+    match proposed(alloc, state, text.as_bytes(), kind) {
+        Ok(proposal) => tried(alloc, state, text.as_str(), proposal, effort),
+        Err(Refused::Fault { .. }) => Ok(text),
+        Err(Refused::Memory) => Err(Unanswered::OutOfMemory),
+    }
+}
+
+/// The same of each kind: zones and costs follow from facts.
+fn with_all(
     alloc: Global,
     state: RandomState,
     text: &str,
     effort: &Effort,
 ) -> Result<String, Unanswered> {
-    match proposed(alloc, state, text.as_bytes()) {
-        Ok(proposal) => tried(alloc, state, text, proposal, effort),
-        Err(Refused::Fault { .. }) => Ok(String::from_str(alloc, text)?),
-        Err(Refused::Memory) => Err(Unanswered::OutOfMemory),
-    }
+    let text = String::from_str(alloc, text)?;
+    let text = with_kind(alloc, state, text, Kind::Facts, effort)?;
+    let text = with_kind(alloc, state, text, Kind::Steps, effort)?;
+    let text = with_kind(alloc, state, text, Kind::Zones, effort)?;
+    with_kind(alloc, state, text, Kind::Costs, effort)
 }
 
 /// A module's text with lines put in that follow from others, each of them tried; none is changed or taken away, and a last line without an end gets one. The
@@ -133,7 +152,7 @@ pub fn annotated(
     ensures { IfOk result (λ out. StaysAccepted text.now out.items) }
 {
     drop(read(alloc, state, text)?);
-    match with_lines(alloc, state, str::from_utf8(text).unwrap_or(""), effort) {
+    match with_all(alloc, state, str::from_utf8(text).unwrap_or(""), effort) {
         Ok(more) => judged(alloc, state, text, more.as_bytes(), effort),
         Err(Unanswered::OutOfMemory) => Err(Refused::Memory),
         Err(Unanswered::OutOfEffort) => copied(alloc, text),

@@ -1,9 +1,11 @@
 //! The lines that are put in.
 
 use crate::budget::{Total, cost_of, given, total_of};
+use crate::hull::hulls_of;
 use crate::keep::{Known, known_of};
 use crate::left::{Need, needs_of};
 use crate::pending::{Handed, waiting_of};
+use crate::step::Walk;
 use crate::sum::Sum;
 use ir_annotation::push_zone;
 use ir_reader::read;
@@ -14,6 +16,19 @@ use syntax::{Block, Function, Module};
 
 /// The lines of one word that may stand at one place.
 const MOST_LINES: usize = 32;
+
+/// Which lines are proposed.
+#[derive(Clone, Copy, PartialEq, Eq)]
+pub enum Kind {
+    /// `keeps`, those too that may be so of counters and are to be tried.
+    Facts,
+    /// `shows`
+    Steps,
+    /// `pending`
+    Zones,
+    /// `left` and `budget`
+    Costs,
+}
 
 /// Lines to put behind a line of the text, each with its end.
 #[derive(Drop)]
@@ -26,6 +41,7 @@ struct Proposal {
 #[derive(Drop)]
 struct Draft<'a> {
     alloc: Global,
+    kind: Kind,
     /// In the order of the text, one for a line at most.
     proposals: Vec<Proposal>,
     costs: Vec<(&'a str, u128)>,
@@ -36,7 +52,7 @@ fn is_kept<'a>(known: &Known<'a>, index: usize, number: usize, fact: &Sum<'a>) -
     known.is_known(index, number)
         && !known.is_given(index, number)
         && fact.is_form()
-        && !known.is_weaker(index, fact)
+        && (known.has_guesses() || !known.is_weaker(index, fact))
 }
 
 /// Adds the facts that are known at a block and not stated there, as many as there is room for.
@@ -89,27 +105,6 @@ fn push_left(out: &mut String, block: &Block, need: &Need<'_>) -> Result<(), All
     out.push_str("\n")
 }
 
-/// Adds the lines for the head of a block. What an entry knows stands at the function's head already.
-fn push_head(
-    out: &mut String,
-    known: &Known<'_>,
-    handed: &[Handed<'_>],
-    needs: &[Option<Need<'_>>],
-    index: usize,
-    block: &Block,
-) -> Result<(), AllocError> {
-    if index != 0 {
-        push_keeps(out, known, index, block)?;
-    }
-    push_pending(out, handed, block)?;
-    if index < needs.len() {
-        if let Some(need) = &needs[index] {
-            push_left(out, block, need)?;
-        }
-    }
-    Ok(())
-}
-
 /// Adds what a function's head states of its parameters.
 fn push_requirements<'a>(
     facts: &mut Vec<Sum<'a>>,
@@ -120,6 +115,24 @@ fn push_requirements<'a>(
         facts.push(Sum::of_inequality(alloc, inequality)?)?;
     }
     Ok(())
+}
+
+/// The last of a block's `keeps` lines, or its label.
+fn end_of_keeps(block: &Block) -> u32 {
+    let mut line = block.line;
+    for inequality in block.notes.keeps.as_slice() {
+        line = line.max(inequality.line);
+    }
+    line
+}
+
+/// The last of a block's `keeps` and `pending` lines, or its label.
+fn end_of_pending(block: &Block) -> u32 {
+    let mut line = end_of_keeps(block);
+    for pending in block.notes.pending.as_slice() {
+        line = line.max(pending.zone.line);
+    }
+    line
 }
 
 impl<'a> Draft<'a> {
@@ -170,45 +183,90 @@ impl<'a> Draft<'a> {
         Ok(())
     }
 
-    /// Proposes the lines for a function in which this is known.
-    fn add_known(&mut self, known: &Known<'a>) -> Result<(), AllocError> {
-        let needs = needs_of(known, self.costs.as_slice())?;
-        self.add_lines(known, needs.as_slice())
-    }
-
-    fn add_lines(
-        &mut self,
-        known: &Known<'a>,
-        needs: &[Option<Need<'a>>],
-    ) -> Result<(), AllocError> {
-        if let [entry, ..] = needs {
-            self.add_budget(known.function, entry)?;
+    /// Proposes what follows of facts at the heads of the blocks; what an entry knows stands at the function's head already.
+    fn add_facts(&mut self, function: &'a Function) -> Result<(), AllocError> {
+        let known = known_of(self.alloc, function, true)?;
+        let blocks = function.blocks.as_slice();
+        for index in 1..blocks.len() {
+            let mut lines = String::new(self.alloc);
+            push_keeps(&mut lines, &known, index, &blocks[index])?;
+            self.propose(blocks[index].line, lines)?;
         }
-        let waiting = waiting_of(self.alloc, known.function)?;
-        self.add_heads(known, needs, waiting.handed.as_slice())
+        Ok(())
     }
 
-    /// Proposes the lines for the heads of the blocks.
-    fn add_heads(
-        &mut self,
-        known: &Known<'a>,
-        needs: &[Option<Need<'a>>],
-        handed: &[Vec<Handed<'a>>],
-    ) -> Result<(), AllocError> {
-        let blocks = known.function.blocks.as_slice();
+    /// Proposes the bounds of products behind the steps of a block.
+    fn add_steps_of(&mut self, block: &'a Block, facts: Vec<Sum<'a>>) -> Result<(), AllocError> {
+        let mut walk = Walk::new(self.alloc, facts);
+        for step in block.steps.as_slice() {
+            let mut lines = String::new(self.alloc);
+            walk.pass(step, &mut lines)?;
+            self.propose(step.line, lines)?;
+        }
+        Ok(())
+    }
+
+    /// Proposes the bounds of products behind the steps of all blocks.
+    fn add_steps(&mut self, function: &'a Function) -> Result<(), AllocError> {
+        let known = known_of(self.alloc, function, false)?;
+        let blocks = function.blocks.as_slice();
         for index in 0..blocks.len() {
-            if index < handed.len() {
-                let block = &blocks[index];
+            let facts = known.facts_at(index)?;
+            self.add_steps_of(&blocks[index], facts)?;
+        }
+        Ok(())
+    }
+
+    /// Proposes what is handed on to the heads of the blocks.
+    fn add_zones(&mut self, function: &'a Function) -> Result<(), AllocError> {
+        let hulls = hulls_of(self.alloc, function)?;
+        let waiting = waiting_of(self.alloc, function, hulls.as_slice())?;
+        let blocks = function.blocks.as_slice();
+        for index in 0..blocks.len() {
+            if index < waiting.handed.len() {
                 let mut lines = String::new(self.alloc);
-                push_head(
-                    &mut lines,
-                    known,
-                    handed[index].as_slice(),
-                    needs,
-                    index,
-                    block,
-                )?;
-                self.propose(block.line, lines)?;
+                let handed = waiting.handed[index].as_slice();
+                push_pending(&mut lines, handed, &blocks[index])?;
+                self.propose(end_of_keeps(&blocks[index]), lines)?;
+            }
+        }
+        Ok(())
+    }
+
+    /// Proposes that the budget is left at the head of the entry.
+    fn propose_whole(&mut self, entry: &Block, total: Total) -> Result<(), AllocError> {
+        let mut lines = String::new(self.alloc);
+        if entry.notes.left.line == entry.line {
+            let calls = total.self_calls;
+            let instructions = total.instructions;
+            write!(lines, "  ;! left {calls} {instructions}\n")?;
+        }
+        self.propose(end_of_pending(entry), lines)
+    }
+
+    /// Proposes what is left at the head of a block, if it is known.
+    fn propose_left(&mut self, block: &Block, need: &Option<Need<'a>>) -> Result<(), AllocError> {
+        let mut lines = String::new(self.alloc);
+        if let Some(need) = need {
+            push_left(&mut lines, block, need)?;
+        }
+        self.propose(end_of_pending(block), lines)
+    }
+
+    /// Proposes what is left at the heads of the blocks, and the budget.
+    fn add_costs(&mut self, function: &'a Function) -> Result<(), AllocError> {
+        let known = known_of(self.alloc, function, false)?;
+        let needs = needs_of(&known, self.costs.as_slice())?;
+        if let [entry, ..] = needs.as_slice() {
+            self.add_budget(function, entry)?;
+        }
+        let blocks = function.blocks.as_slice();
+        for index in 0..blocks.len() {
+            let block = &blocks[index];
+            match given(function) {
+                Some(total) if index == 0 => self.propose_whole(block, total)?,
+                _ if index < needs.len() => self.propose_left(block, &needs[index])?,
+                _ => {}
             }
         }
         Ok(())
@@ -216,8 +274,12 @@ impl<'a> Draft<'a> {
 
     fn add_functions(&mut self, functions: &'a [Function]) -> Result<(), AllocError> {
         for function in functions {
-            let known = known_of(self.alloc, function)?;
-            self.add_known(&known)?;
+            match self.kind {
+                Kind::Facts => self.add_facts(function)?,
+                Kind::Steps => self.add_steps(function)?,
+                Kind::Zones => self.add_zones(function)?,
+                Kind::Costs => self.add_costs(function)?,
+            }
         }
         Ok(())
     }
@@ -246,9 +308,15 @@ impl<'a> Draft<'a> {
 }
 
 /// The module's text with the lines put in.
-fn with_lines(alloc: Global, module: &Module, text: &str) -> Result<String, AllocError> {
+fn with_lines(
+    alloc: Global,
+    module: &Module,
+    text: &str,
+    kind: Kind,
+) -> Result<String, AllocError> {
     let mut draft = Draft {
         alloc,
+        kind,
         proposals: Vec::new(alloc),
         costs: Vec::new(alloc),
     };
@@ -258,13 +326,19 @@ fn with_lines(alloc: Global, module: &Module, text: &str) -> Result<String, Allo
     Ok(out)
 }
 
-/// A module's text with lines put in that follow from others; none is changed or taken away, and a last line without an end gets one. The
+/// A module's text with lines of a kind put in that follow from others; none is changed or taken away, and a last line without an end gets one. The
 /// names of the text are hashed with `state`.
 ///
 /// # Errors
 ///
 /// The first fault of the text, from 101 to 107, at its line; or memory was refused.
-pub fn annotated(alloc: Global, state: RandomState, text: &[u8]) -> Result<String, Refused> {
+pub fn proposed(
+    alloc: Global,
+    state: RandomState,
+    text: &[u8],
+    kind: Kind,
+) -> Result<String, Refused> {
     let module = read(alloc, state, text)?;
-    Ok(with_lines(alloc, &module, str::from_utf8(text).unwrap_or(""))?)
+    let text = str::from_utf8(text).unwrap_or("");
+    Ok(with_lines(alloc, &module, text, kind)?)
 }

@@ -2,7 +2,7 @@
 
 use lists::Name;
 use std::alloc::{AllocError, Global};
-use syntax::{Argument, Block, Function, Instruction, Operand, Phi, Terminator};
+use syntax::{Argument, Block, Function, Instruction, Operand, Phi, Step, Terminator};
 
 /// How a path goes along an edge. None goes along a reattach.
 #[derive(Clone, Copy)]
@@ -205,6 +205,27 @@ pub fn is_used_beside(function: &Function, own: usize, name: &str) -> bool {
         }
     }
     false
+}
+
+/// The instruction of a function that defines the register.
+pub fn definition_in<'a>(function: &'a Function, name: &str) -> Option<&'a Instruction> {
+    for block in function.blocks.as_slice() {
+        if let Some(instruction) = definition_among(block.steps.as_slice(), name) {
+            return Some(instruction);
+        }
+    }
+    None
+}
+
+fn definition_among<'a>(steps: &'a [Step], name: &str) -> Option<&'a Instruction> {
+    for step in steps {
+        if let Some(register) = register_of(&step.instruction) {
+            if register == name {
+                return Some(&step.instruction);
+            }
+        }
+    }
+    None
 }
 
 /// The phi that defines the register.

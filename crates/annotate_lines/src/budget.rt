@@ -40,7 +40,7 @@ fn bound_of(facts: &[Sum<'_>], name: &str, is_greatest: bool) -> Option<i128> {
 }
 
 /// The greatest number that a sum may come to, by the bounds of its registers one by one; none where one has none.
-fn greatest_apart(facts: &[Sum<'_>], sum: &Sum<'_>) -> Option<i128> {
+pub fn greatest_apart(facts: &[Sum<'_>], sum: &Sum<'_>) -> Option<i128> {
     let mut most = sum.constant;
     for (name, coefficient) in &sum.terms {
         if *coefficient != 0 {
@@ -97,7 +97,7 @@ fn greatest_by<'a>(
 }
 
 /// The greatest number that a sum may come to, from 0 to that of a budget; none where there is none.
-fn greatest<'a>(facts: &[Sum<'a>], sum: &Sum<'a>) -> Result<Option<u64>, AllocError> {
+pub fn greatest<'a>(facts: &[Sum<'a>], sum: &Sum<'a>) -> Result<Option<u64>, AllocError> {
     let mut most = greatest_apart(facts, sum);
     for fact in facts {
         most = bound_among(most, greatest_by(facts, sum, fact)?, true);

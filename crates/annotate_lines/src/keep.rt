@@ -2,9 +2,13 @@
 
 use crate::edge::{Edge, defines, edges_of};
 use crate::fact::Facts;
+use crate::guess::{Place, dominators_of};
 use crate::sum::Sum;
 use std::alloc::{AllocError, Global};
 use syntax::{Block, Function};
+
+/// The most blocks of a function in which something is guessed, and rounds are counted.
+pub const MOST_BLOCKS: usize = 256;
 
 /// The facts of a function, and which of them hold where.
 #[derive(Drop)]
@@ -12,9 +16,13 @@ pub struct Known<'a> {
     pub alloc: Global,
     pub function: &'a Function,
     pub edges: Vec<Edge<'a>>,
+    /// For each block the numbers of the edges that lead to it.
+    into: Vec<Vec<usize>>,
     pub facts: Facts<'a>,
     /// For each block the numbers of the facts that its head states.
     given: Vec<Vec<usize>>,
+    /// For each block the numbers of the facts that may be so at it, and are to be tried.
+    guessed: Vec<Vec<usize>>,
     /// For each edge the numbers of the facts that its source adds.
     added: Vec<Vec<usize>>,
     /// For each block the numbers of the facts that its own instructions make.
@@ -23,16 +31,40 @@ pub struct Known<'a> {
     marks: Vec<Vec<bool>>,
 }
 
-/// Whether a row of numbers has this one; a row that is not there has none.
-fn row_has(rows: &[Vec<usize>], row: usize, number: usize) -> bool {
+/// A row of numbers; one that is not there has none.
+fn row_of(rows: &[Vec<usize>], row: usize) -> &[usize] {
     if row < rows.len() {
-        for other in rows[row].as_slice() {
-            if *other == number {
-                return true;
-            }
+        rows[row].as_slice()
+    } else {
+        &[]
+    }
+}
+
+fn row_has(rows: &[Vec<usize>], row: usize, number: usize) -> bool {
+    for other in row_of(rows, row) {
+        if *other == number {
+            return true;
         }
     }
     false
+}
+
+/// For each block the numbers of the edges that lead to it.
+fn into_blocks(
+    alloc: Global,
+    edges: &[Edge<'_>],
+    count: usize,
+) -> Result<Vec<Vec<usize>>, AllocError> {
+    let mut into = Vec::new(alloc);
+    for _block in 0..count {
+        into.push(Vec::new(alloc))?;
+    }
+    for (number, edge) in edges.iter().enumerate() {
+        if edge.to < into.len() {
+            into[edge.to].push(number)?;
+        }
+    }
+    Ok(into)
 }
 
 impl<'a> Known<'a> {
@@ -68,6 +100,65 @@ impl<'a> Known<'a> {
         Ok(())
     }
 
+    /// States what may be so of a block's counters.
+    fn guess(&mut self, above: &[usize], block: usize) -> Result<(), AllocError> {
+        let place = Place {
+            alloc: self.alloc,
+            function: self.function,
+            above,
+            block,
+        };
+        for sum in place.guesses(self.facts.sums.as_slice())? {
+            self.facts.add(sum)?;
+        }
+        Ok(())
+    }
+
+    /// States what may be so at the heads of loops, unless the function has many blocks.
+    fn guess_all(&mut self) -> Result<(), AllocError> {
+        let count = self.function.blocks.len();
+        let above = dominators_of(self.alloc, self.edges.as_slice(), count)?;
+        for block in 0..count {
+            if count <= MOST_BLOCKS {
+                self.guess(above.as_slice(), block)?;
+            }
+            let guessed = self.facts.take();
+            self.guessed.push(guessed)?;
+        }
+        Ok(())
+    }
+
+    /// The numbers of the facts that the source of an edge adds on it.
+    pub fn facts_on(&self, edge: usize) -> &[usize] {
+        row_of(self.added.as_slice(), edge)
+    }
+
+    /// The facts that are known at a block.
+    pub fn facts_at(&self, block: usize) -> Result<Vec<Sum<'a>>, AllocError> {
+        let mut facts = Vec::new(self.alloc);
+        for number in 0..self.facts.sums.len() {
+            if self.is_known(block, number) {
+                facts.push(self.facts.sums[number].copy()?)?;
+            }
+        }
+        Ok(facts)
+    }
+
+    /// Whether the fact is a guess at the block.
+    pub fn is_guessed(&self, block: usize, fact: usize) -> bool {
+        row_has(self.guessed.as_slice(), block, fact)
+    }
+
+    /// Whether something is guessed in the function, so that of two facts the one that says more may be none.
+    pub fn has_guesses(&self) -> bool {
+        for row in &self.guessed {
+            if !row.is_empty() {
+                return true;
+            }
+        }
+        false
+    }
+
     pub fn is_given(&self, block: usize, fact: usize) -> bool {
         row_has(self.given.as_slice(), block, fact)
     }
@@ -95,43 +186,46 @@ impl<'a> Known<'a> {
         false
     }
 
-    /// Whether a difference is a fact that is known at the block, taken so many times, and a number that is not negative.
-    fn is_covered(&self, block: usize, difference: &Sum<'a>) -> bool {
+    /// How much a sum lacks to be at least 0, by one fact that is known at the block.
+    fn lack(&self, block: usize, sum: &Sum<'a>) -> Option<i128> {
+        let mut least = None;
         for number in 0..self.facts.sums.len() {
-            if self.is_known(block, number) && is_multiple(difference, &self.facts.sums[number]) {
-                return true;
+            if self.is_known(block, number) {
+                let lack = lack_by(sum, &self.facts.sums[number]);
+                least = lesser(least, lack);
             }
         }
-        false
+        least
     }
 
-    /// Whether one sum is known to be no less than the other.
-    fn is_at_least(
+    /// How much one sum lacks to be no less than the other.
+    pub fn lack_of(
         &self,
         block: usize,
         one: &Sum<'a>,
         other: &Sum<'a>,
-    ) -> Result<bool, AllocError> {
+    ) -> Result<Option<i128>, AllocError> {
         let difference = one.with(other, -1)?;
-        match difference.as_number() {
-            Some(number) => Ok(number >= 0),
-            None => Ok(self.is_covered(block, &difference)),
-        }
+        Ok(match difference.as_number() {
+            Some(number) => Some(number.saturating_neg().max(0)),
+            None => self.lack(block, &difference),
+        })
     }
 
-    /// The greater of two sums, or their sum where neither is known to be.
+    /// The greater of two sums, or one with what it may lack, or their sum where nothing is known of that.
     pub fn greater(
         &self,
         block: usize,
         one: &Sum<'a>,
         other: &Sum<'a>,
     ) -> Result<Sum<'a>, AllocError> {
-        if self.is_at_least(block, one, other)? {
-            one.copy()
-        } else if self.is_at_least(block, other, one)? {
-            other.copy()
-        } else {
-            one.with(other, 1)
+        let second = self.lack_of(block, other, one)?;
+        match self.lack_of(block, one, other)? {
+            Some(first) => raised_less(one, first, other, second),
+            None => match second {
+                Some(second) => raised(other, second),
+                None => one.with(other, 1),
+            },
         }
     }
 
@@ -154,20 +248,24 @@ impl<'a> Known<'a> {
 
     /// Whether some way leads to the block and each of them brings the fact.
     fn is_brought(&self, block: usize, fact: usize) -> bool {
-        let mut is_reached = false;
-        for number in 0..self.edges.len() {
-            if self.edges[number].to == block {
-                is_reached = true;
-                let from = self.edges[number].from;
-                let is_along = self.is_known(from, fact)
-                    || row_has(self.added.as_slice(), number, fact)
-                    || row_has(self.made.as_slice(), from, fact);
-                if !is_along {
-                    return false;
-                }
+        let into = row_of(self.into.as_slice(), block);
+        for number in into {
+            if !self.is_along(*number, fact) {
+                return false;
             }
         }
-        is_reached
+        !into.is_empty()
+    }
+
+    /// Whether the edge of this number brings the fact.
+    fn is_along(&self, number: usize, fact: usize) -> bool {
+        if number >= self.edges.len() {
+            return false;
+        }
+        let from = self.edges[number].from;
+        self.is_known(from, fact)
+            || row_has(self.added.as_slice(), number, fact)
+            || row_has(self.made.as_slice(), from, fact)
     }
 
     fn unmark(&mut self, block: usize, fact: usize) {
@@ -188,7 +286,9 @@ impl<'a> Known<'a> {
 
     /// Whether a mark at a block still stands.
     fn stands(&self, block: usize, fact: usize) -> bool {
-        self.is_given(block, fact) || self.is_brought(block, fact) && !self.is_renamed(block, fact)
+        self.is_given(block, fact)
+            || self.is_guessed(block, fact)
+            || self.is_brought(block, fact) && !self.is_renamed(block, fact)
     }
 
     /// Takes away the marks of a block that no longer stand; whether there were some.
@@ -215,10 +315,13 @@ impl<'a> Known<'a> {
     }
 
     /// Finds the facts, and marks what is known at each block.
-    fn find(&mut self) -> Result<(), AllocError> {
+    fn find(&mut self, has_guesses: bool) -> Result<(), AllocError> {
         self.give_all()?;
         self.add_all()?;
         self.make_all()?;
+        if has_guesses {
+            self.guess_all()?;
+        }
         self.mark_all()?;
         for _round in 0..self.function.blocks.len() {
             if !self.settle_all() {
@@ -229,18 +332,47 @@ impl<'a> Known<'a> {
     }
 }
 
-/// Whether one sum is a multiple of the other and a number, neither of them negative.
-fn is_multiple<'a>(sum: &Sum<'a>, fact: &Sum<'a>) -> bool {
+/// How much a sum lacks to be at least 0 if a fact is, where it is a multiple of that and a number.
+fn lack_by<'a>(sum: &Sum<'a>, fact: &Sum<'a>) -> Option<i128> {
     let Some((name, coefficient)) = fact.first() else {
-        return false;
+        return None;
     };
     let times = sum.coefficient(name).checked_div(coefficient).unwrap_or(0);
     if times <= 0 {
-        return false;
+        return None;
     }
     match sum.number_with(fact, 0i128.saturating_sub(times)) {
-        Some(number) => number >= 0,
-        None => false,
+        Some(number) => Some(number.saturating_neg().max(0)),
+        None => None,
+    }
+}
+
+/// One sum and what it lacks, or the other, whichever lacks less.
+fn raised_less<'a>(
+    one: &Sum<'a>,
+    first: i128,
+    other: &Sum<'a>,
+    second: Option<i128>,
+) -> Result<Sum<'a>, AllocError> {
+    match second {
+        Some(second) if second < first => raised(other, second),
+        _ => raised(one, first),
+    }
+}
+
+/// A sum and so many more.
+fn raised<'a>(sum: &Sum<'a>, more: i128) -> Result<Sum<'a>, AllocError> {
+    let mut raised = sum.copy()?;
+    raised.add_number(more);
+    Ok(raised)
+}
+
+/// The lesser of two numbers; the one that there is.
+fn lesser(one: Option<i128>, other: Option<i128>) -> Option<i128> {
+    match (one, other) {
+        (Some(one), Some(other)) => Some(one.min(other)),
+        (None, other) => other,
+        (one, None) => one,
     }
 }
 
@@ -255,19 +387,25 @@ pub fn names_own(block: &Block, sum: &Sum<'_>) -> bool {
 }
 
 /// What is known at each block, by what heads state, `shows` and the outcomes of branches. A fact about registers that the block defines
-/// anew is not brought along to it.
-pub fn known_of<'a>(alloc: Global, function: &'a Function) -> Result<Known<'a>, AllocError> {
+/// anew is not brought along to it. What may be so of counters is among it, if guesses are asked for.
+pub fn known_of<'a>(
+    alloc: Global,
+    function: &'a Function,
+    has_guesses: bool,
+) -> Result<Known<'a>, AllocError> {
     let edges = edges_of(alloc, function)?;
     let mut known = Known {
         alloc,
         function,
+        into: into_blocks(alloc, edges.as_slice(), function.blocks.len())?,
         edges,
         facts: Facts::new(alloc, function),
         given: Vec::new(alloc),
+        guessed: Vec::new(alloc),
         added: Vec::new(alloc),
         made: Vec::new(alloc),
         marks: Vec::new(alloc),
     };
-    known.find()?;
+    known.find(has_guesses)?;
     Ok(known)
 }

@@ -2,9 +2,10 @@
 
 use std::alloc::{AllocError, Global};
 
-/// Which lines of a text were put in.
+/// The numbers of lines that were put into a text, counted from 1.
 #[derive(Drop)]
 pub struct NewLines {
+    alloc: Global,
     marks: Vec<bool>,
 }
 
@@ -21,32 +22,37 @@ impl NewLines {
             }
             marks.push(!is_old)?;
         }
-        Ok(NewLines { marks })
+        Ok(NewLines { alloc, marks })
     }
 
-    /// Whether the line of this number was put in, counted from 1.
+    /// Whether the line of this number was put in.
     pub fn has(&self, line: u32) -> bool {
-        match (line as usize).checked_sub(1) {
-            Some(place) => self.is_marked(place),
-            None => false,
-        }
+        let number = usize::try_from(line).unwrap_or(0);
+        number >= 1 && number <= self.marks.len() && self.marks[number - 1]
     }
 
-    fn is_marked(&self, place: usize) -> bool {
-        match self.marks.get(place) {
-            Some(mark) => *mark,
-            None => false,
-        }
-    }
-
-    /// Whether none was put in.
-    pub fn is_empty(&self) -> bool {
+    /// The line, without those that were put in, that this one is or stands behind; counted from 1.
+    pub fn own_line(&self, line: u32) -> u32 {
+        let mut own = 0u32;
+        let mut number = 0u32;
         for mark in &self.marks {
-            if *mark {
-                return false;
+            number = number.saturating_add(1);
+            if number <= line && !*mark {
+                own = own.saturating_add(1);
             }
         }
-        true
+        own
+    }
+
+    /// How many were put in.
+    pub fn count(&self) -> usize {
+        let mut count = 0usize;
+        for mark in &self.marks {
+            if *mark {
+                count = count.saturating_add(1);
+            }
+        }
+        count
     }
 }
 

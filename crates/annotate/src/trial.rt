@@ -4,7 +4,7 @@ use crate::new_lines::NewLines;
 use explain_costs::cost_findings;
 use explain_facts::Matched;
 use footprints::passes_on;
-use linear_shown::FactBranches;
+use linear_shown::{FactBranches, FactCursor};
 use program::{Block, BlockId, Function, Inequality, Program};
 use ranges::{BlockFacts, EdgeFacts, Effort, Unanswered, block_facts, difference_of, shows_at};
 use std::alloc::Global;
@@ -91,16 +91,65 @@ impl Trial<'_> {
                 self.effort,
             )?;
             self.try_edges(blocks, &table)?;
+            self.try_steps(block, &table)?;
         }
         Ok(())
     }
 
-    /// Refuses the `keeps` lines that an edge does not show.
+    /// Refuses the `keeps` lines that an edge does not show, and the `shows` lines that their places do not.
     pub fn try_facts(&mut self, program: &Program) -> Result<(), Unanswered> {
         for function in program.functions.as_slice() {
             self.try_function(program, function)?;
         }
         Ok(())
+    }
+}
+
+/// What is shown within blocks.
+impl Trial<'_> {
+    /// Refuses a `shows` line that was put in, where the first facts, so many of them, do not show it.
+    fn try_shown(
+        &mut self,
+        cursor: &mut FactCursor<'_>,
+        count: usize,
+        inequality: &Inequality,
+    ) -> Result<(), Unanswered> {
+        if self.new.has(inequality.line) {
+            cursor.seek(count);
+            cursor.index()?;
+            let sum = difference_of(self.alloc, &[], inequality)?;
+            if !shows_at(self.alloc, &cursor.known(), &sum)? {
+                self.refuse(inequality.line)?;
+            }
+        }
+        Ok(())
+    }
+
+    /// The same of all `shows` lines of a place, behind which so many facts are known.
+    fn try_shows(
+        &mut self,
+        cursor: &mut FactCursor<'_>,
+        count: usize,
+        shows: &[Inequality],
+    ) -> Result<(), Unanswered> {
+        let before = count.saturating_sub(shows.len());
+        for (place, inequality) in shows.iter().enumerate() {
+            self.try_shown(cursor, before.saturating_add(place), inequality)?;
+        }
+        Ok(())
+    }
+
+    /// The same of all places of a block.
+    fn try_steps(&mut self, block: &Block, table: &BlockFacts) -> Result<(), Unanswered> {
+        let facts = table.facts.as_slice();
+        let mut cursor = FactCursor::new(self.alloc, facts, self.effort);
+        for (place, step) in block.steps.as_slice().iter().enumerate() {
+            self.try_shows(&mut cursor, table.count_at(place), step.shows.as_slice())?;
+        }
+        match &block.ending {
+            Some(ending) => self.try_shows(&mut cursor, facts.len(), ending.shows.as_slice()),
+            None => Ok(()),
+        }
     }
 }
 

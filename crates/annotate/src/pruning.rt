@@ -1,0 +1,126 @@
+ghost use Rattle.std.specs.Prelude.{IfOk};
+ghost use Rattle.annotate.specs.Kept.{IsAcceptedText};
+
+use crate::new_lines::without;
+use crate::trying::copied;
+use explain_facts::spend;
+use ranges::{Effort, Unanswered};
+use std::alloc::{AllocError, Global};
+use std::hash::RandomState;
+use verifier::{Refused, Unverified, verify_within};
+
+/// The steps that a byte of a text counts for that is judged once more.
+const STEPS_A_BYTE: usize = 50;
+
+/// How often all lines are tried: without one, another one may not be needed any more.
+const MOST_ROUNDS: usize = 16;
+
+/// The numbers of the annotation lines of a text, counted from 1.
+fn annotation_lines(alloc: Global, text: &str) -> Result<Vec<u32>, AllocError> {
+    let mut numbers = Vec::new(alloc);
+    let mut number = 0u32;
+    for line in text.lines() {
+        number = number.saturating_add(1);
+        if line.trim().starts_with(";!") {
+            numbers.push(number)?;
+        }
+    }
+    Ok(numbers)
+}
+
+/// Whether a text is accepted.
+fn is_accepted(
+    alloc: Global,
+    state: RandomState,
+    text: &str,
+    effort: &Effort,
+) -> Result<bool, Unanswered> {
+    spend(effort, text.len().saturating_mul(STEPS_A_BYTE))?;
+    match verify_within(alloc, state, text.as_bytes(), effort) {
+        Ok(verified) => {
+            drop(verified);
+            Ok(true)
+        }
+        Err(Unverified::Refused(Refused::Fault { .. })) => Ok(false),
+        Err(Unverified::Refused(Refused::Memory)) => Err(Unanswered::OutOfMemory),
+        Err(Unverified::OutOfEffort) => Err(Unanswered::OutOfEffort),
+    }
+}
+
+/// Takes annotations out of an accepted text, the last one first, each where the text is accepted as well without it. Whether there was one.
+fn take_out(
+    alloc: Global,
+    state: RandomState,
+    text: &mut String,
+    effort: &Effort,
+) -> Result<bool, Unanswered> {
+    let numbers = annotation_lines(alloc, text.as_str())?;
+    let mut is_changed = false;
+    for number in numbers.iter().rev() {
+        let less = without(alloc, text.as_str(), &[*number])?;
+        if is_accepted(alloc, state, less.as_str(), effort)? {
+            *text = less;
+            is_changed = true;
+        }
+    }
+    Ok(is_changed)
+}
+
+/// Round after round until each line that is left is needed.
+fn take_out_all(
+    alloc: Global,
+    state: RandomState,
+    text: &mut String,
+    effort: &Effort,
+) -> Result<(), Unanswered> {
+    for _round in 0..MOST_ROUNDS {
+        if !take_out(alloc, state, text, effort)? {
+            return Ok(());
+        }
+    }
+    Ok(())
+}
+
+/// Takes the shorter one of two texts, if it is accepted, and else the other.
+fn kept(
+    alloc: Global,
+    state: RandomState,
+    text: &[u8],
+    shorter: &[u8],
+    effort: &Effort,
+) -> Result<Vec<u8>, Unverified>
+    ensures { IfOk result (λ out. IsAcceptedText out.items) }
+{
+    if let Ok(verified) = verify_within(alloc, state, shorter, effort) {
+        drop(verified);
+        return Ok(copied(alloc, shorter)?);
+    }
+    let verified = verify_within(alloc, state, text, effort)?;
+    drop(verified);
+    Ok(copied(alloc, text)?)
+}
+
+fn text_of(alloc: Global, text: &[u8]) -> Result<String, Refused> {
+    Ok(String::from_str(alloc, str::from_utf8(text).unwrap_or(""))?)
+}
+
+/// An accepted text without annotations that it can do without, each tried by itself over what the ones before have left, as far as the effort reaches.
+///
+/// # Errors
+///
+/// The verifier's, where the text is not accepted, or no verdict within the effort; or memory was refused.
+pub fn pruned(
+    alloc: Global,
+    state: RandomState,
+    text: &[u8],
+    effort: &Effort,
+) -> Result<Vec<u8>, Unverified>
+    ensures { IfOk result (λ out. IsAcceptedText out.items) }
+{
+    drop(verify_within(alloc, state, text, effort)?);
+    let mut shorter = text_of(alloc, text)?;
+    match take_out_all(alloc, state, &mut shorter, effort) {
+        Err(Unanswered::OutOfMemory) => Err(Unverified::Refused(Refused::Memory)),
+        _ => kept(alloc, state, text, shorter.as_bytes(), &Effort::unlimited()),
+    }
+}

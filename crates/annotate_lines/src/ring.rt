@@ -1,0 +1,235 @@
+//! Loops that a counter leads round: what falls each time, and what a round needs.
+
+use crate::budget::greatest_apart;
+use crate::edge::{Edge, block_at, definition_in, phi_value};
+use crate::keep::{Known, names_own};
+use crate::left::definition_of;
+use crate::sum::Sum;
+use std::alloc::AllocError;
+use syntax::{Block, Operand};
+
+/// A loop, from the block at its head to the last one in the text from which an edge leads back.
+#[derive(Drop)]
+pub struct Ring<'a> {
+    pub head: usize,
+    pub last: usize,
+    /// What falls by `step` each time round.
+    pub rank: Sum<'a>,
+    pub step: i128,
+    /// The least number that the rank has at the head.
+    pub least: i128,
+    /// The self calls and instructions of one time round, at most.
+    pub calls: i128,
+    pub instructions: i128,
+}
+
+impl<'a> Ring<'a> {
+    pub fn has(&self, block: usize) -> bool {
+        self.head <= block && block <= self.last
+    }
+
+    /// Adds a round's cost to a sum as often as rounds are left.
+    pub fn add_rounds(&self, sum: &mut Sum<'a>, cost: i128) -> Result<(), AllocError> {
+        let over = cost.saturating_add(self.step).saturating_sub(1);
+        let times = over.checked_div(self.step).unwrap_or(0);
+        sum.add(&self.rank, times)?;
+        sum.add_number(0i128.saturating_sub(times.saturating_mul(self.least)));
+        Ok(())
+    }
+}
+
+/// The last block from which an edge leads back to this one.
+pub fn last_of(edges: &[Edge<'_>], head: usize) -> Option<usize> {
+    let mut last = None;
+    for edge in edges {
+        if edge.to == head && edge.from >= head {
+            last = Some(edge.from);
+        }
+    }
+    last
+}
+
+/// Whether a sum names a register that a block of the loop defines, but for its head's phis.
+pub fn names_inner(known: &Known<'_>, head: usize, last: usize, sum: &Sum<'_>) -> bool {
+    for index in head..last.saturating_add(1) {
+        if let Some(block) = block_at(known.function, index) {
+            if index != head && names_own(block, sum) {
+                return true;
+            }
+        }
+    }
+    false
+}
+
+/// Adds what a phi takes next so many times, by what its instruction makes of it.
+fn add_next<'a>(
+    known: &Known<'a>,
+    fall: &mut Sum<'a>,
+    value: &'a Operand,
+    times: i128,
+) -> Result<(), AllocError> {
+    if let Operand::Register(next) = value {
+        if let Some(instruction) = definition_in(known.function, next.as_str()) {
+            if let Some(sum) = definition_of(known.alloc, instruction)? {
+                return fall.add(&sum, times);
+            }
+        }
+    }
+    fall.add_operand(value, times)
+}
+
+/// By how much a sum at the head falls along an edge that leads back from this block.
+fn fall_along<'a>(
+    known: &Known<'a>,
+    head: &'a Block,
+    from: &'a Block,
+    rank: &Sum<'a>,
+) -> Result<Sum<'a>, AllocError> {
+    let mut fall = Sum::number(known.alloc, 0);
+    for (name, coefficient) in &rank.terms {
+        if let Some(value) = phi_value(head.phis.as_slice(), name, &from.label) {
+            fall.add_term(name, *coefficient)?;
+            add_next(known, &mut fall, value, 0i128.saturating_sub(*coefficient))?;
+        }
+    }
+    Ok(fall)
+}
+
+/// The least number that a sum may come to at a block, by the bounds of its registers.
+fn least_of<'a>(
+    known: &Known<'a>,
+    block: usize,
+    sum: &Sum<'a>,
+) -> Result<Option<i128>, AllocError> {
+    let mut opposite = Sum::number(known.alloc, 0);
+    opposite.add(sum, -1)?;
+    let facts = known.facts_at(block)?;
+    Ok(match greatest_apart(facts.as_slice(), &opposite) {
+        Some(most) => Some(0i128.saturating_sub(most)),
+        None => None,
+    })
+}
+
+/// By how much a sum at the head of a loop falls each time round at least: the same number on each edge that leads back, 1 or more.
+fn fall_of<'a>(known: &Known<'a>, head: usize, rank: &Sum<'a>) -> Result<Option<i128>, AllocError> {
+    let mut found = None;
+    for edge in &known.edges {
+        if edge.to == head && edge.from >= head {
+            let fall = fall_by(known, *edge, rank)?;
+            if fall.is_none() || found.is_some() && found != fall {
+                return Ok(None);
+            }
+            found = fall;
+        }
+    }
+    Ok(found)
+}
+
+fn fall_by<'a>(
+    known: &Known<'a>,
+    edge: Edge<'a>,
+    rank: &Sum<'a>,
+) -> Result<Option<i128>, AllocError> {
+    let (Some(head), Some(from)) = (
+        block_at(known.function, edge.to),
+        block_at(known.function, edge.from),
+    ) else {
+        return Ok(None);
+    };
+    let fall = fall_along(known, head, from, rank)?;
+    Ok(match least_of(known, edge.to, &fall)? {
+        Some(fall) if fall >= 1 => Some(fall),
+        _ => None,
+    })
+}
+
+/// What is at least 0 at the head, if this is so on an edge that leads back to it: each phi in place of what it takes there.
+fn at_head<'a>(known: &Known<'a>, edge: Edge<'a>, fact: &Sum<'a>) -> Result<Sum<'a>, AllocError> {
+    let mut rank = fact.copy()?;
+    let (Some(head), Some(from)) = (
+        block_at(known.function, edge.to),
+        block_at(known.function, edge.from),
+    ) else {
+        return Ok(rank);
+    };
+    for phi in head.phis.as_slice() {
+        let name = phi.register.as_str();
+        if let Some(Operand::Register(next)) = phi_value(head.phis.as_slice(), name, &from.label) {
+            let mut own = Sum::number(known.alloc, 0);
+            own.add_term(name, 1)?;
+            rank.put(next.as_str(), &own)?;
+        }
+    }
+    Ok(rank)
+}
+
+/// What falls each time round a loop, by this fact on this edge within it.
+fn ring_by<'a>(
+    known: &Known<'a>,
+    last: usize,
+    head: usize,
+    edge: Edge<'a>,
+    fact: &Sum<'a>,
+) -> Result<Option<Ring<'a>>, AllocError> {
+    let leads_back = edge.to == head;
+    let rank = if leads_back {
+        at_head(known, edge, fact)?
+    } else {
+        fact.copy()?
+    };
+    if names_inner(known, head, last, &rank) {
+        return Ok(None);
+    }
+    let nothing = Sum::number(known.alloc, 0);
+    let lack = known.lack_of(head, &rank, &nothing)?;
+    Ok(match fall_of(known, head, &rank)? {
+        Some(step) => Some(Ring {
+            head,
+            last,
+            rank,
+            step,
+            least: 0i128.saturating_sub(lack.unwrap_or(step)),
+            calls: 0,
+            instructions: 0,
+        }),
+        None => None,
+    })
+}
+
+/// What falls each time round a loop by a fact on this edge.
+fn ring_on<'a>(
+    known: &Known<'a>,
+    head: usize,
+    last: usize,
+    number: usize,
+    edge: Edge<'a>,
+) -> Result<Option<Ring<'a>>, AllocError> {
+    for fact in known.facts_on(number) {
+        if *fact < known.facts.sums.len() {
+            let ring = ring_by(known, last, head, edge, &known.facts.sums[*fact])?;
+            if ring.is_some() {
+                return Ok(ring);
+            }
+        }
+    }
+    Ok(None)
+}
+
+/// What falls each time round the loop of this head, by a branch at the head or on an edge that leads back; none where nothing is found.
+pub fn ring_of<'a>(known: &Known<'a>, head: usize) -> Result<Option<Ring<'a>>, AllocError> {
+    let Some(last) = last_of(known.edges.as_slice(), head) else {
+        return Ok(None);
+    };
+    for number in 0..known.edges.len() {
+        let edge = known.edges[number];
+        let is_inside = head <= edge.to && edge.to <= last;
+        let is_asked = edge.from == head || edge.to == head && edge.from >= head;
+        if is_inside && is_asked {
+            let ring = ring_on(known, head, last, number, edge)?;
+            if ring.is_some() {
+                return Ok(ring);
+            }
+        }
+    }
+    Ok(None)
+}

@@ -1,0 +1,44 @@
+//! The verdict on a module that a request names.
+
+use crate::requests::effort_of;
+use cli_modules::{Beside, in_own_lines, judged_text};
+use cli_words::Request;
+use debugger::{Refused, Unverified, Verified, verify_within};
+use std::alloc::{AllocError, Global};
+use std::hash::RandomState;
+
+/// A text as it is judged, and the verdict.
+#[derive(Drop)]
+pub struct Verdict {
+    /// With the lines that were put in.
+    pub text: Vec<u8>,
+    /// A refusal names a line of the text without them.
+    pub answer: Result<Verified, Unverified>,
+}
+
+/// The verdict on a module's text; with lines put in that follow from others, if the request asks for that.
+pub fn verdict_on(
+    alloc: Global,
+    state: RandomState,
+    request: &Request,
+    text: &[u8],
+    beside: &mut Beside,
+) -> Result<Verdict, AllocError> {
+    let more = match judged_text(alloc, state, request, text, &effort_of(request)) {
+        Ok(more) => more,
+        Err(refused) => return Ok(refused_at_once(alloc, refused)),
+    };
+    let answer = match verify_within(alloc, state, more.as_slice(), &effort_of(request)) {
+        Ok(verified) => Ok(verified),
+        Err(unverified) => Err(in_own_lines(alloc, text, more.as_slice(), unverified, beside)?),
+    };
+    Ok(Verdict { text: more, answer })
+}
+
+/// The verdict on a text that cannot be read.
+fn refused_at_once(alloc: Global, refused: Refused) -> Verdict {
+    Verdict {
+        text: Vec::new(alloc),
+        answer: Err(Unverified::Refused(refused)),
+    }
+}

@@ -1,0 +1,96 @@
+//! Modules with annotations put in that follow from others, or taken out that are not needed.
+
+use crate::beside::Beside;
+use crate::refusals::{print_refused, print_unverified};
+use crate::status::Status;
+use annotate::{NewLines, annotated, pruned};
+use cli_words::Request;
+use explain_findings::line_at;
+use std::alloc::{AllocError, Global};
+use std::hash::RandomState;
+use std::io;
+use std::io::Write;
+use verifier::{Effort, Refused, Unverified};
+
+/// Prints a text, or keeps it for the module's own file if that is asked for.
+fn give<W: Write>(
+    alloc: Global,
+    request: &Request,
+    text: &[u8],
+    output: &mut W,
+    beside: &mut Beside,
+) -> io::Result<Status> {
+    if request.annotating.writes {
+        let text = String::from_str(alloc, str::from_utf8(text).unwrap_or(""))?;
+        beside.keep_file(request.file.as_str(), text)?;
+    } else {
+        output.write_all(text)?;
+    }
+    Ok(Status::Done)
+}
+
+/// Gives a module's text with lines put in that follow from others, or without those that it does not need.
+pub fn print_annotated<W: Write>(
+    alloc: Global,
+    state: RandomState,
+    request: &Request,
+    text: &[u8],
+    effort: &Effort,
+    output: &mut W,
+    beside: &mut Beside,
+) -> io::Result<Status> {
+    if request.annotating.takes_out {
+        return match pruned(alloc, state, text, effort) {
+            Ok(text) => give(alloc, request, text.as_slice(), output, beside),
+            Err(unverified) => print_unverified(&unverified, output, beside),
+        };
+    }
+    match annotated(alloc, state, text, effort) {
+        Ok(text) => give(alloc, request, text.as_slice(), output, beside),
+        Err(refused) => print_refused(&refused, output),
+    }
+}
+
+/// The text that is judged: with lines put in that follow from others, if the request asks for that.
+pub fn judged_text(
+    alloc: Global,
+    state: RandomState,
+    request: &Request,
+    text: &[u8],
+    effort: &Effort,
+) -> Result<Vec<u8>, Refused> {
+    if request.annotating.puts_in {
+        return annotated(alloc, state, text, effort);
+    }
+    let mut more = Vec::new(alloc);
+    more.extend_from_slice(text)?;
+    Ok(more)
+}
+
+/// The lines that a text has more than another one.
+pub fn lines_put_in(alloc: Global, text: &[u8], more: &[u8]) -> Result<NewLines, AllocError> {
+    let text = str::from_utf8(text).unwrap_or("");
+    NewLines::between(alloc, text, str::from_utf8(more).unwrap_or(""))
+}
+
+/// Why a text with lines put in is not verified, by the lines of the text without them; which line was put in is told beside it.
+pub fn in_own_lines(
+    alloc: Global,
+    text: &[u8],
+    more: &[u8],
+    unverified: Unverified,
+    beside: &mut Beside,
+) -> Result<Unverified, AllocError> {
+    let Unverified::Refused(Refused::Fault { number, line }) = unverified else {
+        return Ok(unverified);
+    };
+    let new = lines_put_in(alloc, text, more)?;
+    if new.has(line) {
+        let more = str::from_utf8(more).unwrap_or("");
+        let put_in = line_at(more, line).unwrap_or("").trim();
+        let note = format!(in alloc; "of the line that was put in: {put_in}")?;
+        beside.note(note.as_str())?;
+    }
+    let line = new.own_line(line);
+    Ok(Unverified::Refused(Refused::Fault { number, line }))
+}

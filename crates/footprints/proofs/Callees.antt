@@ -1,0 +1,25 @@
+-- A callee's zones, one after another.
+use Rattle.std.proofs.Common.{◌≡◌, ℕ, ◌<◌, ◌+◌, List, length, take, get_or}
+use Rattle.std.specs.List.{list_all}
+use Rattle.std.proofs.lemmas.List.Folds.{list_all_more}
+use Rattle.program.specs.declared.annotation.Zone.{Zone}
+use Rattle.program.specs.declared.instruction.Argument.{Argument}
+use Rattle.footprints_zones.specs.declared.place.Use.{Use}
+use Rattle.footprints_feet.specs.Feet.{joined_use}
+use Rattle.footprints.specs.Footprints.{Place, is_put_allowed, is_put_clear, put_in, put_use}
+
+-- what a call touches in these zones of its callee
+abbrev pub zones_use : Place → List Argument → List Zone → Use
+zones_use p arguments zones = record {
+  number = 604;
+  covered = list_all (λ (z : Zone). is_put_allowed p (put_in arguments z)) zones;
+  clear = list_all (λ (z : Zone). is_put_clear p (put_in arguments z)) zones;
+}
+
+pub zones_use_more : (p : Place) (arguments : List Argument) (zones : List Zone) (i : ℕ) (d : Zone) → i < length zones
+    → zones_use p arguments (take (i + 1) zones) ≡ joined_use (zones_use p arguments (take i zones)) (put_use p (put_in arguments (get_or zones i d)))
+zones_use_more p arguments zones i d l =
+    rw (
+      list_all_more (λ (z : Zone). is_put_allowed p (put_in arguments z)) zones i d l,
+      list_all_more (λ (z : Zone). is_put_clear p (put_in arguments z)) zones i d l,
+    )
