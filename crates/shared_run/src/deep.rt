@@ -1,6 +1,6 @@
 //! What a board does with its workers' private stacks.
 ghost use Rattle.std.specs.Prelude.{OnOk};
-ghost use Rattle.shared_run.specs.Stacks.{AreReadyTickets, Fills, Loads, Publishes};
+ghost use Rattle.shared_run.specs.Stacks.{AreReadyTickets, Fills, FillsAhead, Loads, Publishes};
 
 use crate::answers::{Loaded, Published};
 use crate::bench::Bench;
@@ -34,6 +34,16 @@ impl<L: Bench> Board<'_, L> {
                 stack.fill(at, page);
                 true
             }
+            None => false,
+        }
+    }
+
+    /// Gives a private stack that can go on the page of this address, which it may need soon. The answer is whether there is such a cell, and room for it.
+    pub fn fetch_ahead(&self, stack: &mut PrivateStack<'_, L>, at: i64) -> bool
+        ensures { FillsAhead self.now at stack.old stack.new result }
+    {
+        match self.machine().page_at(at) {
+            Some(page) => stack.fill_ahead(at, page),
             None => false,
         }
     }
