@@ -2,7 +2,6 @@ ghost use Rattle.std.specs.Prelude.{◌≡◌, IfOk};
 ghost use Rattle.annotate.specs.Kept.{StaysAccepted};
 
 use crate::new_lines::{NewLines, without};
-use crate::plain::push_plain;
 use crate::trial::Trial;
 use annotate_lines::{Kind, proposed};
 use explain_facts::{match_text, spend};
@@ -74,7 +73,7 @@ fn refused_of(
     };
     trial.try_facts(program)?;
     if trial.refused.is_empty() {
-        push_plain(alloc, new, program, &mut trial.refused)?;
+        trial.try_plain(program)?;
     }
     if trial.refused.is_empty() {
         trial.try_zones(program)?;
