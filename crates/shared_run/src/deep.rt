@@ -42,10 +42,10 @@ impl<L: Bench> Board<'_, L> {
     pub fn fetch_ahead(&self, stack: &mut PrivateStack<'_, L>, at: i64) -> bool
         ensures { FillsAhead self.now at stack.old stack.new result }
     {
-        match self.machine().page_at(at) {
-            Some(page) => stack.fill_ahead(at, page),
-            None => false,
-        }
+        let Some(page) = self.machine().page_at(at) else {
+            return false;
+        };
+        stack.fill_ahead(at, page)
     }
 
     /// What a private stack did outside of the board, as steps of the seat's worker. So it is where the worker runs the base that was loaded, and each

@@ -254,11 +254,9 @@ impl<'p, L: Bench> PrivateStack<'p, L> {
         ensures filled { result ≡ true → log_of self.new.pile.cells.log ≡ filled_log (log_of self.old.pile.cells.log) at page.now }
         ensures unchanged { result ≡ false → self.new ≡ self.old }
     {
-        match self.standing {
-            Standing::Going => {
-                fill_pile_ahead(&mut self.pile, self.verified, self.places, at, page)
-            }
-            _ => false,
+        if self.standing != Standing::Going {
+            return false;
         }
+        fill_pile_ahead(&mut self.pile, self.verified, self.places, at, page)
     }
 }
