@@ -27,7 +27,7 @@ pub fn copied(alloc: Global, text: &[u8]) -> Result<Vec<u8>, Refused>
     Ok(out)
 }
 
-/// Takes the text with more lines if it is accepted, or the one without them is refused.
+/// Takes the text with more lines if it is accepted, or the one without them is refused. A text without more is not judged.
 fn judged(
     alloc: Global,
     state: RandomState,
@@ -37,6 +37,9 @@ fn judged(
 ) -> Result<Vec<u8>, Refused>
     ensures { IfOk result (λ out. StaysAccepted text.now out.items) }
 {
+    if more == text {
+        return copied(alloc, text);
+    }
     match verify_within(alloc, state, more, effort) {
         Ok(verified) => {
             drop(verified);
