@@ -125,7 +125,7 @@ fn with_kind(
     }
 }
 
-/// The same of each kind: zones and costs follow from facts.
+/// The same of each kind: what is sure first, since there is room for few lines at a block; zones and costs follow from facts.
 fn with_all(
     alloc: Global,
     state: RandomState,
@@ -134,6 +134,7 @@ fn with_all(
 ) -> Result<String, Unanswered> {
     let text = String::from_str(alloc, text)?;
     let text = with_kind(alloc, state, text, Kind::Facts, effort)?;
+    let text = with_kind(alloc, state, text, Kind::Guesses, effort)?;
     let text = with_kind(alloc, state, text, Kind::Steps, effort)?;
     let text = with_kind(alloc, state, text, Kind::Zones, effort)?;
     with_kind(alloc, state, text, Kind::Costs, effort)
