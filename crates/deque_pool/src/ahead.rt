@@ -7,6 +7,7 @@ const PAGE: i64 = 64;
 const MOST: usize = 8;
 
 /// Pages that a strand may need next: those before or behind one that it needs. To fetch them with it takes the board's lock once.
+#[derive(Clone, Copy)]
 pub(crate) struct Ahead {
     /// An address in the page that is needed.
     from: i64,
@@ -35,7 +36,7 @@ impl Ahead {
     }
 
     /// Gives them to the stack, as long as the board has them and there is room.
-    pub(crate) fn fetch<L: Bench>(&self, board: &Board<'_, L>, stack: &mut PrivateStack<'_, L>) {
+    pub(crate) fn fetch<L: Bench>(self, board: &Board<'_, L>, stack: &mut PrivateStack<'_, L>) {
         let mut at = self.from;
         for _page in 0..self.pages {
             at = at.saturating_add(self.step);
