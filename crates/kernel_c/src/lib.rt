@@ -10,7 +10,6 @@ mod handle;
 mod judge;
 mod kernel;
 mod loose;
-mod module;
 mod open;
 mod replay;
 mod rows;

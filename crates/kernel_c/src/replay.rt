@@ -109,8 +109,7 @@ fn replay_held(
 {
     match handle.taken() {
         Some(block) => {
-            let kernel = block.module().verified();
-            let outcome = replay_over(alloc, kernel, arguments, cells, workers, events);
+            let outcome = replay_over(alloc, block.module(), arguments, cells, workers, events);
             (outcome, Handle::kept(block))
         }
         None => (plain_outcome(CLOSED), Handle::closed(alloc)),
