@@ -70,7 +70,8 @@ pub fn judged_text(
 /// The lines that a text has more than another one.
 pub fn lines_put_in(alloc: Global, text: &[u8], more: &[u8]) -> Result<NewLines, AllocError> {
     let text = str::from_utf8(text).unwrap_or("");
-    NewLines::between(alloc, text, str::from_utf8(more).unwrap_or(""))
+    let more = str::from_utf8(more).unwrap_or("");
+    NewLines::between(alloc, text, more)
 }
 
 /// Why a text with lines put in is not verified, by the lines of the text without them; which line was put in is told beside it.

@@ -53,17 +53,17 @@ fn push_number(
 /// Adds a line of an explanation with the numbers of own lines.
 fn push_own(new: &NewLines, line: &str, out: &mut String) -> Result<(), AllocError> {
     let is_note = line.starts_with(" ");
-    let mut before = "";
+    let mut is_number = false;
     for (place, word) in line.split(' ').enumerate() {
         if place > 0 {
             out.push_str(" ")?;
         }
-        if before == "line" || before == "(line" {
+        if is_number {
             push_number(new, word, is_note, out)?;
         } else {
             out.push_str(word)?;
         }
-        before = word;
+        is_number = word == "line" || word == "(line";
     }
     Ok(())
 }
