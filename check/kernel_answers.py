@@ -85,7 +85,7 @@ def dot():
 
 def game_of_life():
     glider, pentomino = {(1, 2), (2, 3), (3, 1), (3, 2), (3, 3)}, {(30, 31), (30, 32), (31, 30), (31, 31), (32, 31)}
-    for t, alive, shown in ((2, glider, 512), (26, pentomino, 4096), (0, pentomino, 2560), (3, {(0, k) for k in range(63)}, 512)):
+    for t, alive, shown in ((2, glider, 512), (6, pentomino, 4096), (0, pentomino, 2560), (3, {(0, k) for k in range(63)}, 512)):
         cells = [1 if divmod(k, 64) in alive else 0 for k in range(64 * max(alive)[0] + 64)]
         for _ in range(2 * t):
             near = [((r + i) % 64, (c + j) % 64) for r, c in alive for i in (-1, 0, 1) for j in (-1, 0, 1) if i or j]
