@@ -197,8 +197,8 @@ def two_phases():
 
 def answers():
     """The text of kernels.txt."""
-    kernels = (bitonic_sort, crc, dot, game_of_life, histogram, lu_modulo, matrix_product, merge_sort, prefix_sum, queens, range_squares, sieve,
-               stencil, tree_sum, two_phases)
+    kernels = (bitonic_sort, breadth_first, crc, dot, game_of_life, histogram, lu_modulo, matrix_product, merge_sort, prefix_sum, queens,
+               range_squares, sieve, stencil, tree_sum, two_phases)
     return "".join(it + "\n" for kernel in kernels for it in kernel())
 
 
