@@ -197,7 +197,7 @@ def two_phases():
 
 def answers():
     """The text of kernels.txt."""
-    kernels = (bitonic_sort, breadth_first, crc, dot, game_of_life, histogram, lu_modulo, matrix_product, merge_sort, prefix_sum, queens,
+    kernels = (bitonic_sort, breadth_first, convex_hull, crc, dot, game_of_life, histogram, lu_modulo, matrix_product, merge_sort, prefix_sum, queens,
                range_squares, sieve, stencil, string_match, tree_sum, two_phases)
     return "".join(it + "\n" for kernel in kernels for it in kernel())
 
