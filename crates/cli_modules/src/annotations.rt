@@ -67,10 +67,15 @@ pub fn judged_text(
     Ok(more)
 }
 
+/// The text, where it is UTF-8.
+fn utf8_of(text: &[u8]) -> &str {
+    str::from_utf8(text).unwrap_or("")
+}
+
 /// The lines that a text has more than another one.
 pub fn lines_put_in(alloc: Global, text: &[u8], more: &[u8]) -> Result<NewLines, AllocError> {
-    let text = str::from_utf8(text).unwrap_or("");
-    let more = str::from_utf8(more).unwrap_or("");
+    let text = utf8_of(text);
+    let more = utf8_of(more);
     NewLines::between(alloc, text, more)
 }
 
@@ -87,7 +92,7 @@ pub fn in_own_lines(
     };
     let new = lines_put_in(alloc, text, more)?;
     if new.has(line) {
-        let more = str::from_utf8(more).unwrap_or("");
+        let more = utf8_of(more);
         let put_in = line_at(more, line).unwrap_or("").trim();
         let note = format!(in alloc; "of the line that was put in: {put_in}")?;
         beside.note(note.as_str())?;
