@@ -2,6 +2,7 @@
 
 use crate::ahead::Ahead;
 use crate::demand::Demand;
+use crate::locking::locked;
 use crate::workers::Worker;
 use shared_run::{Bench, Board, Loaded, MOST_INSTRUCTIONS, Published, Shared, Standing, Stepped};
 use std::sync::Wait;
@@ -58,7 +59,7 @@ pub(crate) fn load<L: Bench, R: Wait>(
     shared: &Shared<'_, L>,
     worker: &mut Worker<'_, L>,
 ) -> Loaded {
-    let board = shared.board.lock(rt);
+    let board = locked(rt, shared);
     board.fetch_base(&worker.seat, &mut worker.stack)
 }
 
@@ -70,7 +71,7 @@ fn fill<L: Bench, R: Wait>(
     at: i64,
 ) -> bool {
     let ahead = Ahead::of(&worker.stack, at);
-    let board = shared.board.lock(rt);
+    let board = locked(rt, shared);
     if !board.fetch_need(&mut worker.stack) {
         return false;
     }
@@ -226,7 +227,7 @@ pub(crate) fn post<L: Bench, R: Wait>(
     worker: &mut Worker<'_, L>,
     turn: Turn,
 ) -> Posted {
-    let mut board = shared.board.lock(rt);
+    let mut board = locked(rt, shared);
     let posted = put(&mut board, demand, worker, turn);
     drop(board);
     let offered = worker.tickets.len();

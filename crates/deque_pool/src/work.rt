@@ -3,6 +3,7 @@ ghost use Rattle.std.specs.Prelude.{◌≡◌, ◌↔◌};
 
 use crate::demand::Demand;
 use crate::gate::{Gate, Go};
+use crate::locking::locked;
 use crate::outlook::Left;
 use crate::turns::{Posted, Turn, go, load, post};
 use crate::workers::Worker;
@@ -78,7 +79,7 @@ fn begin<L: Bench, R: Wait>(
     demand: &Demand,
     worker: &Worker<'_, L>,
 ) -> Next {
-    let board = shared.board.lock(rt);
+    let board = locked(rt, shared);
     match board.machine().depth_of(worker.seat.worker()) {
         Some(_) => {
             demand.fall(1);
@@ -137,7 +138,7 @@ fn search<L: Bench, R: Wait>(
     if ticket.is_none() && rests < YIELDS {
         return Next::Rest { heard };
     }
-    let mut board = shared.board.lock(rt);
+    let mut board = locked(rt, shared);
     let claimed = match ticket {
         Some(ticket) => board.claim(&mut worker.seat, ticket),
         None => board.claim_first(&mut worker.seat),
