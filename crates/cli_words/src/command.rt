@@ -16,21 +16,42 @@ fn option<'a>(arg: Arg<'a>, part: &Part, action: ArgAction) -> Arg<'a> {
     arg.long(part.name).value_name(part.value).action(action)
 }
 
-fn arg_of<'a>(alloc: Global, part: &Part) -> Result<Arg<'a>, AllocError> {
-    let arg = Arg::new(alloc, part.name).help(part.help);
+/// A word that has to be there.
+fn word<'a>(arg: Arg<'a>, part: &Part) -> Arg<'a> {
+    arg.value_name(part.value).required(true)
+}
+
+fn flag<'a>(arg: Arg<'a>, part: &Part) -> Arg<'a> {
+    arg.long(part.name).action(ArgAction::SetTrue)
+}
+
+/// An option with a value for each name of a row.
+fn row<'a>(arg: Arg<'a>, part: &Part) -> Arg<'a> {
+    option(arg, part, ArgAction::Append)
+        .value_names(&ROW_NAMES)
+        .num_args(3)
+}
+
+/// An option with a value, which has to be there unless another one is.
+fn unless<'a>(arg: Arg<'a>, part: &Part, other: &'a str) -> Result<Arg<'a>, AllocError> {
+    option(arg, part, ArgAction::Set).required_unless_present(other)
+}
+
+/// What a part is to clap, by how it is given.
+fn given<'a>(arg: Arg<'a>, part: &Part) -> Result<Arg<'a>, AllocError> {
     match part.given {
-        Given::Word => Ok(arg.value_name(part.value).required(true)),
+        Given::Word => Ok(word(arg, part)),
         Given::Option => Ok(option(arg, part, ArgAction::Set)),
         Given::Required => Ok(option(arg, part, ArgAction::Set).required(true)),
-        Given::Unless(other) => option(arg, part, ArgAction::Set).required_unless_present(other),
+        Given::Unless(other) => unless(arg, part, other),
         Given::Repeated => Ok(option(arg, part, ArgAction::Append)),
-        Given::Row => Ok(
-            option(arg, part, ArgAction::Append)
-                .value_names(&ROW_NAMES)
-                .num_args(3),
-        ),
-        Given::Flag => Ok(arg.long(part.name).action(ArgAction::SetTrue)),
+        Given::Row => Ok(row(arg, part)),
+        Given::Flag => Ok(flag(arg, part)),
     }
+}
+
+fn arg_of<'a>(alloc: Global, part: &Part) -> Result<Arg<'a>, AllocError> {
+    given(Arg::new(alloc, part.name).help(part.help), part)
 }
 
 fn args_for<'a>(alloc: Global, parts: &[Part]) -> Result<Vec<Arg<'a>>, AllocError> {

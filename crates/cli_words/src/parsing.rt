@@ -1,19 +1,20 @@
 //! From words to a request.
 
-ghost use Rattle.std.specs.Prelude.{◌≡◌, IfOk, IfSome, map};
+ghost use Rattle.std.specs.Prelude.{◌≡◌, Some, IfOk, IfSome, map};
+ghost use Rattle.clap.specs.Words.{HasMatchesOf, IsParsedFrom, app_of, subcommand_name_of};
 ghost use Rattle.cli_words.specs.Asked.{IsAsked, word_of};
 
 use crate::annotating::read_annotating;
 use crate::command::{command, endings, fault_of};
 use crate::data::data_of;
-use crate::request::{Request, Verb, WordsFault};
+use crate::request::{Request, Telling, Verb, WordsFault};
 use crate::table::VERBS;
 use crate::values::{
     args_of, cells_of, fault_with, number_of, rule_of, settings_of, shell_of, speedup_of, table_of,
     word_named, workers_of, written_file, wrong_value,
 };
-use clap::ArgMatches;
-use std::alloc::Global;
+use clap::{ArgMatches, Command};
+use std::alloc::{AllocError, Global};
 
 /// Reads the options of a verb that runs the module.
 fn read_running(
@@ -80,6 +81,21 @@ fn read_explain(
     read_show(alloc, matches, request)
 }
 
+/// Reads what is to be told of a run's events.
+fn read_told(
+    alloc: Global,
+    matches: &ArgMatches<'_>,
+    telling: &mut Telling,
+) -> Result<(), AllocError> {
+    telling.trace = matches.get_flag("trace");
+    telling.stats = matches.get_flag("stats");
+    telling.save = written_file(alloc, matches, "save")?;
+    telling.picture = written_file(alloc, matches, "picture")?;
+    telling.json = written_file(alloc, matches, "json")?;
+    telling.page = written_file(alloc, matches, "page")?;
+    Ok(())
+}
+
 /// Reads what is to be told of a run.
 fn read_telling(
     alloc: Global,
@@ -88,12 +104,7 @@ fn read_telling(
 ) -> Result<(), WordsFault>
     ensures { request.new.verb ≡ request.old.verb }
 {
-    request.telling.trace = matches.get_flag("trace");
-    request.telling.stats = matches.get_flag("stats");
-    request.telling.save = written_file(alloc, matches, "save")?;
-    request.telling.picture = written_file(alloc, matches, "picture")?;
-    request.telling.json = written_file(alloc, matches, "json")?;
-    request.telling.page = written_file(alloc, matches, "page")?;
+    read_told(alloc, matches, &mut request.telling)?;
     Ok(())
 }
 
@@ -193,18 +204,51 @@ fn verb_of(word: &str) -> Option<Verb>
     None
 }
 
+/// What a verb is asked of: a file, or a word in its place.
+fn subject_of(alloc: Global, verb: Verb, matches: &ArgMatches<'_>) -> Result<String, WordsFault> {
+    match verb {
+        Verb::Man => Ok(String::new(alloc)),
+        Verb::Completions => word_named(alloc, matches, "shell", "<SHELL>"),
+        _ => word_named(alloc, matches, "file", "<FILE>"),
+    }
+}
+
 /// What the words of a verb's own command ask for.
 fn request_for(alloc: Global, verb: Verb, matches: &ArgMatches<'_>) -> Result<Request, WordsFault>
     ensures { IfOk result (λ r. r.verb ≡ verb) }
 {
-    let file = match verb {
-        Verb::Man => String::new(alloc),
-        Verb::Completions => word_named(alloc, matches, "shell", "<SHELL>")?,
-        _ => word_named(alloc, matches, "file", "<FILE>")?,
-    };
+    let file = subject_of(alloc, verb, matches)?;
     let mut request = Request::of_file(alloc, verb, file);
     read_options(alloc, matches, &mut request)?;
     Ok(request)
+}
+
+/// What clap finds in the words of a command.
+fn matches_of<'a>(
+    alloc: Global,
+    command: Command<'a>,
+    words: &'a [&'a str],
+) -> Result<ArgMatches<'a>, WordsFault>
+    ensures parsed { IfOk result (IsParsedFrom command.entry) }
+    ensures matches { IfOk result (HasMatchesOf (app_of command.entry) (map (λ w. w.now) words.entry.now)) }
+{
+    match command.try_get_matches_from(words) {
+        Ok(matches) => Ok(matches),
+        Err(error) => Err(fault_of(alloc, error)),
+    }
+}
+
+/// The request of what clap found.
+fn request_of(alloc: Global, matches: &ArgMatches<'_>) -> Result<Request, WordsFault>
+    ensures { IfOk result (λ r. subcommand_name_of matches.now ≡ Some (word_of r.verb)) }
+{
+    let Some((word, its_matches)) = matches.subcommand() else {
+        return Err(wrong_value(alloc, "<COMMAND>", ""));
+    };
+    match verb_of(word) {
+        Some(verb) => request_for(alloc, verb, its_matches),
+        None => Err(wrong_value(alloc, "<COMMAND>", word)),
+    }
 }
 
 /// Reads the program's words, the program's own name first.
@@ -212,15 +256,7 @@ pub fn words<'a>(alloc: Global, words: &'a [&'a str]) -> Result<Request, WordsFa
     ensures { IfOk result (λ r. IsAsked (map (λ w. w.now) words.now) r.verb) }
 {
     let endings = endings(alloc)?;
-    let parsed = match command(alloc, endings.as_slice())?.try_get_matches_from(words) {
-        Ok(matches) => matches,
-        Err(error) => return Err(fault_of(alloc, error)),
-    };
-    let Some((word, matches)) = parsed.subcommand() else {
-        return Err(wrong_value(alloc, "<COMMAND>", ""));
-    };
-    match verb_of(word) {
-        Some(verb) => request_for(alloc, verb, matches),
-        None => Err(wrong_value(alloc, "<COMMAND>", word)),
-    }
+    let command = command(alloc, endings.as_slice())?;
+    let matches = matches_of(alloc, command, words)?;
+    request_of(alloc, &matches)
 }
