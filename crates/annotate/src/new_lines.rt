@@ -33,12 +33,12 @@ impl NewLines {
 
     /// The line, without those that were put in, that this one is or stands behind; counted from 1.
     pub fn own_line(&self, line: u32) -> u32 {
-        let mut own = 0u32;
+        let mut own = line;
         let mut number = 0u32;
         for mark in &self.marks {
             number = number.saturating_add(1);
-            if number <= line && !*mark {
-                own = own.saturating_add(1);
+            if *mark && number <= line {
+                own = own.saturating_sub(1);
             }
         }
         own

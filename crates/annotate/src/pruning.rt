@@ -1,4 +1,4 @@
-ghost use Rattle.std.specs.Prelude.{IfOk};
+ghost use Rattle.std.specs.Prelude.{◌≡◌, IfOk};
 ghost use Rattle.annotate.specs.Kept.{IsAcceptedText};
 
 use crate::new_lines::without;
@@ -81,6 +81,16 @@ fn take_out_all(
     Ok(())
 }
 
+/// An accepted text as it was.
+fn copied_accepted(alloc: Global, text: &[u8]) -> Result<Vec<u8>, Unverified>
+    ensures { IfOk result (λ out. out.items ≡ text.now) }
+{
+    match copied(alloc, text) {
+        Ok(out) => Ok(out),
+        Err(refused) => Err(Unverified::Refused(refused)),
+    }
+}
+
 /// Takes the shorter one of two texts, if it is accepted, and else the other.
 fn kept(
     alloc: Global,
@@ -91,13 +101,19 @@ fn kept(
 ) -> Result<Vec<u8>, Unverified>
     ensures { IfOk result (λ out. IsAcceptedText out.items) }
 {
-    if let Ok(verified) = verify_within(alloc, state, shorter, effort) {
-        drop(verified);
-        return Ok(copied(alloc, shorter)?);
+    match verify_within(alloc, state, shorter, effort) {
+        Ok(verified) => {
+            drop(verified);
+            copied_accepted(alloc, shorter)
+        }
+        Err(_) => match verify_within(alloc, state, text, effort) {
+            Ok(verified) => {
+                drop(verified);
+                copied_accepted(alloc, text)
+            }
+            Err(unverified) => Err(unverified),
+        },
     }
-    let verified = verify_within(alloc, state, text, effort)?;
-    drop(verified);
-    Ok(copied(alloc, text)?)
 }
 
 fn text_of(alloc: Global, text: &[u8]) -> Result<String, Refused> {

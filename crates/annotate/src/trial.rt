@@ -1,6 +1,7 @@
 //! Which of the lines that were put in are refused, by the functions of the phases.
 
 use crate::new_lines::NewLines;
+use crate::plain::push_plain;
 use explain_costs::cost_findings;
 use explain_facts::Matched;
 use footprints::passes_on;
@@ -102,6 +103,13 @@ impl Trial<'_> {
             self.try_function(program, function)?;
         }
         Ok(())
+    }
+}
+
+impl Trial<'_> {
+    /// Refuses the `keeps` lines that say no more than another one of their block.
+    pub fn try_plain(&mut self, program: &Program) -> Result<(), Unanswered> {
+        push_plain(self.alloc, self.new, program, &mut self.refused)
     }
 }
 

@@ -2,7 +2,6 @@ ghost use Rattle.std.specs.Prelude.{◌≡◌, IfOk};
 ghost use Rattle.annotate.specs.Kept.{StaysAccepted};
 
 use crate::new_lines::{NewLines, without};
-use crate::plain::push_plain;
 use crate::trial::Trial;
 use annotate_lines::{Kind, proposed};
 use explain_facts::{match_text, spend};
@@ -28,7 +27,7 @@ pub fn copied(alloc: Global, text: &[u8]) -> Result<Vec<u8>, Refused>
     Ok(out)
 }
 
-/// Takes the text with more lines if it is accepted, or the one without them is refused.
+/// Takes the text with more lines if it is accepted, or the one without them is refused. A text without more is not judged.
 fn judged(
     alloc: Global,
     state: RandomState,
@@ -38,6 +37,9 @@ fn judged(
 ) -> Result<Vec<u8>, Refused>
     ensures { IfOk result (λ out. StaysAccepted text.now out.items) }
 {
+    if more == text {
+        return copied(alloc, text);
+    }
     match verify_within(alloc, state, more, effort) {
         Ok(verified) => {
             drop(verified);
@@ -74,7 +76,7 @@ fn refused_of(
     };
     trial.try_facts(program)?;
     if trial.refused.is_empty() {
-        push_plain(alloc, new, program, &mut trial.refused)?;
+        trial.try_plain(program)?;
     }
     if trial.refused.is_empty() {
         trial.try_zones(program)?;
@@ -123,7 +125,7 @@ fn with_kind(
     }
 }
 
-/// The same of each kind: zones and costs follow from facts.
+/// The same of each kind: what is sure first, since there is room for few lines at a block; zones and costs follow from facts.
 fn with_all(
     alloc: Global,
     state: RandomState,
@@ -132,6 +134,7 @@ fn with_all(
 ) -> Result<String, Unanswered> {
     let text = String::from_str(alloc, text)?;
     let text = with_kind(alloc, state, text, Kind::Facts, effort)?;
+    let text = with_kind(alloc, state, text, Kind::Guesses, effort)?;
     let text = with_kind(alloc, state, text, Kind::Steps, effort)?;
     let text = with_kind(alloc, state, text, Kind::Zones, effort)?;
     with_kind(alloc, state, text, Kind::Costs, effort)

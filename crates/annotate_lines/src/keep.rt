@@ -150,7 +150,7 @@ impl<'a> Known<'a> {
     }
 
     /// Whether something is guessed in the function, so that of two facts the one that says more may be none.
-    pub fn has_guesses(&self) -> bool {
+    fn has_guesses(&self) -> bool {
         for row in &self.guessed {
             if !row.is_empty() {
                 return true;
@@ -172,10 +172,12 @@ impl<'a> Known<'a> {
         fact < marks.len() && marks[fact]
     }
 
-    /// Whether another fact that is known at the block says more of the same registers with the same coefficients.
+    /// Whether another fact that is known at the block says more of the same registers with the same coefficients. Beside guesses only what heads state is
+    /// sure enough.
     pub fn is_weaker(&self, block: usize, fact: &Sum<'a>) -> bool {
+        let is_sure = !self.has_guesses();
         for number in 0..self.facts.sums.len() {
-            if self.is_known(block, number) {
+            if self.is_known(block, number) && (is_sure || self.is_given(block, number)) {
                 if let Some(apart) = fact.number_with(&self.facts.sums[number], -1) {
                     if apart > 0 {
                         return true;

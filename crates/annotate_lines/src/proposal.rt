@@ -20,8 +20,10 @@ const MOST_LINES: usize = 32;
 /// Which lines are proposed.
 #[derive(Clone, Copy, PartialEq, Eq)]
 pub enum Kind {
-    /// `keeps`, those too that may be so of counters and are to be tried.
+    /// `keeps` that all ways to a block bring along.
     Facts,
+    /// `keeps` that may be so of counters and are to be tried, with what follows from them.
+    Guesses,
     /// `shows`
     Steps,
     /// `pending`
@@ -52,7 +54,7 @@ fn is_kept<'a>(known: &Known<'a>, index: usize, number: usize, fact: &Sum<'a>) -
     known.is_known(index, number)
         && !known.is_given(index, number)
         && fact.is_form()
-        && (known.has_guesses() || !known.is_weaker(index, fact))
+        && !known.is_weaker(index, fact)
 }
 
 /// Adds the facts that are known at a block and not stated there, as many as there is room for.
@@ -185,7 +187,7 @@ impl<'a> Draft<'a> {
 
     /// Proposes what follows of facts at the heads of the blocks; what an entry knows stands at the function's head already.
     fn add_facts(&mut self, function: &'a Function) -> Result<(), AllocError> {
-        let known = known_of(self.alloc, function, true)?;
+        let known = known_of(self.alloc, function, self.kind == Kind::Guesses)?;
         let blocks = function.blocks.as_slice();
         for index in 1..blocks.len() {
             let mut lines = String::new(self.alloc);
@@ -275,7 +277,7 @@ impl<'a> Draft<'a> {
     fn add_functions(&mut self, functions: &'a [Function]) -> Result<(), AllocError> {
         for function in functions {
             match self.kind {
-                Kind::Facts => self.add_facts(function)?,
+                Kind::Facts | Kind::Guesses => self.add_facts(function)?,
                 Kind::Steps => self.add_steps(function)?,
                 Kind::Zones => self.add_zones(function)?,
                 Kind::Costs => self.add_costs(function)?,

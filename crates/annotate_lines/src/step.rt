@@ -1,4 +1,4 @@
-//! Bounds of products, and of what is made of them: lines to be tried.
+//! Bounds of products, and of what is made of them, each by lines that two facts show: lines to be tried.
 
 use crate::budget::greatest_apart;
 use crate::edge::register_of;
@@ -6,10 +6,12 @@ use crate::fact::is_exact;
 use crate::left::definition_of;
 use crate::sum::Sum;
 use std::alloc::{AllocError, Global};
-use syntax::{BinaryOperator, Instruction, Operand, Step};
+use syntax::{BinaryOperator, Inequality, Instruction, Operand, Step};
 
-/// The most registers of a block whose bounds are told.
+/// The most registers of a block whose bounds are told, and the most facts of one that are looked at.
 const MOST_TOLD: usize = 128;
+
+const MOST_FACTS: usize = 1_024;
 
 /// What is known in a block as far as one has come, and the registers whose bounds are told.
 #[derive(Drop)]
@@ -50,21 +52,75 @@ impl<'a> Walk<'a> {
         is_product(instruction)
     }
 
-    /// States that a register is at most or at least a number, and says so in a line.
-    fn tell(
-        &mut self,
-        name: &'a str,
-        sign: i128,
-        bound: i128,
-        out: &mut String,
-    ) -> Result<(), AllocError> {
-        let mut fact = Sum::number(self.alloc, bound);
-        fact.add_term(name, sign)?;
+    /// Says in a line that a sum is at least 0, and states it; nothing that is no form.
+    fn tell(&mut self, fact: Sum<'a>, out: &mut String) -> Result<(), AllocError> {
         if fact.is_form() {
             out.push_str("  ;! shows ")?;
             fact.spell_inequality(out)?;
             out.push_str("\n")?;
             self.facts.push(fact)?;
+        }
+        Ok(())
+    }
+
+    /// So many times a register, and the least number that this may come to.
+    fn part(&self, name: &'a str, times: i128) -> Result<Option<(Sum<'a>, i128)>, AllocError> {
+        let mut part = Sum::number(self.alloc, 0);
+        part.add_term(name, times)?;
+        let mut opposite = Sum::number(self.alloc, 0);
+        opposite.add(&part, -1)?;
+        Ok(match greatest_apart(self.facts.as_slice(), &opposite) {
+            Some(most) => Some((part, 0i128.saturating_sub(most))),
+            None => None,
+        })
+    }
+
+    /// Tells what so many times a register is at least.
+    fn tell_part(
+        &mut self,
+        name: &'a str,
+        times: i128,
+        out: &mut String,
+    ) -> Result<(), AllocError> {
+        match self.part(name, times)? {
+            Some((mut part, least)) => {
+                part.add_number(0i128.saturating_sub(least));
+                self.tell(part, out)
+            }
+            None => Ok(()),
+        }
+    }
+
+    /// Tells both bounds of the parts of a sum that are multiples of a register.
+    fn tell_parts(&mut self, sum: &Sum<'a>, out: &mut String) -> Result<(), AllocError> {
+        for (name, coefficient) in &sum.terms {
+            if coefficient.unsigned_abs() > 1 {
+                self.tell_part(name, *coefficient, out)?;
+                self.tell_part(name, 0i128.saturating_sub(*coefficient), out)?;
+            }
+        }
+        Ok(())
+    }
+
+    /// Tells what a register that is a sum is at least, or at most if the sign is minus: with one part after the other replaced by its bound.
+    fn tell_side(
+        &mut self,
+        name: &'a str,
+        sum: &Sum<'a>,
+        sign: i128,
+        out: &mut String,
+    ) -> Result<(), AllocError> {
+        let mut fact = Sum::number(self.alloc, 0);
+        fact.add_term(name, sign)?;
+        fact.add(sum, 0i128.saturating_sub(sign))?;
+        for (part_name, coefficient) in &sum.terms {
+            let times = sign.saturating_mul(*coefficient);
+            let Some((part, least)) = self.part(part_name, times)? else {
+                return Ok(());
+            };
+            fact.add(&part, 1)?;
+            fact.add_number(0i128.saturating_sub(least));
+            self.tell(fact.copy()?, out)?;
         }
         Ok(())
     }
@@ -76,17 +132,21 @@ impl<'a> Walk<'a> {
         sum: &Sum<'a>,
         out: &mut String,
     ) -> Result<(), AllocError> {
-        let most = greatest_apart(self.facts.as_slice(), sum);
-        let mut opposite = Sum::number(self.alloc, 0);
-        opposite.add(sum, -1)?;
-        let least = greatest_apart(self.facts.as_slice(), &opposite);
-        if let Some(least) = least {
-            self.tell(name, 1, least, out)?;
-        }
-        if let Some(most) = most {
-            self.tell(name, -1, most, out)?;
-        }
+        self.tell_parts(sum, out)?;
+        self.tell_side(name, sum, 1, out)?;
+        self.tell_side(name, sum, -1, out)?;
         self.told.push(name)?;
+        Ok(())
+    }
+
+    /// States what the text says before a step.
+    fn learn(&mut self, shows: &'a [Inequality]) -> Result<(), AllocError> {
+        for inequality in shows {
+            if self.facts.len() < MOST_FACTS {
+                let sum = Sum::of_inequality(self.alloc, inequality)?;
+                self.facts.push(sum)?;
+            }
+        }
         Ok(())
     }
 
@@ -103,6 +163,7 @@ impl<'a> Walk<'a> {
 
     /// Goes over a step, and adds the lines that may stand behind it.
     pub fn pass(&mut self, step: &'a Step, out: &mut String) -> Result<(), AllocError> {
+        self.learn(step.shows.as_slice())?;
         let instruction = &step.instruction;
         let Some(name) = register_of(instruction) else {
             return Ok(());

@@ -2,6 +2,7 @@
 //! (Blumofe and Leiserson, "Scheduling multithreaded computations by work stealing"). The lists of tickets are those of `ticket_lists`.
 #![tactic(auto)]
 
+mod ahead;
 mod alone;
 mod demand;
 mod figures;

@@ -1,5 +1,6 @@
-//! A strand: what a worker does outside of the board on a stack of its own. The board is locked only to load it, to fetch a cell, and to publish it.
+//! A strand: what a worker does outside of the board on a stack of its own. The board is locked only to load it, to fetch cells, and to publish it.
 
+use crate::ahead::Ahead;
 use crate::demand::Demand;
 use crate::workers::Worker;
 use shared_run::{Bench, Board, Loaded, MOST_INSTRUCTIONS, Published, Shared, Standing, Stepped};
@@ -61,10 +62,20 @@ pub(crate) fn load<L: Bench, R: Wait>(
     board.fetch_base(&worker.seat, &mut worker.stack)
 }
 
-/// Gives the worker's stack the cell that it needs; whether there is one.
-fn fill<L: Bench, R: Wait>(rt: &R, shared: &Shared<'_, L>, worker: &mut Worker<'_, L>) -> bool {
+/// Gives the worker's stack the cell at the address, which it needs, and pages that it may need next; whether there is such a cell.
+fn fill<L: Bench, R: Wait>(
+    rt: &R,
+    shared: &Shared<'_, L>,
+    worker: &mut Worker<'_, L>,
+    at: i64,
+) -> bool {
+    let ahead = Ahead::of(&worker.stack, at);
     let board = shared.board.lock(rt);
-    board.fetch_need(&mut worker.stack)
+    if !board.fetch_need(&mut worker.stack) {
+        return false;
+    }
+    ahead.fetch(&board, &mut worker.stack);
+    true
 }
 
 /// Whether others wait for a task that the strand would leave ready, and it is not too soon.
@@ -112,8 +123,8 @@ pub(crate) fn go<L: Bench, R: Wait>(
         match worker.stack.advance(slice) {
             Standing::Border => return Turn::Border,
             Standing::Spoilt => return Turn::Starved,
-            Standing::Need { .. } => {
-                if !fill(rt, shared, worker) {
+            Standing::Need { at } => {
+                if !fill(rt, shared, worker, at) {
                     return Turn::Limit;
                 }
             }

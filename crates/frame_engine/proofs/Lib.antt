@@ -18,3 +18,4 @@ pub mod Zeroing
 pub mod Touches
 pub mod Texts
 pub mod Meant
+pub mod Executed

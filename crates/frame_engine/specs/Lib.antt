@@ -15,3 +15,4 @@ pub mod Items
 pub mod Starts
 pub mod Access
 pub mod Accesses
+pub mod Progress

@@ -7,15 +7,13 @@ ghost use Rattle.semantics.specs.Frames as frames;
 ghost use Rattle.semantics.specs.Effect.{Plain, case_for, jumps, terminator_action, with_phis};
 ghost use Rattle.program.specs.declared.function.Program.{Program};
 ghost use Rattle.program.specs.declared.function.Block.{Block};
-ghost use Rattle.frame_code.specs.Codes.{edge_of, first_target, second_target};
 ghost use Rattle.frame_engine.specs.Names.{Sizes, sizes};
 ghost use Rattle.frame_engine.specs.Fits.{EdgeFits, EndingFits, HasTest};
 ghost use Rattle.frame_engine.specs.Border.{IsBorderEnding};
 ghost use Rattle.frame_engine.specs.Shows.{Layout, ShowsRegisters, TrapFree};
 
-use crate::entering::{enter, enter_along};
+use crate::entering::enter;
 use crate::words::{register, word};
-use frame_code::BlockCode;
 use program::{Block, BlockId, Case, Terminator};
 
 /// The case of a switch for the number.
@@ -74,10 +72,10 @@ fn next_block(regs: &[i64], terminator: &Terminator) -> Option<BlockId>
     }
 }
 
-/// Goes along the edge of any plain ending, apart from the loop's code: few blocks end with a switch.
+/// Goes along the edge of a plain ending and says to which block, apart from the loop's code: few blocks end with a switch.
 #[cold]
 #[inline(never)]
-fn leave_apart(
+pub fn leave(
     regs: &mut [i64],
     moves: &mut [i64],
     blocks: &[Block],
@@ -102,56 +100,5 @@ fn leave_apart(
             Some(target)
         }
         None => None,
-    }
-}
-
-/// Goes along the edge that a plain ending leads to, and says to which block. Each way of a branch has code of its own, so that the
-/// processor runs ahead on the way that it expects.
-#[inline(always)]
-pub fn leave(
-    regs: &mut [i64],
-    moves: &mut [i64],
-    blocks: &[Block],
-    from: BlockId,
-    code: &BlockCode,
-    terminator: &Terminator,
-) -> Option<BlockId>
-    requires fits { EndingFits (sizes (length regs.old) 0 0) (length moves.old) from.0 blocks.now terminator.now }
-    requires first { code.now.first ≡ edge_of from.0 blocks.now (first_target terminator.now) }
-    requires second { code.now.second ≡ edge_of from.0 blocks.now (second_target terminator.now) }
-    ensures length { length regs.new ≡ length regs.old }
-    ensures moves { length moves.new ≡ length moves.old }
-    ensures there { IfSome result (λ t. t.0 < length blocks.now) }
-    ensures goes { (prog : Program) (l : Layout) (p : Path) (f : frames.Frame) → ShowsRegisters l f.registers regs.old
-        → TrapFree (terminator_action prog p f terminator.now)
-        → IfSome result (λ t. terminator_action prog p f terminator.now ≡ Plain (jumps prog f t.0)) }
-    ensures entered { IfSome result (λ t. (l : Layout) (r s : frames.Registers) (b : Block) → slice_get blocks.now t.0 ≡ Some b
-        → ShowsRegisters l r regs.old → with_phis r from.0 b.phis r ≡ Some s → ShowsRegisters l s regs.new) }
-    ensures border { IfNone result (IsBorderEnding terminator.now) }
-    ensures unchanged { IfNone result (regs.new ≡ regs.old) }
-{
-    match terminator {
-        Terminator::Jump { target } => {
-            enter_along(regs, moves, blocks, from, &code.first);
-            Some(*target)
-        }
-        Terminator::Branch {
-            condition,
-            when_true,
-            when_false,
-        } => {
-            if register(regs, *condition) != 0 {
-                enter_along(regs, moves, blocks, from, &code.first);
-                Some(*when_true)
-            } else {
-                enter_along(regs, moves, blocks, from, &code.second);
-                Some(*when_false)
-            }
-        }
-        Terminator::Switch { .. } => leave_apart(regs, moves, blocks, from, terminator),
-        Terminator::Return { .. }
-        | Terminator::Detach { .. }
-        | Terminator::Reattach { .. }
-        | Terminator::Sync { .. } => None,
     }
 }

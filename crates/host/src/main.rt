@@ -1,4 +1,4 @@
-//! A host: takes a kernel that it did not write, turns it away where it is wrong or too dear, and runs it twice.
+//! A host: takes a kernel that it did not write, turns it away where it is wrong or too dear, and runs it three times.
 #![tactic(auto)]
 
 use std::alloc::{AllocError, Global};
@@ -7,8 +7,8 @@ use std::io::{BufWriter, Write};
 use std::process::ExitCode;
 use std::{env, fs, io};
 use tapir_host::{
-    Effort, Event, Memory, Path, Refused, RunFault, Unverified, Verified, replay, serial_run,
-    verify_within,
+    Decoded, Effort, Event, Memory, Path, Refused, RunFault, Unverified, Verified, replay,
+    serial_run_by, verify_within,
 };
 
 /// The most steps of search for a verdict.
@@ -41,23 +41,30 @@ fn turns(alloc: Global, rounds: u64) -> Result<Vec<Event>, AllocError> {
     Ok(events)
 }
 
-fn run_serial<W: Write>(
+/// Runs a kernel with each of these arguments. It is decoded once for all of them.
+fn run_serially<W: Write>(
     alloc: Global,
     kernel: &Verified,
     arguments: &[i64],
     output: &mut W,
 ) -> io::Result<()> {
-    let Ok(memory) = Memory::zeroed(alloc, kernel) else {
+    let Ok(code) = Decoded::of(alloc, kernel) else {
         return writeln!(output, "serially: out of memory");
     };
-    match serial_run(alloc, kernel, arguments, memory) {
-        Ok(run) => writeln!(
-            output,
-            "serially: {} after {} instructions",
-            run.result, run.instructions
-        ),
-        Err(fault) => writeln!(output, "serially: {}", reason(&fault)),
+    for argument in arguments {
+        let Ok(memory) = Memory::zeroed(alloc, kernel) else {
+            return writeln!(output, "serially: out of memory");
+        };
+        match serial_run_by(alloc, kernel, &code, &[*argument], memory) {
+            Ok(run) => writeln!(
+                output,
+                "serially: {} after {} instructions",
+                run.result, run.instructions
+            )?,
+            Err(fault) => writeln!(output, "serially: {}", reason(&fault))?,
+        }
     }
+    Ok(())
 }
 
 fn run_in_turns<W: Write>(
@@ -92,7 +99,6 @@ fn host<W: Write>(
     alloc: Global,
     state: RandomState,
     text: &[u8],
-    arguments: &[i64],
     output: &mut W,
 ) -> io::Result<()> {
     let kernel = match verify_within(alloc, state, text, &Effort::of(MOST_STEPS)) {
@@ -110,8 +116,8 @@ fn host<W: Write>(
             "too dear: {budget} instructions, {depth} frames deep"
         );
     }
-    run_serial(alloc, &kernel, arguments, output)?;
-    run_in_turns(alloc, &kernel, arguments, output)
+    run_serially(alloc, &kernel, &[7, 8], output)?;
+    run_in_turns(alloc, &kernel, &[7], output)
 }
 
 fn main(rt: HostRuntime) -> anyhow::Result<ExitCode> {
@@ -120,7 +126,7 @@ fn main(rt: HostRuntime) -> anyhow::Result<ExitCode> {
     let mut output = BufWriter::new(alloc, io::writer(&rt))?;
     for file in env::args(&rt)?.skip(1) {
         match fs::read(&rt, file.as_str()) {
-            Ok(text) => host(alloc, state, text.as_slice(), &[7], &mut output)?,
+            Ok(text) => host(alloc, state, text.as_slice(), &mut output)?,
             Err(_) => writeln!(output, "unreadable")?,
         }
     }

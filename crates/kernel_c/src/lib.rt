@@ -10,6 +10,7 @@ mod handle;
 mod judge;
 mod kernel;
 mod loose;
+mod module;
 mod open;
 mod replay;
 mod rows;

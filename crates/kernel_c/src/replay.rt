@@ -109,7 +109,8 @@ fn replay_held(
 {
     match handle.taken() {
         Some(block) => {
-            let outcome = replay_over(alloc, block.module(), arguments, cells, workers, events);
+            let kernel = block.module().verified();
+            let outcome = replay_over(alloc, kernel, arguments, cells, workers, events);
             (outcome, Handle::kept(block))
         }
         None => (plain_outcome(CLOSED), Handle::closed(alloc)),

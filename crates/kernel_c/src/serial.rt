@@ -9,12 +9,13 @@ ghost use Rattle.kernel_c.specs.Told.{bad_arguments, done, memory_from, other_ce
 
 use crate::cells::count_cells;
 use crate::judge::rejection;
+use crate::module::Module;
 use crate::seed::{Seed, verify_seeded};
 use crate::told::{
     BAD_ARGUMENTS, DONE, OTHER_CELLS, OUT_OF_FUEL, OUT_OF_MEMORY, Outcome, plain_outcome,
 };
 use outcome::{Finished, Memory, RunFault};
-use serial_machine::{Unfinished, serial_run_within};
+use serial_machine::Unfinished;
 use std::alloc::Global;
 use verifier::Verified;
 
@@ -59,7 +60,7 @@ pub fn finish(finished: &Finished, cells: &mut [i64]) -> Outcome
 /// Runs a module within some fuel over a row of its globals' numbers.
 pub fn run_over(
     alloc: Global,
-    kernel: &Verified,
+    kernel: &Module,
     fuel: u64,
     arguments: &[i64],
     cells: &mut [i64],
@@ -71,11 +72,11 @@ pub fn run_over(
     ensures kept { result.status ≢ done → cells.new ≡ cells.old }
     ensures statuses { IsRunStatus result.status }
 {
-    let memory = match filled(alloc, kernel, cells) {
+    let memory = match filled(alloc, kernel.verified(), cells) {
         Ok(memory) => memory,
         Err(status) => return plain_outcome(status),
     };
-    match serial_run_within(alloc, kernel, arguments, memory, fuel) {
+    match kernel.run(alloc, arguments, memory, fuel) {
         Ok(finished) => finish(&finished, cells),
         Err(Unfinished::OutOfFuel { .. }) => plain_outcome(OUT_OF_FUEL),
         Err(Unfinished::Fault(RunFault::BadArguments { requirement, .. })) => Outcome {
@@ -106,7 +107,10 @@ fn run_text(
     ensures statuses { IsOutcomeStatus result.status }
 {
     match verify_seeded(alloc, seed, text, effort) {
-        Ok(kernel) => run_over(alloc, &kernel, fuel, arguments, cells),
+        Ok(kernel) => match Module::of(alloc, kernel) {
+            Some(kernel) => run_over(alloc, &kernel, fuel, arguments, cells),
+            None => plain_outcome(OUT_OF_MEMORY),
+        },
         Err(why) => {
             let verdict = rejection(why);
             Outcome {

@@ -26,7 +26,7 @@ pub use frames::FrameView;
 pub use laws::ended_enables_nothing;
 pub use machine::Machine;
 pub use outcome::{Finished, Memory, RunFault, Verified, unmet_requirement};
-pub use piles::{advance_pile, blank_pile, fill_pile};
+pub use piles::{advance_pile, blank_pile, fill_pile, fill_pile_ahead};
 pub use private_stack::{Pause as PilePause, Pile};
 pub use ready::Spot;
 pub use schedule::replay;

@@ -71,6 +71,24 @@ pub fn fill_pile(pile: &mut Pile, verified: &Verified, places: &Places, at: i64,
     pile.fill(verified.program(), places, &at, page);
 }
 
+/// The page of the address, whose cells the pile may need soon, holds these values, where there is room for it; whether that is so.
+pub fn fill_pile_ahead(
+    pile: &mut Pile,
+    verified: &Verified,
+    places: &Places,
+    at: i64,
+    page: &[i64],
+) -> bool
+    requires few { length page.now ≤ 64 }
+    requires way { ∥ IsUnderWay verified.now places.now pile.old ∥₁ }
+    ensures only { pile.new ≡ record pile.old { cells = pile.new.cells } }
+    ensures filled { result ≡ true → log_of pile.new.cells.log ≡ filled_log (log_of pile.old.cells.log) at page.now }
+    ensures unchanged { result ≡ false → pile.new ≡ pile.old }
+    ensures way { ∥ IsUnderWay verified.now places.now pile.new ∥₁ }
+{
+    pile.fill_ahead(verified.program(), places, &at, page)
+}
+
 /// A pile's steps, if the pile fits. The answer is whether it does; where it does not, nothing changes.
 fn take_over(stage: &mut Stage<'_>, worker: u8, pile: &Pile) -> Result<bool, OutOfMemory>
     requires machine { ∥ IsMachine stage.old ∥₁ }

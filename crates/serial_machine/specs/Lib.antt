@@ -1,4 +1,5 @@
 pub mod Promise
+pub mod Decoding
 pub mod walks
 pub mod Safe
 pub mod Rows

@@ -1,7 +1,8 @@
 //! The serial run of a program that the verifier took never stops: it ends with the serial meaning, or memory is refused.
 //!
 //! `serial_run` is the serial run with that promise, which `specs/Promise.antt` says: on the engine's stack, over a row of the globals' numbers.
-//! `serial_run_within` is the same within some fuel.
+//! `serial_run_within` is the same within some fuel. Both decode the module for each run; `serial_run_by` and `serial_run_within_by` go by what was
+//! [`Decoded`] once for all its runs.
 //! The proof puts the schedule theorem together with what the engine asks for:
 //!
 //! - `walks`: what holds along the steps of a serial run, from its start on (`walks_go_on`, `walks_keep`, `walks_count`).
@@ -12,11 +13,13 @@
 //!   has values in its cells. `Ends`: what a run comes to is the run that the theorem speaks of.
 #![tactic(auto)]
 
+mod decoded;
 mod law;
 mod places;
 mod run;
 
+pub use decoded::Decoded;
 pub use law::{
     operands_fit, rows_mean, runs_are_safe, texts_fit, walks_count, walks_go_on, walks_keep,
 };
-pub use run::{Unfinished, serial_run, serial_run_within};
+pub use run::{Unfinished, serial_run, serial_run_by, serial_run_within, serial_run_within_by};

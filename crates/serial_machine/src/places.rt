@@ -9,7 +9,7 @@ use program::Program;
 use std::alloc::Global;
 
 /// Where objects of these sizes begin, one behind the other.
-fn starts(alloc: Global, sizes: &[u64]) -> Result<Seq<i64>, OutOfMemory>
+pub(crate) fn starts(alloc: Global, sizes: &[u64]) -> Result<Seq<i64>, OutOfMemory>
     ensures { IfOk result (λ starts. starts ≡ starts_from 0 sizes.now) }
 {
     let mut starts = Vec::new(alloc);
@@ -21,17 +21,17 @@ fn starts(alloc: Global, sizes: &[u64]) -> Result<Seq<i64>, OutOfMemory>
     Ok(Seq::from_vec(starts))
 }
 
-/// The places of a program's objects, where its globals have these sizes.
-pub(crate) fn places_of(
+/// The places of a program's objects, where its globals begin at these.
+pub(crate) fn places_from(
     alloc: Global,
     program: &Program,
-    sizes: &[u64],
+    globals: Seq<i64>,
 ) -> Result<Places, OutOfMemory>
-    ensures globals { IfOk result (λ places. places.globals ≡ starts_from 0 sizes.now) }
+    ensures globals { IfOk result (λ places. places.globals ≡ globals) }
     ensures codes { IfOk result (λ places. places.codes ≡ program_codes program.now) }
     ensures allocas { IfOk result (λ places. places.allocas ≡ map (λ (f : Function). alloca_starts f.allocas) program.now.functions) }
 {
     let mut places = Places::of_program(alloc, program)?;
-    places.globals = starts(alloc, sizes)?;
+    places.globals = globals;
     Ok(places)
 }

@@ -1,12 +1,18 @@
-ghost use Rattle.std.specs.Prelude.{◌≡◌, ◌≤◌, ℕ, Some, None, Err, IfNone, IfOk, IfSome};
+ghost use Rattle.std.specs.Prelude.{◌≡◌, ◌≤◌, ℕ, Some, None, Err, IfNone, IfOk, IfSome, map};
+ghost use Rattle.program.specs.declared.function.Function.{Function};
+ghost use Rattle.frame_code.specs.Codes.{program_codes};
+ghost use Rattle.frame_engine.specs.Starts.{alloca_starts, starts_from};
 ghost use Rattle.outcome.specs.Requirements.{unmet_in};
 ghost use Rattle.outcome.specs.store.Made.{HasGlobalCells};
+ghost use Rattle.outcome.specs.store.Rows.{sizes_of};
 ghost use Rattle.outcome.specs.verifier.Accepted.{IsAccepted};
 ghost use Rattle.outcome.specs.verifier.Budgets.{budget_of};
+ghost use Rattle.serial_machine.specs.Decoding.{IsCodeOf};
 ghost use Rattle.serial_machine.specs.Promise.{EndsOrLacksMemory, EndsWithinBudget, EndsWithinFuel, TakesMore};
 
-use crate::places::places_of;
-use frame_engine::most_moves;
+use crate::decoded::Decoded;
+use crate::places::{places_from, starts};
+use frame_engine::{Places, most_moves};
 use lists::OutOfMemory;
 use outcome::{Finished, Memory, RunFault, Verified, unmet_requirement};
 use program::Program;
@@ -23,15 +29,19 @@ pub enum Unfinished {
 }
 
 /// The run of arguments that the program takes, over a row of the globals' numbers; none where it does more instructions than the fuel allows.
-fn run_over_row(
+fn run_in_places(
     alloc: Global,
     program: &Program,
+    places: &Places,
     arguments: &[i64],
     memory: &Memory,
     budget: u64,
     fuel: u64,
 ) -> Result<Option<Finished>, OutOfMemory>
     requires accepted { IsAccepted program.now }
+    requires globals { places.now.globals ≡ starts_from 0 (sizes_of memory.now) }
+    requires codes { places.now.codes ≡ program_codes program.now }
+    requires allocas { places.now.allocas ≡ map (λ (f : Function). alloca_starts f.allocas) program.now.functions }
     requires taken { unmet_in program.now arguments.now ≡ None }
     requires cells { HasGlobalCells program.now memory.now }
     requires budget { budget ≡ budget_of program.now }
@@ -39,11 +49,9 @@ fn run_over_row(
     ensures within { IfOk result (λ end. IfSome end (λ done. done.instructions ≤ fuel)) }
     ensures beyond { IfOk result (λ end. IfNone end (TakesMore program.now arguments.now memory.now fuel)) }
 {
-    let sizes = memory.sizes()?;
-    let places = places_of(alloc, program, sizes.as_slice())?;
     let row = memory.row()?;
     let mut stack = Stack::begin(alloc, program, arguments, row, most_moves(program))?;
-    let ended = stack.run(program, &places, budget, fuel)?;
+    let ended = stack.run(program, places, budget, fuel)?;
     let Some(ended) = ended else {
         return Ok(None);
     };
@@ -54,6 +62,76 @@ fn run_over_row(
         instructions: ended.instructions,
         peak: ended.peak,
     }))
+}
+
+/// The same by the program's code. Memory with other cells than the program declares, which has them all, takes places of its own.
+fn run_by(
+    alloc: Global,
+    program: &Program,
+    code: &Decoded,
+    arguments: &[i64],
+    memory: &Memory,
+    budget: u64,
+    fuel: u64,
+) -> Result<Option<Finished>, OutOfMemory>
+    requires accepted { IsAccepted program.now }
+    requires code { IsCodeOf program.now code.now }
+    requires taken { unmet_in program.now arguments.now ≡ None }
+    requires cells { HasGlobalCells program.now memory.now }
+    requires budget { budget ≡ budget_of program.now }
+    ensures ends { IfOk result (λ end. IfSome end (EndsWithinBudget program.now arguments.now memory.now)) }
+    ensures within { IfOk result (λ end. IfSome end (λ done. done.instructions ≤ fuel)) }
+    ensures beyond { IfOk result (λ end. IfNone end (TakesMore program.now arguments.now memory.now fuel)) }
+{
+    let sizes = memory.sizes()?;
+    let globals = starts(alloc, sizes.as_slice())?;
+    if code.has_globals_at(globals.as_slice()) {
+        return run_in_places(
+            alloc,
+            program,
+            &code.places,
+            arguments,
+            memory,
+            budget,
+            fuel,
+        );
+    }
+    let places = places_from(alloc, program, globals)?;
+    run_in_places(alloc, program, &places, arguments, memory, budget, fuel)
+}
+
+/// The same as [`serial_run_within`], by the module's code.
+///
+/// # Errors
+///
+/// Those of [`serial_run_within`].
+pub fn serial_run_within_by(
+    alloc: Global,
+    verified: &Verified,
+    code: &Decoded,
+    arguments: &[i64],
+    memory: Memory,
+    fuel: u64,
+) -> Result<Finished, Unfinished>
+    requires code { IsCodeOf verified.now code.now }
+    requires cells { HasGlobalCells verified.now memory }
+    ensures refused { (requirement : ℕ) → unmet_in verified.now arguments.now ≡ Some requirement
+        → result ≡ Err (Unfinished.Fault (RunFault.BadArguments requirement memory)) }
+    ensures ends { unmet_in verified.now arguments.now ≡ None → EndsWithinFuel verified.now arguments.now memory fuel result }
+{
+    let program = verified.program();
+    if let Some(requirement) = unmet_requirement(program, arguments) {
+        return Err(Unfinished::Fault(RunFault::BadArguments {
+            requirement,
+            memory,
+        }));
+    }
+    let budget = verified.budget();
+    match run_by(alloc, program, code, arguments, &memory, budget, fuel) {
+        Ok(Some(finished)) => Ok(finished),
+        Ok(None) => Err(Unfinished::OutOfFuel { memory }),
+        Err(OutOfMemory) => Err(Unfinished::Fault(RunFault::OutOfMemory)),
+    }
 }
 
 /// The same as [`serial_run`], of a run that does no more instructions than the fuel allows.
@@ -80,10 +158,35 @@ pub fn serial_run_within(
             memory,
         }));
     }
-    match run_over_row(alloc, program, arguments, &memory, verified.budget(), fuel) {
-        Ok(Some(finished)) => Ok(finished),
-        Ok(None) => Err(Unfinished::OutOfFuel { memory }),
+    match Decoded::of(alloc, verified) {
+        Ok(code) => serial_run_within_by(alloc, verified, &code, arguments, memory, fuel),
         Err(OutOfMemory) => Err(Unfinished::Fault(RunFault::OutOfMemory)),
+    }
+}
+
+/// The same as [`serial_run`], by the module's code.
+///
+/// # Errors
+///
+/// Those of [`serial_run`].
+#[tactic(auto, using(crate::proofs::Ends::lasts))]
+pub fn serial_run_by(
+    alloc: Global,
+    verified: &Verified,
+    code: &Decoded,
+    arguments: &[i64],
+    memory: Memory,
+) -> Result<Finished, RunFault>
+    requires code { IsCodeOf verified.now code.now }
+    requires cells { HasGlobalCells verified.now memory }
+    ensures refused { (requirement : ℕ) → unmet_in verified.now arguments.now ≡ Some requirement → result ≡ Err (RunFault.BadArguments requirement memory) }
+    ensures ends { unmet_in verified.now arguments.now ≡ None → EndsOrLacksMemory verified.now arguments.now memory result }
+{
+    let fuel = verified.budget();
+    match serial_run_within_by(alloc, verified, code, arguments, memory, fuel) {
+        Ok(finished) => Ok(finished),
+        Err(Unfinished::Fault(fault)) => Err(fault),
+        Err(Unfinished::OutOfFuel { .. }) => unreachable!(),
     }
 }
 

@@ -1,9 +1,13 @@
 -- What a private stack keeps, and what a publication answers.
-use Rattle.std.proofs.Common.{◌≡◌, ◌≢◌, ℕ, refl, sym, ap, ◌∙◌, subst, length}
+use Rattle.std.proofs.Common.{◌≡◌, ◌≢◌, ℕ, ℤ, refl, sym, ap, ◌∙◌, subst, length, Bool, true, false, List}
+use Rattle.std.specs.Prelude.{IsSome}
 use Rattle.std.proofs.Math.Logic.{∥∥₁_map}
 use Rattle.program.specs.declared.function.Program.{Program}
 use Rattle.schedule_workers.specs.Starts.{ArePlaces}
 use Rattle.schedule_core.specs.frame_engine.declared.activation.Places.{Places}
+use Rattle.schedule_core.specs.frame_engine.Flat.{cell_in}
+use Rattle.schedule_core.specs.private_stack_log.Logs.{filled_log, page_around}
+use Rattle.schedule_core.specs.private_stack_log.Tables.{log_of}
 use Rattle.schedule_core.specs.private_stack.Along.{IsUnderWay}
 use Rattle.schedule_core.specs.private_stack.Going.{IsGoing}
 use Rattle.schedule_core.specs.private_stack.declared.pile.Pile.{Pile}
@@ -12,7 +16,8 @@ use Rattle.schedule_core.specs.private_stack.declared.going.Pause.TheVariants as
 use Rattle.schedule_core.specs.Piles.{HasRoomFor, IsPileOf}
 use Rattle.shared_run.specs.declared.stack.Standing.{Standing}
 use Rattle.shared_run.specs.declared.stack.Standing.TheVariants.{Blank, Going, Border, Full, Need, Spoilt}
-use Rattle.shared_run.specs.Stacks.{Holds, IsUp, Onward}
+use Rattle.shared_run.specs.Stacks.{Apart, FillsAhead, Holds, IsUp, Onward}
+use Rattle.shared_run.specs.Story.{Story}
 
 module _ (prog : Program) (places : Places) (x : Pile) where
   pub under_way : (s : Standing) → Holds prog places x s → IsUp s → ∥ IsUnderWay prog places x ∥₁
@@ -41,3 +46,17 @@ module _ (prog : Program) (places : Places) (x : Pile) where
   pub pile_of : (code : Program) (s : Standing) → prog ≡ code → ArePlaces prog places → Holds prog places x s → IsUp s → IsPileOf code x
   pile_of code s is are h up =
       subst (λ (q : Program). IsPileOf q x) is (record { places = places; places_are = are; way = under_way s h up })
+
+-- ---- a page that is given ahead
+
+pub holds_going : (prog : Program) (places : Places) (x : Pile) (s : Standing) → s ≡ Going → HasRoomFor prog x → ∥ IsUnderWay prog places x ∥₁ → Holds prog places x s
+holds_going prog places x s is room way = subst (λ y. Holds prog places x y) (sym is) (room, way)
+
+pub filled_ahead : (s : Story) (at : ℤ) (x y : Apart) (page : List ℤ) (done : Bool) → page ≡ page_around s.stage.run.cells.cells.items at → IsSome (cell_in s.stage.run.cells.cells.items at) →
+    (done ≡ true → (x.standing ≡ Going) × (y.standing ≡ Going)) → (done ≡ true → y.pile ≡ record x.pile { cells = y.pile.cells }) →
+    (done ≡ true → log_of y.pile.cells.log ≡ filled_log (log_of x.pile.cells.log) at page) → (done ≡ false → y ≡ x) → FillsAhead s at x y done
+filled_ahead s at x y page true is there goes only filled same = (
+  (goes refl).0,
+  record { there = there; goes_on = (goes refl).1; only = only refl; filled = filled refl ∙ ap (λ values. filled_log (log_of x.pile.cells.log) at values) is },
+)
+filled_ahead s at x y page false is there goes only filled same = same refl

@@ -62,13 +62,22 @@ Loads s p y loaded.Frame = (y.standing ≡ Going) × IsBegun s.stage p.worker y.
 Loads s p y loaded.Idle = (state_of s).hands p.worker ≡ None
 Loads s p y loaded.OutOfMemory = ⊤
 
+-- it goes on with the page of the address, as the board has it
+pub record IsFilled (s : Story) (at : ℤ) (x y : Apart) : Type 0 where
+  pub there : IsSome (cell_in s.stage.run.cells.cells.items at)
+  pub goes_on : y.standing ≡ Going
+  pub only : y.pile ≡ record x.pile { cells = y.pile.cells }
+  pub filled : log_of y.pile.cells.log ≡ filled_log (log_of x.pile.cells.log) at (page_around s.stage.run.cells.cells.items at)
+
 -- the page of the cell that it needs; or there is none, or it needs none, and it is as it was
 abbrev pub Fills : Story → Apart → Apart → Bool → Type 0
-Fills s x y true =
-    (at : ℤ) × (x.standing ≡ Need at) × IsSome (cell_in s.stage.run.cells.cells.items at) × (y.standing ≡ Going) ×
-    (y.pile ≡ record x.pile { cells = y.pile.cells }) ×
-    (log_of y.pile.cells.log ≡ filled_log (log_of x.pile.cells.log) at (page_around s.stage.run.cells.cells.items at))
+Fills s x y true = (at : ℤ) × (x.standing ≡ Need at) × IsFilled s at x y
 Fills s x y false = (y ≡ x) × ((at : ℤ) → x.standing ≡ Need at → cell_in s.stage.run.cells.cells.items at ≡ None)
+
+-- a page beside those that it needs, where it goes on; or it is as it was
+abbrev pub FillsAhead : Story → ℤ → Apart → Apart → Bool → Type 0
+FillsAhead s at x y true = (x.standing ≡ Going) × IsFilled s at x y
+FillsAhead s at x y false = y ≡ x
 
 -- ---- what is put on the board
 

@@ -1,6 +1,6 @@
 //! What a board does with its workers' private stacks.
 ghost use Rattle.std.specs.Prelude.{OnOk};
-ghost use Rattle.shared_run.specs.Stacks.{AreReadyTickets, Fills, Loads, Publishes};
+ghost use Rattle.shared_run.specs.Stacks.{AreReadyTickets, Fills, FillsAhead, Loads, Publishes};
 
 use crate::answers::{Loaded, Published};
 use crate::bench::Bench;
@@ -36,6 +36,16 @@ impl<L: Bench> Board<'_, L> {
             }
             None => false,
         }
+    }
+
+    /// Gives a private stack that can go on the page of this address, which it may need soon. The answer is whether there is such a cell, and room for it.
+    pub fn fetch_ahead(&self, stack: &mut PrivateStack<'_, L>, at: i64) -> bool
+        ensures { FillsAhead self.now at stack.old stack.new result }
+    {
+        let Some(page) = self.machine().page_at(at) else {
+            return false;
+        };
+        stack.fill_ahead(at, page)
     }
 
     /// What a private stack did outside of the board, as steps of the seat's worker. So it is where the worker runs the base that was loaded, and each

@@ -12,6 +12,7 @@ use lists::OutOfMemory;
 use program::{Ending, Terminator};
 use schedule_core::{
     Machine, Pile, PilePause, Places, Verified, advance_pile, blank_pile, fill_pile,
+    fill_pile_ahead,
 };
 use std::alloc::Global;
 use std::marker::{Model, PhantomData};
@@ -238,5 +239,24 @@ impl<'p, L: Bench> PrivateStack<'p, L> {
     {
         fill_pile(&mut self.pile, self.verified, self.places, at, page);
         self.standing = Standing::Going;
+    }
+
+    /// Whether the page of the cell at this address is in use.
+    pub fn has_page(&self, at: i64) -> bool {
+        self.pile.has_page(&at)
+    }
+
+    /// The page of this address holds these values, where the stack can go on and there is room for it; whether that is so.
+    pub(crate) fn fill_ahead(&mut self, at: i64, page: &[i64]) -> bool
+        requires few { length page.now ≤ 64 }
+        ensures goes_on { result ≡ true → (self.old.standing ≡ Standing.Going) × (self.new.standing ≡ Standing.Going) }
+        ensures only { result ≡ true → self.new.pile ≡ record self.old.pile { cells = self.new.pile.cells } }
+        ensures filled { result ≡ true → log_of self.new.pile.cells.log ≡ filled_log (log_of self.old.pile.cells.log) at page.now }
+        ensures unchanged { result ≡ false → self.new ≡ self.old }
+    {
+        if self.standing != Standing::Going {
+            return false;
+        }
+        fill_pile_ahead(&mut self.pile, self.verified, self.places, at, page)
     }
 }

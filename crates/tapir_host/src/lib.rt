@@ -8,11 +8,15 @@
 //! let mut memory = Memory::zeroed(alloc, &kernel)?;                              // made for this kernel
 //! memory.set_global("a", 0, 5);                                                  // a number in a cell
 //! let run = serial_run(alloc, &kernel, &[7], memory)?;                           // result, memory, instructions, peak
+//!
+//! let code = Decoded::of(alloc, &kernel)?;                                       // decoded once for many runs
+//! let other = serial_run_by(alloc, &kernel, &code, &[8], memory)?;               // of other memory
 //! ```
 //!
 //! - [`verify_within`] judges within an [`Effort`], for texts of strangers; [`verify`] takes as long as it takes. [`explain`] says in words why a text
 //!   is refused, and [`rule_text`] what a rule asks.
-//! - [`serial_run`] runs serially, and [`serial_run_within`] within some fuel. [`run`] runs on threads, whose [`Gate`] may hold or stop them, and
+//! - [`serial_run`] runs serially, and [`serial_run_within`] within some fuel. [`serial_run_by`] and [`serial_run_within_by`] do the same by what was
+//!   [`Decoded`] once for all runs. [`run`] runs on threads, whose [`Gate`] may hold or stop them, and
 //!   [`run_recorded`] hands out what they did. [`replay`] runs a list of [`Event`]s, and a [`Machine`] does one event at a time.
 //! - A [`Verified`] is good for any number of runs, and threads may share it. Whatever the schedule, a run that ends has the serial answer.
 #![tactic(auto)]
@@ -22,5 +26,7 @@ pub use explain::{Explanation, explain, rule_text, told};
 pub use frame::Path;
 pub use outcome::{Finished, Memory, RunFault};
 pub use schedule_core::{Event, Machine, replay};
-pub use serial_machine::{Unfinished, serial_run, serial_run_within};
+pub use serial_machine::{
+    Decoded, Unfinished, serial_run, serial_run_by, serial_run_within, serial_run_within_by,
+};
 pub use verifier::{Effort, Refused, Unverified, Verified, verify, verify_within};

@@ -21,6 +21,8 @@ pub enum Call {
     On,
     /// Fetches the cell that it needs.
     Need,
+    /// Fetches the page of a cell ahead, by its number from 1.
+    Ahead,
     Publish,
 }
 
@@ -38,6 +40,7 @@ impl Call {
             "base" => Some(Call::Base),
             "on" => Some(Call::On),
             "need" => Some(Call::Need),
+            "ahead" => Some(Call::Ahead),
             "publish" => Some(Call::Publish),
             _ => None,
         }
@@ -66,7 +69,7 @@ impl Call {
     }
 }
 
-/// What a line asks for: the worker's call, how often, by how many instructions, and by which ticket.
+/// What a line asks for: the worker's call, how often, by how many instructions or which cell, and by which ticket.
 #[derive(Clone, Copy)]
 pub struct Asked {
     pub worker: usize,
@@ -90,8 +93,8 @@ fn meant(tickets: &[Ticket], word: &str) -> Option<Ticket> {
     }
 }
 
-/// What is asked by `step 0 6`, which is six steps of worker 0, `on 0 6`, by so many instructions at once, `claim 1 2`, by the second ticket, or a call
-/// with a worker alone.
+/// What is asked by `step 0 6`, which is six steps of worker 0, `on 0 6`, by so many instructions at once, `ahead 0 6`, by the sixth cell, `claim 1 2`, by the
+/// second ticket, or a call with a worker alone.
 pub fn asked_in(line: &str, tickets: &[Ticket]) -> Option<Asked> {
     let (word, rest) = line.split_once(" ")?;
     let (worker, rest) = rest.split_once(" ").unwrap_or((rest, ""));

@@ -102,6 +102,16 @@ impl<'p, L: Bench> Player<'p, L> {
         }
     }
 
+    /// Gives the stack the page of the cell of this number, from 1.
+    fn ahead(&mut self, board: &Board<'_, L>, number: u64) -> Answer {
+        let at = i64::try_from(number.saturating_sub(1)).unwrap_or(i64::MAX);
+        if board.fetch_ahead(&mut self.stack, at) {
+            Answer::Done("page")
+        } else {
+            Answer::Not("no page")
+        }
+    }
+
     /// Puts the stack on the board, and gets the tickets of the tasks that are ready then.
     fn publish(&mut self, board: &mut Board<'_, L>, seat: &mut Seat<L>) -> Answer {
         let levels = self.stack.frames_below();
@@ -135,6 +145,7 @@ impl<'p, L: Bench> Player<'p, L> {
             Call::On => self.on(&*board, &*seat, asked.count),
             Call::Need if board.fetch_need(&mut self.stack) => Answer::Done("cell"),
             Call::Need => Answer::Not("no need"),
+            Call::Ahead => self.ahead(&*board, asked.count),
             Call::Publish => self.publish(board, seat),
         }
     }
@@ -148,6 +159,7 @@ impl<'p, L: Bench> Player<'p, L> {
         match asked.call {
             Call::Step | Call::Go | Call::Base => !is_idle,
             Call::Need => matches!(standing, Standing::Need { .. }),
+            Call::Ahead => standing == Standing::Going,
             Call::Publish => {
                 !matches!(standing, Standing::Blank | Standing::Spoilt) && self.based == self.done
             }

@@ -16,9 +16,9 @@ use std::alloc::{AllocError, Global};
 const MOST_CALLS: u32 = 4000;
 
 /// The calls that a seed draws, as often as they stand here.
-const WORDS: [&str; 18] = [
+const WORDS: [&str; 19] = [
     "step", "step", "commit", "commit", "claim", "first", "clear", "fetch", "advance", "go",
-    "base", "base", "on", "on", "need", "need", "publish", "publish",
+    "base", "base", "on", "on", "need", "need", "ahead", "publish", "publish",
 ];
 
 /// By how many instructions a private stack goes on, as often as they stand here.
