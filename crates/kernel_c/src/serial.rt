@@ -9,7 +9,7 @@ ghost use Rattle.kernel_c.specs.Told.{bad_arguments, done, memory_from, other_ce
 
 use crate::cells::count_cells;
 use crate::judge::rejection;
-use crate::module::Module;
+use crate::prepared::Prepared;
 use crate::seed::{Seed, verify_seeded};
 use crate::told::{
     BAD_ARGUMENTS, DONE, OTHER_CELLS, OUT_OF_FUEL, OUT_OF_MEMORY, Outcome, plain_outcome,
@@ -60,7 +60,7 @@ pub fn finish(finished: &Finished, cells: &mut [i64]) -> Outcome
 /// Runs a module within some fuel over a row of its globals' numbers.
 pub fn run_over(
     alloc: Global,
-    kernel: &Module,
+    kernel: &Prepared,
     fuel: u64,
     arguments: &[i64],
     cells: &mut [i64],
@@ -107,7 +107,7 @@ fn run_text(
     ensures statuses { IsOutcomeStatus result.status }
 {
     match verify_seeded(alloc, seed, text, effort) {
-        Ok(kernel) => match Module::of(alloc, kernel) {
+        Ok(kernel) => match Prepared::of(alloc, kernel) {
             Some(kernel) => run_over(alloc, &kernel, fuel, arguments, cells),
             None => plain_outcome(OUT_OF_MEMORY),
         },

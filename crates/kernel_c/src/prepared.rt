@@ -1,4 +1,4 @@
-//! A verified module, decoded for its runs.
+//! A verified module, prepared for its runs.
 
 ghost use Rattle.std.specs.Prelude.{◌≡◌, ℕ, Err, IfSome, None, Some};
 ghost use Rattle.outcome.specs.Requirements.{unmet_in};
@@ -12,12 +12,12 @@ use std::marker::Model;
 use verifier::Verified;
 
 /// A verified module, which is decoded once for all its runs. Contracts see it as its program.
-pub struct Module {
+pub struct Prepared {
     verified: Verified,
     code: Decoded,
 }
 
-impl Model for Module {
+impl Model for Prepared {
     ghost use Rattle.program.specs.declared.function.Program.{Program};
     ghost use Rattle.serial_machine.specs.Decoding.{IsCodeOf};
 
@@ -29,22 +29,22 @@ impl Model for Module {
 }
 
 /// Written out, so that it is proved once.
-impl Drop for Module {
+impl Drop for Prepared {
     fn drop(self) {
-        let Module {
+        let Prepared {
             verified: _,
             code: _,
         } = self;
     }
 }
 
-impl Module {
+impl Prepared {
     /// Decodes a module. Where memory is refused, it is let go.
-    pub fn of(alloc: Global, verified: Verified) -> Option<Module>
+    pub fn of(alloc: Global, verified: Verified) -> Option<Prepared>
         ensures { IfSome result (λ kernel. kernel ≡ verified) }
     {
         match Decoded::of(alloc, &verified) {
-            Ok(code) => Some(Module { verified, code }),
+            Ok(code) => Some(Prepared { verified, code }),
             Err(_) => None,
         }
     }
