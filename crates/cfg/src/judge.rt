@@ -7,7 +7,7 @@ ghost use Rattle.cfg.specs.Rules.{leads_to, HasPredecessor, ArePhisMatched, IsPh
 ghost use Rattle.cfg.specs.Rules.{IsEndBroken, IsFunctionRight, IsFunctionBroken};
 
 use crate::reach::reached;
-use crate::structure::{BlockEdges, Edge};
+use crate::structure::BlockEdges;
 use program::{Block, Function, Phi, PhiEntry};
 use reachability::{no_marks, one_mark};
 use refusal::{Broken, lower, rule};
@@ -23,19 +23,12 @@ fn on_paths(alloc: Global, blocks: &[BlockEdges]) -> Result<Vec<bool>, AllocErro
     Ok(reached(alloc, blocks, &starts, &stops)?)
 }
 
-/// Whether one of the edges leads to a block.
-fn is_leading(edges: &[Edge], block: usize) -> bool
-    ensures { result ≡ leads_to block edges.now }
-{
-    edges.iter().any(|edge| edge.to.0 == block)
-}
-
 /// Whether a block has a predecessor.
 fn is_followed(blocks: &[BlockEdges], block: usize) -> bool
     ensures { IsTrue result ↔ HasPredecessor blocks.now block }
 {
     for body in blocks {
-        if is_leading(body.edges.as_slice(), block) {
+        if body.leads_to(block) {
             return true;
         }
     }
@@ -48,7 +41,7 @@ fn predecessors(alloc: Global, blocks: &[BlockEdges], block: usize) -> Result<Ve
 {
     let mut marks = Vec::with_capacity(alloc, blocks.len())?;
     for body in blocks {
-        marks.push(is_leading(body.edges.as_slice(), block))?;
+        marks.push(body.leads_to(block))?;
     }
     Ok(marks)
 }

@@ -35,6 +35,21 @@ pub struct BlockEdges {
     pub edges: Seq<Edge>,
 }
 
+impl BlockEdges {
+    ghost use Rattle.std.specs.Prelude.{◌≡◌};
+    ghost use Rattle.cfg.specs.Rules.{leads_to};
+
+    /// Whether one of the edges leads to a block.
+    pub fn leads_to(&self, block: usize) -> bool
+        ensures { result ≡ leads_to block self.now.edges }
+    {
+        self.edges
+            .as_slice()
+            .iter()
+            .any(|edge| edge.to.0 == block)
+    }
+}
+
 /// The edges of a function, a block each.
 pub struct FunctionGraph {
     pub blocks: Seq<BlockEdges>,

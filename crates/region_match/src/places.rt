@@ -2,7 +2,7 @@ ghost use Rattle.std.specs.Prelude.{◌≡◌, ◌≢◌, ◌↔◌, ◌⊎◌, 
 ghost use Rattle.linear.specs.declared.form.RegisterId.{RegisterId};
 ghost use Rattle.program.specs.declared.instruction.Instruction.TheVariants.{StartRegion};
 ghost use Rattle.cfg.specs.Paths.{edges_of};
-ghost use Rattle.cfg.specs.Rules.{leads_to, IsPredecessor};
+ghost use Rattle.cfg.specs.Rules.{IsPredecessor};
 ghost use Rattle.region_match.specs.Rules.{IsEntered, IsShared, IsStartBroken, IsPhiBroken, IsFootBroken, IsLabelBroken, IsPlaceBroken};
 ghost use Rattle.refusal.specs.Earliest.{IsEarliest};
 
@@ -29,13 +29,6 @@ fn is_edge_among(edges: &[Edge], block: usize, way: Way) -> bool
     false
 }
 
-/// Whether one of the edges leads to a block.
-fn is_leading(edges: &[Edge], block: usize) -> bool
-    ensures { result ≡ leads_to block edges.now }
-{
-    edges.iter().any(|edge| edge.to.0 == block)
-}
-
 /// Whether an edge of the function leads to a block this way.
 fn is_entered(blocks: &[BlockEdges], block: usize, way: Way) -> bool
     ensures { IsTrue result ↔ IsEntered blocks.now block way }
@@ -53,7 +46,7 @@ fn is_followed_by_another(blocks: &[BlockEdges], block: usize, one: usize) -> bo
     ensures { IsTrue result ↔ ((other : ℕ) × (other ≢ one) × IsPredecessor blocks.now other block) }
 {
     for (other, body) in blocks.iter().enumerate() {
-        if other != one && is_leading(body.edges.as_slice(), block) {
+        if other != one && body.leads_to(block) {
             return true;
         }
     }
