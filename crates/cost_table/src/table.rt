@@ -55,16 +55,6 @@ impl Table {
     }
 }
 
-fn copy_budget(budget: &Budget) -> Budget
-    ensures { result ≡ budget.now }
-{
-    Budget {
-        line: budget.line,
-        self_calls: budget.self_calls,
-        instructions: budget.instructions,
-    }
-}
-
 /// The tasks of a function's blocks.
 fn tasks_of(regions: &Regions, function: usize) -> &[Task]
     ensures { result.now ≡ tasks_of regions.now function }
@@ -82,7 +72,7 @@ fn entry_of(before: &[u64], index: usize, tasks: &[Task], function: &Function) -
     let blocks = function.blocks.as_slice();
     FunctionCost {
         bound: function.measure.bound,
-        budget: copy_budget(&function.budget),
+        budget: function.budget,
         flat: flat_depth(before, index, tasks, blocks),
         rise: self_calls_depth(index, tasks, blocks),
     }

@@ -37,7 +37,7 @@ pub struct Measure {
 }
 
 /// What a call may use: self calls, and instructions of its own and of the other functions that it calls.
-#[derive(Drop)]
+#[derive(Clone, Copy)]
 pub struct Budget {
     pub line: u32,
     pub self_calls: u64,
