@@ -13,6 +13,7 @@ ghost use Rattle.frame_engine.specs.Names.{HasResult, sizes, taker_of};
 ghost use Rattle.frame_engine.specs.Shows.{Layout};
 
 use crate::activation::Frame;
+use crate::calls::have_words;
 use crate::entering::enter;
 use crate::turning::Place;
 use crate::words::{define, word};
@@ -33,6 +34,7 @@ pub fn taker(waits: Wait) -> Option<RegisterId>
 
 impl Frame {
     /// Goes along the edge to the target of its sync, to wait there for its children within the region.
+    #[inline(always)]
     pub fn sync(
         &mut self,
         program: &Program,
@@ -134,6 +136,7 @@ impl Frame {
     }
 
     /// Makes `child` the child of this frame's detach, whatever it was.
+    #[inline(always)]
     pub fn detach_into(
         &self,
         child: &mut Frame,
@@ -147,12 +150,8 @@ impl Frame {
         ensures shown { OnOk result ((l : Layout) (places : Places) (p : Path) (g : frames.Frame) → ShowsFrame l places p g self.now
             → ShowsFrame l places (g.made ∷ p) (detached g region.0 body.0 continuation.0) child.new) }
     {
-        // What is held is written over as a whole, which is far sooner done than word by word.
-        let words = self.registers.as_slice();
-        let held = child.registers.len().min(words.len());
-        child.registers.truncate(held);
-        child.registers.copy_from_slice(&words[..held]);
-        child.registers.extend_from_slice(&words[held..])?;
+        have_words(&mut child.registers, self.registers.len())?;
+        child.registers.copy_from_slice(self.registers.as_slice());
         child.function = self.function;
         child.place = Place {
             block: body,

@@ -20,7 +20,7 @@ use program::{Argument, BlockId, FunctionId};
 
 /// Has so many words. What they held counts for nothing, so a frame that was one of the same function before is not written over.
 #[inline(always)]
-fn have_words(words: &mut Vec<i64>, count: usize) -> Result<(), OutOfMemory>
+pub fn have_words(words: &mut Vec<i64>, count: usize) -> Result<(), OutOfMemory>
     ensures { OnOk result (length words.new.items ≡ count) }
 {
     if words.len() != count {

@@ -60,6 +60,7 @@ impl Stack {
     }
 
     /// No child is left by now, so the frame goes on at the target.
+    #[inline(always)]
     pub(crate) fn sync(
         &mut self,
         program: &Program,
