@@ -2,12 +2,13 @@ use std::sync::Wait;
 use std::sync::atomic::{AtomicU64, Ordering};
 use std::time::Duration;
 
-/// What workers tell one another: how many more of them have no task than tasks are ready, and a bell for those that sleep meanwhile. These are hints on
+/// What workers tell one another: how many of them have no task, how many tasks are ready, and a bell for those that sleep meanwhile. These are hints on
 /// which nothing rests.
 #[derive(Drop)]
 pub(crate) struct Demand {
-    /// Less than none is counted down from 2^64.
-    surplus: AtomicU64,
+    /// Each less than none is counted down from 2^64.
+    idle: AtomicU64,
+    ready: AtomicU64,
     /// How often the bell was rung.
     rings: AtomicU64,
     sleepers: AtomicU64,
@@ -17,25 +18,50 @@ impl Demand {
     /// So many workers have no task, and no task is ready.
     pub(crate) fn of(workers: usize) -> Demand {
         Demand {
-            surplus: AtomicU64::new(workers as u64),
+            idle: AtomicU64::new(workers as u64),
+            ready: AtomicU64::new(0),
             rings: AtomicU64::new(0),
             sleepers: AtomicU64::new(0),
         }
     }
 
-    /// Whether somebody waits for a task.
+    /// Whether somebody waits for a task: more workers have none than tasks are ready.
     pub(crate) fn is_there(&self) -> bool {
-        0 < self.surplus.load(Ordering::SeqCst).cast_signed()
+        let idle = self.idle.load(Ordering::SeqCst).cast_signed();
+        self.ready.load(Ordering::SeqCst).cast_signed() < idle
     }
 
-    /// One worker more has no task, or one task less is ready.
-    pub(crate) fn rise(&self) {
-        let _before = self.surplus.fetch_add(1, Ordering::SeqCst);
+    /// Whether a task is ready.
+    pub(crate) fn is_met(&self) -> bool {
+        0 < self.ready.load(Ordering::SeqCst).cast_signed()
     }
 
-    /// So many workers got a task otherwise than by a claim, or so many tasks more are ready. A claim changes both.
-    pub(crate) fn fall(&self, count: usize) {
-        let _before = self.surplus.fetch_sub(count as u64, Ordering::SeqCst);
+    /// A worker has no task any more.
+    pub(crate) fn idle(&self) {
+        let _before = self.idle.fetch_add(1, Ordering::SeqCst);
+    }
+
+    /// A worker has a task that was not ready.
+    pub(crate) fn begin(&self) {
+        let _before = self.idle.fetch_sub(1, Ordering::SeqCst);
+    }
+
+    /// So many tasks more are ready.
+    pub(crate) fn offer(&self, count: usize) {
+        if 0 < count {
+            let _before = self.ready.fetch_add(count as u64, Ordering::SeqCst);
+        }
+    }
+
+    /// A worker goes on with a task that was ready, from another that ended.
+    pub(crate) fn take_back(&self) {
+        let _before = self.ready.fetch_sub(1, Ordering::SeqCst);
+    }
+
+    /// A worker that had no task has one that was ready.
+    pub(crate) fn claim(&self) {
+        self.take_back();
+        self.begin();
     }
 
     /// How often the bell was rung up to now.

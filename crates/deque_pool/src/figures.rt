@@ -13,7 +13,7 @@ pub struct Figures {
     pub searches: u64,
     /// The strands that were done for nothing: others had meanwhile changed what they rest on.
     pub strangers: u64,
-    /// The strands that were put on the board: the four numbers below together.
+    /// How often it put on the board what it had done, at the end of a strand or of a frame that ended right behind it: the four numbers below together.
     pub publications: u64,
     /// Next was what only the board does.
     pub at_borders: u64,

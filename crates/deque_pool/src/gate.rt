@@ -7,7 +7,7 @@ pub enum Go {
     Stop,
 }
 
-/// Is called by each worker before each of its strands, while no lock is held. It may hold the worker there, or stop the run.
+/// Is called by each worker before each of its strands, while no lock is held. What a strand is here goes on to the next call. It may hold the worker there, or stop the run.
 pub trait Gate {
     /// `strand` counts the worker's strands from 0; at 2^64 - 1 it stays.
     fn pass(&self, worker: u8, strand: u64) -> Go;

@@ -7,6 +7,7 @@ mod alone;
 mod demand;
 mod figures;
 mod gate;
+mod locking;
 mod outlook;
 mod pace;
 mod recorded;

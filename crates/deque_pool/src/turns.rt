@@ -2,6 +2,7 @@
 
 use crate::ahead::Ahead;
 use crate::demand::Demand;
+use crate::locking::locked;
 use crate::workers::Worker;
 use shared_run::{Bench, Board, Loaded, MOST_INSTRUCTIONS, Published, Shared, Standing, Stepped};
 use std::sync::Wait;
@@ -11,12 +12,23 @@ const SHORTEST_SLICE: u64 = 2;
 
 const LONGEST_SLICE: u64 = 1_000;
 
+/// A stack with so many frames below its top is one of nested calls, which has much to give: it is put on the board as soon as others wait.
+const DEEP: usize = 4;
+
 /// A frame of a stack that is put on the board ends there, at some cost, and one that is ready may be stolen. So between these numbers of instructions a
 /// strand notes how low its stack comes, and after them it is put on the board where that is as low again, not first at its limit. One whose stack never
 /// was higher goes on to its limit.
 const SEEN_FROM: u64 = 32_768;
 
 const SEEN_TO: u64 = 49_152;
+
+/// A strand that begins behind a border and comes to another within so many instructions, as those that end a frame do, is put on the board before the lock
+/// is let go, so many one after the other; it may need the cells of so many pages.
+const SHORT: u64 = 16;
+
+const SHORT_FRAMES: u32 = 16;
+
+const SHORT_PAGES: u32 = 4;
 
 /// More pauses than the slices and the cells of a strand make.
 const MOST_PAUSES: u32 = 1_000;
@@ -52,14 +64,19 @@ pub(crate) enum Posted {
     Starved,
 }
 
-/// Loads the frame that the worker runs next.
+/// Loads the frame that the worker runs next, unless that was done when the strand before was put on the board.
 pub(crate) fn load<L: Bench, R: Wait>(
     rt: &R,
     shared: &Shared<'_, L>,
     worker: &mut Worker<'_, L>,
 ) -> Loaded {
-    let board = shared.board.lock(rt);
-    board.fetch_base(&worker.seat, &mut worker.stack)
+    match worker.stack.standing() {
+        Standing::Blank | Standing::Spoilt => {
+            let board = locked(rt, shared);
+            board.fetch_base(&worker.seat, &mut worker.stack)
+        }
+        _ => Loaded::Frame,
+    }
 }
 
 /// Gives the worker's stack the cell at the address, which it needs, and pages that it may need next; whether there is such a cell.
@@ -70,7 +87,7 @@ fn fill<L: Bench, R: Wait>(
     at: i64,
 ) -> bool {
     let ahead = Ahead::of(&worker.stack, at);
-    let board = shared.board.lock(rt);
+    let board = locked(rt, shared);
     if !board.fetch_need(&mut worker.stack) {
         return false;
     }
@@ -80,7 +97,9 @@ fn fill<L: Bench, R: Wait>(
 
 /// Whether others wait for a task that the strand would leave ready, and it is not too soon.
 fn is_asked<L: Bench>(demand: &Demand, worker: &Worker<'_, L>) -> bool {
-    demand.is_there() && worker.pace.is_due(worker.stack.done()) && worker.stack.has_ready_frame()
+    demand.is_there()
+        && worker.stack.has_ready_frame()
+        && (DEEP <= worker.stack.frames_below() || worker.pace.is_due(worker.stack.done()))
 }
 
 /// How many frames a strand's stack was seen to have.
@@ -170,21 +189,21 @@ fn step_over<L: Bench>(
         Stepped::Done { ready, idle, ended } => {
             worker.figures.count_instructions(1);
             if let Some(ticket) = ready {
-                demand.fall(1);
+                demand.offer(1);
                 worker.offer(ticket);
             }
             if worker.stack.is_at_reattach() {
                 match parent {
-                    Some(own) => {
-                        demand.rise();
+                    Some(own) if !idle => {
+                        demand.take_back();
                         worker.take_back(own);
                         worker.pace.note_return();
                     }
-                    None => worker.pace.note_theft(),
+                    _ => worker.pace.note_theft(),
                 }
             }
             if idle {
-                demand.rise();
+                demand.idle();
             }
             Posted::After { idle, ended }
         }
@@ -206,7 +225,7 @@ fn put<L: Bench>(
         Published::OutOfMemory => return Posted::Starved,
     }
     worker.note_publication(turn);
-    demand.fall(worker.tickets.len());
+    demand.offer(worker.tickets.len());
     worker.offer_tickets();
     if turn == Turn::Border {
         step_over(board, demand, worker)
@@ -218,6 +237,57 @@ fn put<L: Bench>(
     }
 }
 
+/// Loads the frame that the worker runs next, where it runs one. What becomes of that is seen when the next strand begins.
+fn load_next<L: Bench>(board: &Board<'_, L>, worker: &mut Worker<'_, L>, posted: Posted) {
+    worker.stack.clear();
+    match posted {
+        Posted::After { idle: true, .. } | Posted::After { ended: true, .. } | Posted::Starved => {}
+        Posted::After { .. } | Posted::Stranger => {
+            let _loaded = board.fetch_base(&worker.seat, &mut worker.stack);
+        }
+    }
+}
+
+/// Goes on for a few instructions under the board's lock; whether they come to a border.
+fn comes_to_border<L: Bench>(board: &Board<'_, L>, worker: &mut Worker<'_, L>) -> bool {
+    for _page in 0..SHORT_PAGES {
+        match worker.stack.advance(SHORT) {
+            Standing::Border => return true,
+            Standing::Need { .. } => {
+                if !board.fetch_need(&mut worker.stack) {
+                    return false;
+                }
+            }
+            _ => return false,
+        }
+    }
+    false
+}
+
+/// The same, and loads the frame that comes next. Frames that end soon after one another are done at once.
+fn put_all<L: Bench>(
+    board: &mut Board<'_, L>,
+    demand: &Demand,
+    worker: &mut Worker<'_, L>,
+    turn: Turn,
+) -> (Posted, usize) {
+    let mut posted = put(board, demand, worker, turn);
+    let mut offered = worker.tickets.len();
+    load_next(board, worker, posted);
+    if turn != Turn::Border {
+        return (posted, offered);
+    }
+    for _frame in 0..SHORT_FRAMES {
+        if !comes_to_border(board, worker) {
+            break;
+        }
+        posted = put(board, demand, worker, Turn::Border);
+        offered = offered.saturating_add(worker.tickets.len());
+        load_next(board, worker, posted);
+    }
+    (posted, offered)
+}
+
 /// The same under the board's lock, and after it wakes workers for those tasks.
 pub(crate) fn post<L: Bench, R: Wait>(
     rt: &R,
@@ -226,10 +296,9 @@ pub(crate) fn post<L: Bench, R: Wait>(
     worker: &mut Worker<'_, L>,
     turn: Turn,
 ) -> Posted {
-    let mut board = shared.board.lock(rt);
-    let posted = put(&mut board, demand, worker, turn);
+    let mut board = locked(rt, shared);
+    let (posted, offered) = put_all(&mut board, demand, worker, turn);
     drop(board);
-    let offered = worker.tickets.len();
     if offered > 0 {
         demand.ring(offered);
     }

@@ -3,6 +3,7 @@ ghost use Rattle.std.specs.Prelude.{◌≡◌, ◌↔◌};
 
 use crate::demand::Demand;
 use crate::gate::{Gate, Go};
+use crate::locking::{locked, pause};
 use crate::outlook::Left;
 use crate::turns::{Posted, Turn, go, load, post};
 use crate::workers::Worker;
@@ -12,8 +13,14 @@ use std::sync::atomic::{AtomicBool, Ordering};
 use std::thread;
 use std::time::Duration;
 
-/// How many searches in vain a worker makes with no more than a yield between them. To be woken takes longer than some hundreds of them.
+/// How many searches in vain a worker makes with no more than a pause between them, and so many more with a yield. To be woken takes longer than some
+/// hundreds of them.
+const PAUSES: u32 = 64;
+
 const YIELDS: u32 = 256;
+
+/// How long such a pause is, in turns of a loop that does nothing.
+const PAUSE: u32 = 16;
 
 /// The longest time that a worker sleeps at first, in microseconds; each further one is twice as long, up to `DOUBLINGS` times. It is woken for a task.
 const SHORTEST_SLEEP: u64 = 64;
@@ -78,10 +85,10 @@ fn begin<L: Bench, R: Wait>(
     demand: &Demand,
     worker: &Worker<'_, L>,
 ) -> Next {
-    let board = shared.board.lock(rt);
+    let board = locked(rt, shared);
     match board.machine().depth_of(worker.seat.worker()) {
         Some(_) => {
-            demand.fall(1);
+            demand.begin();
             Next::Strand
         }
         None => Next::Search,
@@ -133,20 +140,26 @@ fn search<L: Bench, R: Wait>(
 ) -> Next {
     worker.figures.count_search();
     let heard = demand.rings();
-    let ticket = worker.next_ticket();
-    if ticket.is_none() && rests < YIELDS {
+    let ticket = if demand.is_met() {
+        worker.next_ticket()
+    } else {
+        None
+    };
+    if ticket.is_none() && rests < PAUSES + YIELDS {
         return Next::Rest { heard };
     }
-    let mut board = shared.board.lock(rt);
+    let mut board = locked(rt, shared);
     let claimed = match ticket {
         Some(ticket) => board.claim(&mut worker.seat, ticket),
         None => board.claim_first(&mut worker.seat),
     };
-    drop(board);
     if let Claimed::Taken = claimed {
+        demand.claim();
+        let _loaded = board.fetch_base(&worker.seat, &mut worker.stack);
         worker.figures.count_steal();
         worker.pace.note_task();
     }
+    drop(board);
     after_claim(claimed, ticket.is_some(), heard)
 }
 
@@ -162,9 +175,14 @@ fn after_claim(claimed: Claimed, by_ticket: bool, heard: u64) -> Next
     }
 }
 
-/// Lets other threads go first: at first by a yield, later by a sleep until a task is offered, so that a worker with nothing to do needs no processor.
+/// Lets other threads go first: at first by a pause, then by a yield, later by a sleep until a task is offered, so that a worker with nothing to do needs no
+/// processor.
 fn rest<R: Wait>(rt: &R, demand: &Demand, heard: u64, rests: u32) {
-    match rests.checked_sub(YIELDS) {
+    if rests < PAUSES {
+        pause(PAUSE);
+        return;
+    }
+    match rests.checked_sub(PAUSES + YIELDS) {
         None => thread::yield_now(),
         Some(slept) => {
             let doublings = slept.min(DOUBLINGS);

@@ -23,7 +23,7 @@ const MOST_FRAMES: u64 = 1_000;
 
 const WORKERS: usize = 4;
 
-/// Stops a run before a worker begins this strand. A strand is at most 65,536 instructions.
+/// Stops a run before a worker begins this strand. A strand is some 65,536 instructions at most.
 struct Limit(u64);
 
 impl Gate for Limit {
