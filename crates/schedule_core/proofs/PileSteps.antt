@@ -14,8 +14,8 @@ use Rattle.schedule_workers.specs.Lent.{IsFree}
 use Rattle.schedule_workers.specs.Scheduling.{hand_of}
 use Rattle.private_stack_log.specs.Tables.{log_of}
 use Rattle.laws_stacks.specs.Law.{absorbed}
-use Rattle.private_stack.specs.Along.{IsUnderWay}
-use Rattle.private_stack.specs.declared.pile.Pile.{Pile}
+use Rattle.schedule_publish.specs.private_stack.Along.{IsUnderWay}
+use Rattle.schedule_publish.specs.private_stack.declared.pile.Pile.{Pile}
 use Rattle.schedule_publish.specs.Absorbing.{DoesDeep, LeavesStallsDeep, StandsDeep}
 use Rattle.schedule_publish.specs.Fitting.{HasNoChild, segment_block}
 use Rattle.schedule_core.specs.declared.stage.Stage.{Stage}

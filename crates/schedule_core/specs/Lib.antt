@@ -19,7 +19,7 @@ pub use Rattle.laws_workers_strands.specs.laws_workers.verifier as verifier
 pub use Rattle.schedule_commit.specs as schedule_commit
 pub use Rattle.schedule_commit.specs.frame_strand as frame_strand
 pub use Rattle.schedule_publish.specs as schedule_publish
-pub use Rattle.private_stack.specs as private_stack
+pub use Rattle.schedule_publish.specs.private_stack as private_stack
 pub use Rattle.private_stack_log.specs as private_stack_log
 pub use Rattle.frame_engine.specs as frame_engine
 pub use Rattle.schedule_workers.specs as schedule_workers

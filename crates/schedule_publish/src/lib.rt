@@ -8,4 +8,5 @@ mod linking;
 mod taking;
 
 pub use fitting::{fitting_deep, has_no_child};
+pub use private_stack::{Pause, Pile};
 pub use taking::absorb_deep;
