@@ -29,7 +29,6 @@ pub use outcome::{Finished, Memory, RunFault, Verified, unmet_requirement};
 pub use piles::{advance_pile, blank_pile, fill_pile, fill_pile_ahead};
 pub use ready::Spot;
 pub use schedule::replay;
-pub use schedule_commit::{Pause, Strand};
-pub use schedule_publish::{Pause as PilePause, Pile};
+pub use schedule_publish::{Pause, Pile, PilePause, Strand};
 pub use stage::Stage;
 pub use task::{Status, TaskView};
