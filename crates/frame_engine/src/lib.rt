@@ -25,7 +25,6 @@ pub use arithmetic::sum;
 pub use beginning::{blank, first_registers};
 pub use borders::taker;
 pub use cells::Cells;
-pub use doing::{Did, plain};
 pub use flat::Flat;
 pub use functions::{frame_cells, function_at, most_moves};
 pub use items::Item;

@@ -14,8 +14,9 @@ ghost use Rattle.semantics.specs.Tasks.{FramesOnTasks};
 
 // What is run, for the crates above.
 pub use program::{
-    Address, BinaryOperator, Block, BlockId, Ending, Function, FunctionId, GlobalId, Instruction,
-    ObjectName, Operand, Phi, PhiEntry, Predicate, Program, RegisterId, Step, Terminator, Width,
+    Address, AllocaId, BinaryOperator, Block, BlockId, Ending, Function, FunctionId, GlobalId,
+    Instruction, ObjectName, Operand, Phi, PhiEntry, Predicate, Program, RegisterId, Step,
+    Terminator, Width,
 };
 
 /// Whatever the program: counts of children for each frame and region that detaches raise and reattaches lower are the numbers of
