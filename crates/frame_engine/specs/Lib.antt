@@ -16,3 +16,4 @@ pub mod Starts
 pub mod Access
 pub mod Accesses
 pub mod Progress
+pub mod Turned
