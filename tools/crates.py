@@ -33,3 +33,11 @@ def below(name, crates):
         if other in crates:
             found |= {other} | below(other, crates)
     return found
+
+
+def paths(crates):
+    """How many paths there are from a crate of the repository to it or to one below it, crate by crate."""
+    found = {}
+    for name in crates:
+        found[name] = 1 + sum(found[it] for it in crates[name] if it in crates)
+    return sum(found.values())

@@ -1,6 +1,6 @@
 -- A cactus as a map from paths to frames.
 use Rattle.std.specs.Prelude.{◌≡◌, ◌≢◌, ℕ, List, [], ◌∷◌, ◌++◌, Option, Some, None, cond}
-use Rattle.semantics.specs.Paths.{same_path}
+use Rattle.frame.specs.semantics.Paths.{same_path}
 use Rattle.cactus.specs.declared.node.Node.{Node}
 use Rattle.cactus.specs.Frames.{Frames, node_at}
 

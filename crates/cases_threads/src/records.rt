@@ -3,8 +3,7 @@
 use crate::endings::{Ending, is_so};
 use cases::{Lines, verified_file};
 use deque_pool::{Figures, OpenGate, Recorded, run_recorded};
-use schedule_core::replay;
-use shared_run::{Event, Memory, Verified};
+use shared_run::{Event, Memory, Verified, replay};
 use std::alloc::Global;
 use std::hash::RandomState;
 use std::io;

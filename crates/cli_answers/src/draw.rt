@@ -4,10 +4,9 @@ use crate::job::Job;
 use crate::runs::{prepared, print_unprepared};
 use crate::tell::tell_course;
 use cli_modules::{Beside, Status};
-use cli_tellings::Crew;
+use cli_tellings::{Crew, Draw};
 use std::io;
 use std::io::Write;
-use view_traces::Draw;
 
 /// Runs by events that are drawn by the seed, and tells of them where that is asked for.
 pub fn run_drawn<W: Write>(

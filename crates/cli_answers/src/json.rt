@@ -1,11 +1,12 @@
 //! Answers about a module as JSON.
 
 use crate::job::Question;
-use cli_json::{UNDECIDED, accepted_json, explanation_json, known_json, refusal_json};
+use cli_json::{
+    Explanation, UNDECIDED, accepted_json, explain, explanation_json, known_json, refusal_json,
+};
 use cli_modules::{Beside, Status, find_function, note_effort, note_fault, stop_for_memory};
 use cli_words::{Request, Verb};
 use debugger::{Effort, Refused, Unverified, Verified, verify_within};
-use explain::{Explanation, explain};
 use std::alloc::{AllocError, Global};
 use std::hash::RandomState;
 use std::io;

@@ -20,7 +20,7 @@ pub use cli_modules::{
     Beside, Dump, Status, Times, fail, print_unreadable, print_unverified, read_data, read_file,
     read_text, write_bytes, write_file,
 };
-pub use cli_tellings::{Crew, Effort};
+pub use cli_tellings::{Course, Crew, Effort};
 pub use cli_words::{
     CellWord, Request, Setting, Telling, Verb, WordsFault, bytes_of, text_of, words,
 };
@@ -33,4 +33,3 @@ pub use requests::{answer, answer_verified, effort_of};
 pub use runs::{prepared, print_run, print_unprepared};
 pub use tell::{is_told, tell_course};
 pub use verdict::{Verdict, verdict_on};
-pub use view_traces::Course;

@@ -5,7 +5,7 @@ ghost use Rattle.serial_machine.specs.store.Made.{IsMadeFor};
 use crate::job::{Job, print_schedule_fault};
 use crate::runs::{prepared, print_no_schedule, print_replayed, print_unprepared, run_schedule};
 use cli_modules::{Beside, Status, stop_for_memory};
-use cli_tellings::{Crew, Subject, Told, Wanted, Words, tell};
+use cli_tellings::{Course, Crew, Listed, Subject, Told, Wanted, Words, tell};
 use cli_words::Telling;
 use debugger::{Memory, read_schedule};
 use ir_reader::read;
@@ -15,7 +15,6 @@ use std::io;
 use std::io::Write;
 use syntax::Module;
 use view_events::Names;
-use view_traces::{Course, Listed};
 
 /// What is asked to be told of a run.
 fn wanted_of(telling: &Telling) -> Wanted {

@@ -9,6 +9,7 @@ mod known;
 mod list;
 mod verdict;
 
+pub use explain::{Explanation, explain};
 pub use explanation::explanation_json;
 pub use fault::refusal_json;
 pub use known::known_json;

@@ -9,3 +9,4 @@ mod telling;
 
 pub use figures::{Crew, Effort};
 pub use telling::{Subject, Told, Wanted, Words, tell};
+pub use view_traces::{Course, Draw, Listed};

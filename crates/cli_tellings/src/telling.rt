@@ -1,6 +1,6 @@
 //! A run that is told.
 
-ghost use Rattle.schedule_core.specs.store.Made.{IsMadeFor};
+ghost use Rattle.view_traces.specs.store.Made.{IsMadeFor};
 
 use crate::figures::Crew;
 use crate::teller::{Teller, refused};

@@ -1,7 +1,7 @@
 -- What is broken at a step after a fault.
 use Rattle.std.proofs.Common.{ℕ, Option, Some, None, inl, inr, arith}
 use Rattle.refusal.specs.declared.broken.Broken.{Broken}
-use Rattle.footprints_zones.specs.declared.place.Use.{Use}
+use Rattle.footprints_feet.specs.footprints_zones.declared.place.Use.{Use}
 use Rattle.ranges.specs.Walks.{StandsBefore}
 use Rattle.ranges.proofs.Passed.{AreAfter, on_later_line}
 use Rattle.footprints.specs.Rules.{IsUseBroken}

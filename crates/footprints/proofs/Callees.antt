@@ -4,7 +4,7 @@ use Rattle.std.specs.List.{list_all}
 use Rattle.std.proofs.lemmas.List.Folds.{list_all_more}
 use Rattle.program.specs.declared.annotation.Zone.{Zone}
 use Rattle.program.specs.declared.instruction.Argument.{Argument}
-use Rattle.footprints_zones.specs.declared.place.Use.{Use}
+use Rattle.footprints_feet.specs.footprints_zones.declared.place.Use.{Use}
 use Rattle.footprints_feet.specs.Feet.{joined_use}
 use Rattle.footprints.specs.Footprints.{Place, is_put_allowed, is_put_clear, put_in, put_use}
 

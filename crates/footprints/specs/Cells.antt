@@ -6,7 +6,7 @@ use Rattle.program.specs.declared.identifier.ObjectName.{ObjectName}
 use Rattle.ranges.specs.cfg.declared.structure.Move.{Move}
 use Rattle.ranges.specs.ranges_owed.Inequalities.{operand_for}
 use Rattle.ranges.specs.Truth.{operand_value}
-use Rattle.footprints_zones.specs.Zones.{Span}
+use Rattle.footprints_feet.specs.footprints_zones.Zones.{Span}
 
 -- the values of the registers that the moves make of these
 abbrev pub moved : (ℕ → ℤ) → List Move → Term → ℤ

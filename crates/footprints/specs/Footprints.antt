@@ -31,10 +31,10 @@ use Rattle.ranges.specs.cfg.declared.structure.Way.TheVariants.{Branch, Detached
 use Rattle.ranges.specs.declared.table.EdgeFacts.{EdgeFacts}
 use Rattle.ranges.specs.ranges_owed.Inequalities.{argument_moves}
 use Rattle.footprints.specs.declared.access.Cell.{Cell}
-use Rattle.footprints_zones.specs.declared.place.Use.{Use}
-use Rattle.footprints_zones.specs.Zones.{Span, span, as_written, covers, is_empty}
-pub use Rattle.footprints_zones.specs.Places.{Place, place_of, is_own}
-unfoldable pub use Rattle.footprints_zones.specs.Places.{is_allowed, is_clear}
+use Rattle.footprints_feet.specs.footprints_zones.declared.place.Use.{Use}
+use Rattle.footprints_feet.specs.footprints_zones.Zones.{Span, span, as_written, covers, is_empty}
+pub use Rattle.footprints_feet.specs.footprints_zones.Places.{Place, place_of, is_own}
+unfoldable pub use Rattle.footprints_feet.specs.footprints_zones.Places.{is_allowed, is_clear}
 pub use Rattle.footprints_feet.specs.Feet.{no_use, foot_use}
 
 -- ---- the cell of an address

@@ -2,5 +2,5 @@ pub mod Cells
 pub mod Footprints
 pub mod Pointers
 pub mod Rules
-pub use Rattle.footprints_zones.specs as footprints_zones
-pub use Rattle.footprints_zones.specs.Zones
+pub use Rattle.footprints_feet.specs.footprints_zones as footprints_zones
+pub use Rattle.footprints_feet.specs.footprints_zones.Zones

@@ -16,7 +16,7 @@ use Rattle.ranges.specs.region_match.Tasks.{task_at, tasks_in}
 use Rattle.ranges.specs.region_match.Rules.{ending_at}
 use Rattle.ranges.specs.declared.table.EdgeFacts.{EdgeFacts}
 use Rattle.ranges.specs.Places.{facts_at_step, facts_at_end, edges_known}
-use Rattle.footprints_zones.specs.declared.place.Use.{Use}
+use Rattle.footprints_feet.specs.footprints_zones.declared.place.Use.{Use}
 use Rattle.footprints.specs.Footprints.{Place, place_of, step_use, end_use, child_foot, passes_on}
 
 -- ---- the rules at a line

@@ -15,7 +15,7 @@ ghost use Rattle.footprints.specs.Rules.{IsBlockBrokenBy, IsBlockBroken, IsFunct
 use crate::access::{Pointer, pointers_of};
 use crate::judge::{edges_fault, step_fault, use_fault};
 use crate::touch::{child_foot, end_use};
-use footprints_zones::{Place, index_for};
+use footprints_feet::{Place, index_for};
 use linear::Fact;
 use linear_shown::{Effort, FactCursor, Known};
 use program::{Block, BlockId, Ending, Function, Instruction, Program, Step, Zone};

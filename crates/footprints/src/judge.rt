@@ -10,7 +10,7 @@ ghost use Rattle.footprints.specs.Rules.{IsUseBroken, IsEdgeBroken};
 use crate::access::Pointer;
 use crate::pass::passes_on;
 use crate::touch::{end_use, step_use};
-use footprints_zones::{Place, Use};
+use footprints_feet::{Place, Use};
 use linear::Fact;
 use linear_shown::{Effort, FactBranches};
 use program::{Block, Ending, Function, Step};

@@ -20,7 +20,7 @@ mod touch;
 
 pub use access::{Cell, Pointer, address_cell, cells_zone, pointers_of};
 pub use check::check_zones;
-pub use footprints_zones::{
+pub use footprints_feet::{
     Place, PlacedZone, Use, conflict, covers, is_allowed, is_apart, is_clear, is_covered, is_empty,
     mode_covers, modes_agree, same_object,
 };

@@ -4,7 +4,7 @@ ghost use Rattle.ranges.specs.Edges.{with_known};
 ghost use Rattle.footprints.specs.Footprints.{hands_on, pending_of, with_facts, is_passed, are_passed, foot_passed, child_passed_on, passes_on};
 
 use crate::touch::child_foot;
-use footprints_zones::{PlacedZone, as_written, covers, is_empty};
+use footprints_feet::{PlacedZone, as_written, covers, is_empty};
 use linear_shown::{FactBranches, Known};
 use program::{Block, BlockId, Pending, RegisterId, Terminator, Zone};
 use ranges::{EdgeFacts, Unanswered, Way};

@@ -1,6 +1,6 @@
 ghost use Rattle.std.specs.Prelude.{◌≡◌, List, Some, IfOk, slice_get};
 ghost use Rattle.syntax.specs.declared.operator.Mode.TheVariants.{Writes};
-ghost use Rattle.footprints_zones.specs.Zones.{as_written};
+ghost use Rattle.footprints_feet.specs.footprints_zones.Zones.{as_written};
 ghost use Rattle.ranges.specs.ranges_owed.Inequalities.{argument_moves};
 ghost use Rattle.program.specs.declared.instruction.Step.{Step as StepKind};
 ghost use Rattle.footprints.specs.Pointers.{pointers_of};
@@ -9,8 +9,10 @@ ghost use Rattle.footprints.specs.Footprints.{put_in, put_use, callee_use, call_
 ghost use Rattle.footprints.specs.Footprints.{end_use};
 
 use crate::access::{Cell, Pointer, cell_of, cells_zone, first_cell};
-use footprints_feet::{foot_use, joined_use, no_use, zone_use};
-use footprints_zones::{MeasuredPlace, Place, PlacedZone, Use, as_written, is_allowed, is_clear};
+use footprints_feet::{
+    MeasuredPlace, Place, PlacedZone, Use, as_written, foot_use, is_allowed, is_clear, joined_use,
+    no_use, zone_use,
+};
 use program::{
     Address, Argument, Block, Function, FunctionId, Instruction, Mode, ObjectName, Terminator, Zone,
 };

@@ -1,1 +1,3 @@
 pub mod Feet
+-- for the crates above
+pub use Rattle.footprints_zones.specs as footprints_zones

@@ -3,9 +3,8 @@ ghost use Rattle.footprints_zones.specs.Zones.{span};
 ghost use Rattle.footprints_zones.specs.Places.{place_of};
 ghost use Rattle.footprints_feet.specs.Feet.{no_use, zone_use, joined_use, foot_use};
 
-use footprints_zones::{MeasuredPlace, Place, PlacedZone, Use, as_written};
+use footprints_zones::{MeasuredPlace, Place, PlacedZone, Unanswered, Use, as_written};
 use program::Zone;
-use ranges::Unanswered;
 use refusal::rule;
 use std::alloc::Global;
 

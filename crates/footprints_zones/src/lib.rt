@@ -13,6 +13,7 @@ mod zone;
 
 pub use measured::MeasuredPlace;
 pub use place::{Place, Use, as_written, index_for, is_allowed, is_clear};
+pub use ranges::Unanswered;
 pub use zone::{
     PlacedZone, conflict, covers, is_apart, is_covered, is_empty, mode_covers, modes_agree,
     same_object,

@@ -1,1 +1,3 @@
 pub mod Reading
+-- for the crates above
+pub use Rattle.semantics.specs as semantics

@@ -2,7 +2,7 @@ ghost use Rattle.std.specs.Prelude.{◌≡◌, slice_get};
 ghost use Rattle.std.specs.Option.{option_copied};
 ghost use Rattle.semantics.specs.Frames as frames;
 
-use program::{Block, BlockId, FunctionId, Program, RegisterId};
+use semantics::{Block, BlockId, FunctionId, Program, RegisterId};
 
 /// What a frame waits for.
 #[derive(Clone, Copy, PartialEq, Eq)]

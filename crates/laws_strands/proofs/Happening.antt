@@ -3,7 +3,7 @@ use Rattle.std.proofs.Common.{sym, ◌≡◌, ℕ, zero, suc, List, [], ◌∷�
 use Rattle.semantics.specs.Events.{Machine, Event, Step, event}
 use Rattle.semantics.specs.Replay.{replay, or_unchanged, NeverTraps}
 use Rattle.laws_strands.specs.Law.{steps_by, Happen, ReachedNeverTraps}
-use Rattle.program.specs.declared.function.Program.{Program}
+use Rattle.semantics.specs.program.declared.function.Program.{Program}
 
 pub steps_more : (w n : ℕ) → steps_by w n ++ Step w ∷ [] ≡ steps_by w (suc n)
 steps_more w zero = refl

@@ -7,12 +7,12 @@ use Rattle.semantics.specs.Arithmetic.{Trap, Undefined, BadIndex, Answer, Gives,
 use Rattle.semantics.specs.Frames.{Pointer, Frame, Item, Does, Ends, word_at, cell_at, object_at, truth_of, cells_of}
 use Rattle.semantics.specs.Effect.{Effect, Action, Plain, Detach, Reattach, Sync, Call, Return, stops, given, loads, stores, adds_to, sets, answers, points, jumps, registers_along, instruction_action, terminator_action, item_action}
 use Rattle.laws_strands.specs.Strands.{Access, Nowhere, Loads, Stores, Adds, to_cell, item_access, is_border}
-use Rattle.linear.specs.declared.form.RegisterId.{RegisterId}
-use Rattle.program.specs.declared.function.Program.{Program}
-use Rattle.program.specs.declared.instruction.Instruction.{Instruction}
-use Rattle.program.specs.declared.instruction.Instruction.TheVariants as instruction
-use Rattle.program.specs.declared.instruction.Terminator.{Terminator}
-use Rattle.program.specs.declared.instruction.Terminator.TheVariants as terminator
+use Rattle.semantics.specs.linear.declared.form.RegisterId.{RegisterId}
+use Rattle.semantics.specs.program.declared.function.Program.{Program}
+use Rattle.semantics.specs.program.declared.instruction.Instruction.{Instruction}
+use Rattle.semantics.specs.program.declared.instruction.Instruction.TheVariants as instruction
+use Rattle.semantics.specs.program.declared.instruction.Terminator.{Terminator}
+use Rattle.semantics.specs.program.declared.instruction.Terminator.TheVariants as terminator
 
 -- ---- effects that leave cells alone
 

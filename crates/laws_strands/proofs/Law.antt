@@ -21,7 +21,7 @@ use Rattle.laws_strands.proofs.Footprints.{lookup_with_write}
 use Rattle.laws_strands.proofs.Items.{Touches, touches, Wants, undefined_traps}
 use Rattle.laws_strands.proofs.Growing.{held_put, put_read, put_after, put_some, raised_some, value_beneath}
 use Rattle.laws_strands.proofs.Happening.{steps_more, happen_more, never_later, sound_next}
-use Rattle.program.specs.declared.function.Program.{Program}
+use Rattle.semantics.specs.program.declared.function.Program.{Program}
 
 -- ---- where a strand goes on
 

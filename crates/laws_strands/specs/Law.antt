@@ -7,7 +7,7 @@ use Rattle.semantics.specs.Events.{Machine, Event, Step, event}
 use Rattle.semantics.specs.Replay.{NeverTraps, replay}
 use Rattle.laws_strands.specs.Footprint.{Delta, write_at, put}
 use Rattle.laws_strands.specs.Strands.{Strand, IsStrand}
-use Rattle.program.specs.declared.function.Program.{Program}
+use Rattle.semantics.specs.program.declared.function.Program.{Program}
 
 abbrev pub steps_by : ℕ → ℕ → List Event
 steps_by w zero = []

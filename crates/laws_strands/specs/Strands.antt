@@ -6,11 +6,11 @@ use Rattle.semantics.specs.Frames.{Frame, Item, Does, Ends, item_at, cell_at}
 use Rattle.semantics.specs.Effect.{Effect, Action, Plain, action_of}
 use Rattle.semantics.specs.State.{went}
 use Rattle.laws_strands.specs.Footprint.{Write, Footprint, untouched, write_at, held, memory_of, stored, added_to, with_read}
-use Rattle.program.specs.declared.function.Program.{Program}
-use Rattle.program.specs.declared.instruction.Instruction.{Instruction}
-use Rattle.program.specs.declared.instruction.Instruction.TheVariants as instruction
-use Rattle.program.specs.declared.instruction.Terminator.{Terminator}
-use Rattle.program.specs.declared.instruction.Terminator.TheVariants as terminator
+use Rattle.semantics.specs.program.declared.function.Program.{Program}
+use Rattle.semantics.specs.program.declared.instruction.Instruction.{Instruction}
+use Rattle.semantics.specs.program.declared.instruction.Instruction.TheVariants as instruction
+use Rattle.semantics.specs.program.declared.instruction.Terminator.{Terminator}
+use Rattle.semantics.specs.program.declared.instruction.Terminator.TheVariants as terminator
 
 -- a frame as it was loaded, its path, and what it has done since then
 pub record Strand : Type 0 where

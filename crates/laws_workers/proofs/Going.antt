@@ -12,7 +12,7 @@ use Rattle.semantics.specs.Replay.{NeverTraps, replay}
 use Rattle.semantics.proofs.Steps.{change_is}
 use Rattle.program.specs.declared.function.Program.{Program}
 use Rattle.program.specs.declared.instruction.Instruction.TheVariants as instruction
-use Rattle.frame_engine.specs.Shows.{KeepsWithin, TrapFree}
+use Rattle.schedule_workers.specs.frame_engine.Shows.{KeepsWithin, TrapFree}
 use Rattle.serial_machine.specs.laws_schedule.Promise.{AreTaken, HasGlobals, KeepsItsPromise}
 use Rattle.serial_machine.specs.laws_schedule.kinds.Uses.{HasKindedUses}
 use Rattle.serial_machine.specs.laws_schedule.safe.Kept.{OfAll}

@@ -10,8 +10,8 @@ use Rattle.semantics.specs.Replay.{replay, or_unchanged, has_ended}
 use Rattle.program.specs.declared.function.Program.{Program}
 use Rattle.cactus.specs.ByPath.{named}
 use Rattle.cactus.specs.declared.node.Node.{Node}
-use Rattle.frame_engine.specs.Shows.{Layout}
-use Rattle.frame_engine.specs.declared.activation.Places.{Places}
+use Rattle.schedule_workers.specs.frame_engine.Shows.{Layout}
+use Rattle.schedule_workers.specs.frame_engine.declared.activation.Places.{Places}
 use Rattle.serial_machine.specs.laws_schedule.Promise.{KeepsItsPromise}
 use Rattle.serial_machine.specs.verifier.Accepted.{IsAccepted}
 use Rattle.serial_machine.proofs.laws_schedule.Promise.{accepted_programs_keep_their_promise}

@@ -9,8 +9,8 @@ use Rattle.program.specs.declared.instruction.Terminator.TheVariants as terminat
 use Rattle.serial_machine.proofs.laws_schedule.Accepted.{IsTaken, is_taken}
 use Rattle.serial_machine.proofs.text.Fits as serial
 use Rattle.serial_machine.proofs.text.Fits.{parameters_first, some_at, starts_long}
-use Rattle.frame_engine.specs.Starts.{global_starts}
-use Rattle.frame_engine.specs.declared.activation.Places.{Places}
+use Rattle.schedule_workers.specs.frame_engine.Starts.{global_starts}
+use Rattle.schedule_workers.specs.frame_engine.declared.activation.Places.{Places}
 use Rattle.laws_workers.specs.Safe.{StartsFit, TextsFit}
 
 globals_enough : (program : Program) (places : Places) → places.globals ≡ global_starts program.globals → length program.globals ≤ length places.globals

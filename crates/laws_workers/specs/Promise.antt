@@ -10,8 +10,8 @@ use Rattle.semantics.specs.Replay.{replay}
 use Rattle.program.specs.declared.function.Program.{Program}
 use Rattle.serial_machine.specs.laws_conditions.theorem.Schedules.{KeepsSchedule}
 use Rattle.cactus.specs.ByPath.{named}
-use Rattle.frame_engine.specs.Flat.{cell_in}
-use Rattle.frame_engine.specs.declared.activation.Places.{Places}
+use Rattle.schedule_workers.specs.frame_engine.Flat.{cell_in}
+use Rattle.schedule_workers.specs.frame_engine.declared.activation.Places.{Places}
 use Rattle.serial_machine.specs.laws_schedule.Promise.{AreTaken, HasGlobals}
 use Rattle.serial_machine.specs.verifier.Accepted.{IsAccepted}
 use Rattle.serial_machine.specs.verifier.Budgets.{budget_of, IsDepthOf}

@@ -5,9 +5,9 @@ use Rattle.semantics.specs.Events.{start}
 use Rattle.program.specs.declared.function.Function.{Function}
 use Rattle.program.specs.declared.function.Program.{Program}
 use Rattle.frame_code.specs.Codes.{program_codes}
-use Rattle.frame_engine.specs.Starts.{alloca_starts, global_starts}
-use Rattle.frame_engine.specs.declared.activation.Places.{Places}
-use Rattle.frame_engine.specs.Fits.{HasMoves}
+use Rattle.schedule_workers.specs.frame_engine.Starts.{alloca_starts, global_starts}
+use Rattle.schedule_workers.specs.frame_engine.declared.activation.Places.{Places}
+use Rattle.schedule_workers.specs.frame_engine.Fits.{HasMoves}
 use Rattle.serial_machine.specs.laws_schedule.Promise.{AreTaken, HasGlobals}
 use Rattle.serial_machine.specs.verifier.Accepted.{IsProgramOf}
 use Rattle.schedule_workers.specs.Going.{RunsSafely, TextFits}

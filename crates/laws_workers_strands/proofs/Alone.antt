@@ -49,10 +49,10 @@ use Rattle.laws_workers.proofs.laws_schedule.safe.Owners.{StaysAbove, cells_stay
 use Rattle.laws_workers.proofs.serial_machine.room.Operands.{items_fit}
 use Rattle.laws_workers.proofs.serial_machine.safe.Going.{item_whole, some_there}
 use Rattle.frame_engine.specs.Shows.{Layout, TrapFree, KeepsWithin, Safe}
-use Rattle.schedule_workers.specs.Layouts.{alloca_cells, living}
+use Rattle.laws_workers.specs.schedule_workers.Layouts.{alloca_cells, living}
 use Rattle.laws_workers.proofs.Owners.{cell_living}
 use Rattle.laws_workers.proofs.Points.{IsBelow, below_kept}
-use Rattle.frame_strand.specs.Alone.{IsFull, AloneSteps, here, more, StaysSafeAlone}
+use Rattle.schedule_commit.specs.frame_strand.Alone.{IsFull, AloneSteps, here, more, StaysSafeAlone}
 
 -- the state with another memory
 abbrev holding : State → Memory → State

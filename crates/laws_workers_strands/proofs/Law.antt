@@ -39,7 +39,7 @@ use Rattle.laws_workers.proofs.laws_schedule.safe.Replayed.{replay_good}
 use Rattle.laws_workers.proofs.laws_schedule.safe.Safe.{schedules_are_safe}
 use Rattle.laws_workers.proofs.laws_schedule.safe.Sizes.{uses_are_sized}
 use Rattle.laws_workers.proofs.Points.{IsBelow, below_kept, always_below, points_up}
-use Rattle.frame_strand.specs.Alone.{StaysSafeAlone}
+use Rattle.schedule_commit.specs.frame_strand.Alone.{StaysSafeAlone}
 use Rattle.laws_workers_strands.proofs.Alone.{Alone, knows_held, stays_safe}
 use Rattle.laws_workers_strands.proofs.Facts.{met, Told, told_kept, told_held, told_knows, always_told}
 use Rattle.laws_workers_strands.proofs.Numbers.{Firm, firm_kept, firm_held, firm_keeps, always_firm}

@@ -13,15 +13,15 @@ use Rattle.program.specs.declared.function.Program.{Program}
 use Rattle.program.specs.declared.identifier.ObjectName.TheVariants as object
 use Rattle.frame_engine.specs.Shows.{Layout}
 use Rattle.frame_engine.specs.declared.activation.Places.{Places}
-use Rattle.serial_stack.specs.Layouts.{for_body}
-use Rattle.serial_stack.specs.Shown.{IsOld}
-use Rattle.schedule_workers.specs.Going.{IsAbove}
-use Rattle.schedule_workers.specs.Layouts.{alloca_cells, living, own_cells}
-use Rattle.schedule_workers.proofs.Calling.{values_up}
+use Rattle.private_stack.specs.serial_stack.Layouts.{for_body}
+use Rattle.private_stack.specs.serial_stack.Shown.{IsOld}
+use Rattle.laws_workers.specs.schedule_workers.Going.{IsAbove}
+use Rattle.laws_workers.specs.schedule_workers.Layouts.{alloca_cells, living, own_cells}
+use Rattle.laws_workers.proofs.schedule_workers.Calling.{values_up}
 use Rattle.laws_workers.proofs.laws_conditions.rules.Moves.{calls_here}
 use Rattle.laws_workers.proofs.laws_schedule.Promise.{accepted_programs_keep_their_promise}
 use Rattle.laws_workers.proofs.laws_schedule.safe.Safe.{schedules_are_safe}
-use Rattle.frame_strand.specs.Alone.{StaysSafeAlone}
+use Rattle.schedule_commit.specs.frame_strand.Alone.{StaysSafeAlone}
 use Rattle.private_stack.specs.Along.{IsLent, LoadsGoDeep}
 use Rattle.private_stack.specs.Layouts.{Segment, layout_above}
 use Rattle.private_stack.specs.Shown.{CanGo}

@@ -13,14 +13,14 @@ use Rattle.program.specs.declared.function.Program.{Program}
 use Rattle.laws_workers.specs.verifier.Accepted.{IsProgramOf}
 use Rattle.laws_workers.specs.laws_schedule.Promise.{AreTaken, HasGlobals}
 use Rattle.laws_workers.specs.laws_schedule.safe.Kept.{IsWithin}
-use Rattle.schedule_workers.specs.Going.{PointsUp}
-use Rattle.schedule_workers.specs.Layouts.{living}
-use Rattle.schedule_workers.specs.Starts.{ArePlaces}
+use Rattle.laws_workers.specs.schedule_workers.Going.{PointsUp}
+use Rattle.laws_workers.specs.schedule_workers.Layouts.{living}
+use Rattle.laws_workers.specs.schedule_workers.Starts.{ArePlaces}
 use Rattle.schedule_commit.specs.Absorbing.{GoesAloneIn}
 use Rattle.frame_engine.specs.Arguments.{ArgumentsAreWhole}
 use Rattle.frame_engine.specs.Shows.{Layout}
 use Rattle.frame_engine.specs.declared.activation.Places.{Places}
-use Rattle.frame_strand.specs.Alone.{StaysSafeAlone}
+use Rattle.schedule_commit.specs.frame_strand.Alone.{StaysSafeAlone}
 use Rattle.laws_stacks.specs.Deep.{DeepStrand, IsDeep}
 use Rattle.laws_stacks.specs.Law.{Runs, absorbed}
 use Rattle.private_stack.specs.Along.{LoadsGoDeep}

@@ -27,9 +27,9 @@ use Rattle.frame_engine.specs.Words.{IsFirst}
 use Rattle.frame_engine.proofs.Runs.{safe_for}
 use Rattle.frame_engine.proofs.Shown.{first_is}
 use Rattle.frame_engine.proofs.Texts.{behind_step, frame_stands, located}
-use Rattle.frame_strand.proofs.Walking.{one_way}
-use Rattle.frame_strand.specs.declared.cells.Change.TheVariants.{Stored}
-use Rattle.frame_strand.specs.declared.cells.Stop.{Stop}
+use Rattle.private_stack_log.proofs.frame_strand.Walking.{one_way}
+use Rattle.private_stack_log.specs.frame_strand.declared.cells.Change.TheVariants.{Stored}
+use Rattle.private_stack_log.specs.frame_strand.declared.cells.Stop.{Stop}
 use Rattle.private_stack_log.specs.Logs.{IsWider, Log, has_place, is_open}
 use Rattle.private_stack_log.specs.Tables.{Table, log_of}
 use Rattle.private_stack_log.proofs.Opening.{has_place_open, open_changed}

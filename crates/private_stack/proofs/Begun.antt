@@ -6,8 +6,8 @@ use Rattle.frame_engine.specs.declared.activation.Frame.{Frame}
 use Rattle.frame_engine.specs.declared.activation.Places.{Places}
 use Rattle.frame_engine.specs.Activation.{FrameFits}
 use Rattle.frame_engine.specs.Shows.{Layout}
-use Rattle.frame_strand.specs.Standing.{IsCopy}
-use Rattle.frame_strand.proofs.Beginning.{copied_again, copy_back, copy_fits, copy_shows}
+use Rattle.private_stack_log.specs.frame_strand.Standing.{IsCopy}
+use Rattle.private_stack_log.proofs.frame_strand.Beginning.{copied_again, copy_back, copy_fits, copy_shows}
 use Rattle.private_stack_log.specs.Logs.{empty_log}
 use Rattle.private_stack_log.specs.Tables.{log_of}
 use Rattle.laws_stacks.specs.Footprint.{untouched}

@@ -9,8 +9,8 @@ use Rattle.laws_stacks.specs.Footprint.{Footprint, Write, put}
 use Rattle.laws_stacks.specs.Footprint as deep
 use Rattle.frame_engine.specs.Flat.{cell_in, is_cell}
 use Rattle.frame_engine.specs.Shows.{Layout, IsIn, ShowsCells, address}
-use Rattle.frame_strand.specs.declared.cells.Change.{Change}
-use Rattle.frame_strand.specs.declared.cells.Change.TheVariants.{Stored, Delta}
+use Rattle.private_stack_log.specs.frame_strand.declared.cells.Change.{Change}
+use Rattle.private_stack_log.specs.frame_strand.declared.cells.Change.TheVariants.{Stored, Delta}
 use Rattle.private_stack_log.specs.Known.{put_change}
 use Rattle.private_stack_log.specs.Tables.{log_of}
 use Rattle.private_stack.specs.Kept.{ShowsKept, write_of}

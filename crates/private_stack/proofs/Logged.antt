@@ -11,10 +11,10 @@ use Rattle.semantics.proofs.Actions.{same_cell_itself}
 use Rattle.semantics.proofs.SameCells.{same_cell_tells}
 use Rattle.laws_stacks.specs.Footprint.{Footprint, Write, added_to, held, known, raised, settled, stored, untouched, with_read, with_writes}
 use Rattle.frame_engine.specs.Shows.{Layout, IsIn, address}
-use Rattle.frame_strand.specs.Buffers.{raised_change}
-use Rattle.frame_strand.specs.Showing.{AreApart}
-use Rattle.frame_strand.specs.declared.cells.Change.{Change}
-use Rattle.frame_strand.specs.declared.cells.Change.TheVariants.{Stored, Delta}
+use Rattle.private_stack_log.specs.frame_strand.Buffers.{raised_change}
+use Rattle.private_stack_log.specs.frame_strand.Showing.{AreApart}
+use Rattle.private_stack_log.specs.frame_strand.declared.cells.Change.{Change}
+use Rattle.private_stack_log.specs.frame_strand.declared.cells.Change.TheVariants.{Stored, Delta}
 use Rattle.private_stack_log.specs.Doing.{IsChanged}
 use Rattle.private_stack_log.specs.Known.{at_address, first_of, read_after, settled_change, value_of}
 use Rattle.private_stack_log.specs.Logs.{Log, empty_log, filled_log, loaded_log, place_of, same_page, value_at}

@@ -7,7 +7,7 @@ use Rattle.frame.proofs.Changes.{get_other, get_set}
 use Rattle.semantics.specs.Arithmetic.{cell_sum}
 use Rattle.frame_engine.specs.Access.{Access}
 use Rattle.frame_engine.specs.Flat.{cell_in}
-use Rattle.frame_strand.specs.declared.cells.Stop.{Stop}
+use Rattle.private_stack_log.specs.frame_strand.declared.cells.Stop.{Stop}
 use Rattle.private_stack_log.specs.Accessing.{CellHolds, TableDoes, TableRefuses}
 use Rattle.private_stack_log.specs.Logs.{value_at}
 use Rattle.private_stack_log.specs.Tables.{Table, log_of}

@@ -7,9 +7,9 @@ use Rattle.semantics.specs.Cells.{Cell, Memory, or_zero}
 use Rattle.laws_stacks.specs.Footprint.{Footprint, put, seen}
 use Rattle.laws_stacks.proofs.Keeping.{Agrees}
 use Rattle.frame_engine.specs.Shows.{Layout, IsIn, ShowsCells, address}
-use Rattle.frame_strand.specs.Alone.{IsFull}
-use Rattle.frame_strand.specs.declared.cells.Change.{Change}
-use Rattle.frame_strand.specs.declared.cells.Change.TheVariants.{Stored, Delta}
+use Rattle.private_stack_log.specs.frame_strand.Alone.{IsFull}
+use Rattle.private_stack_log.specs.frame_strand.declared.cells.Change.{Change}
+use Rattle.private_stack_log.specs.frame_strand.declared.cells.Change.TheVariants.{Stored, Delta}
 use Rattle.private_stack_log.specs.Known.{value_of}
 use Rattle.private_stack_log.specs.Logs.{Log, value_at}
 use Rattle.private_stack_log.specs.Tables.{log_of}

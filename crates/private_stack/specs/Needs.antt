@@ -10,8 +10,8 @@ use Rattle.frame_engine.specs.declared.activation.Places.{Places}
 use Rattle.frame_engine.specs.declared.turning.Pause as engine
 use Rattle.frame_engine.specs.declared.turning.Pause.TheVariants as engine_pause
 use Rattle.frame_engine.specs.Shows.{IsIn, Layout, address}
-use Rattle.frame_strand.specs.declared.cells.Stop.{Stop}
-use Rattle.frame_strand.specs.declared.cells.Stop.TheVariants as stop
+use Rattle.private_stack_log.specs.frame_strand.declared.cells.Stop.{Stop}
+use Rattle.private_stack_log.specs.frame_strand.declared.cells.Stop.TheVariants as stop
 use Rattle.private_stack_log.specs.Logs.{has_place, value_at}
 use Rattle.private_stack_log.specs.Tables.{log_of}
 use Rattle.laws_stacks.specs.Deep.{DeepStrand, IsDeep}

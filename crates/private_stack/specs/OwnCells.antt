@@ -3,7 +3,7 @@ use Rattle.std.specs.Prelude.{◌≡◌, ◌≢◌, ℤ, pos, ◌-ℤ◌, Bool, 
 use Rattle.semantics.specs.Arithmetic.{cell_sum}
 use Rattle.frame_engine.specs.Access.{Access, Loads, Stores, Adds}
 use Rattle.frame_engine.specs.Flat.{cell_in}
-use Rattle.frame_strand.specs.declared.cells.Stop.{Stop}
+use Rattle.private_stack_log.specs.frame_strand.declared.cells.Stop.{Stop}
 use Rattle.private_stack_log.specs.Accessing.{TableDoes, TableRefuses}
 use Rattle.private_stack_log.specs.Logs.{is_open, value_at}
 use Rattle.private_stack_log.specs.Tables.{log_of}

@@ -2,7 +2,7 @@ ghost use Rattle.std.specs.Prelude.{◌≡◌, [], IfOk, OnOk, length, max};
 ghost use Rattle.program.specs.declared.function.Program.{Program};
 ghost use Rattle.frame_engine.specs.declared.activation.Places.{Places};
 ghost use Rattle.frame_engine.specs.Activation.{FrameFits};
-ghost use Rattle.frame_strand.specs.Standing.{IsCopy};
+ghost use Rattle.private_stack_log.specs.frame_strand.Standing.{IsCopy};
 ghost use Rattle.private_stack_log.specs.Logs.{empty_log, pages_of};
 ghost use Rattle.private_stack_log.specs.Tables.{log_of};
 ghost use Rattle.private_stack.specs.Along.{IsUnderWay, MayBegin};

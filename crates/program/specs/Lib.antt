@@ -3,3 +3,6 @@ pub mod Calls
 pub mod Cells
 pub mod Steps
 pub mod Widths
+-- for the crates above
+pub use Rattle.syntax.specs as syntax
+pub use Rattle.linear.specs as linear

@@ -1,7 +1,6 @@
 use crate::identifier::ObjectName;
 use linear::{Form, RegisterId};
-use lists::Seq;
-use syntax::Mode;
+use syntax::{Mode, Seq};
 
 /// `low` is at most `high`; `F >= G` stands here as `G <= F`.
 #[derive(Drop)]

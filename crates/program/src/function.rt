@@ -2,8 +2,7 @@ use crate::annotation::{Budget, Inequality, Left, Measure, Pending, Zone};
 use crate::identifier::FunctionId;
 use crate::instruction::{Ending, Phi, Step};
 use linear::RegisterId;
-use lists::{Name, Seq};
-use syntax::{ResultType, Width};
+use syntax::{Name, ResultType, Seq, Width};
 
 /// A global array; its cells begin at 0.
 #[derive(Drop)]

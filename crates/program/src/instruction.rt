@@ -1,8 +1,7 @@
 use crate::annotation::Inequality;
 use crate::identifier::{AllocaId, BlockId, FunctionId, ObjectName};
 use linear::RegisterId;
-use lists::Seq;
-use syntax::{BinaryOperator, Conversion, Predicate, Width};
+use syntax::{BinaryOperator, Conversion, Predicate, Seq, Width};
 
 /// A number, or the value of a register.
 #[derive(Clone, Copy, PartialEq, Eq)]

@@ -2,9 +2,9 @@
 use Rattle.std.specs.Prelude.{ℕ, ◌==◌, if◌then◌else◌, ℤ, pos, negsuc, ◌*ℤ◌, Bool, true, false, List, [], ◌∷◌, ◌++◌, map, Option, Some, None, slice_get}
 use Rattle.linear.specs.declared.form.RegisterId.{RegisterId}
 use Rattle.linear.specs.declared.form.Fact.{Fact}
-use Rattle.syntax.specs.declared.operator.Predicate.{Predicate}
-use Rattle.syntax.specs.declared.operator.Predicate.TheVariants.{Equal, NotEqual, UnsignedGreater, UnsignedAtLeast, UnsignedLess, UnsignedAtMost}
-use Rattle.syntax.specs.declared.operator.Predicate.TheVariants.{SignedGreater, SignedAtLeast, SignedLess, SignedAtMost}
+use Rattle.program.specs.syntax.declared.operator.Predicate.{Predicate}
+use Rattle.program.specs.syntax.declared.operator.Predicate.TheVariants.{Equal, NotEqual, UnsignedGreater, UnsignedAtLeast, UnsignedLess, UnsignedAtMost}
+use Rattle.program.specs.syntax.declared.operator.Predicate.TheVariants.{SignedGreater, SignedAtLeast, SignedLess, SignedAtMost}
 use Rattle.program.specs.Blocks.{block_phis}
 use Rattle.program.specs.declared.annotation.Inequality.{Inequality}
 use Rattle.program.specs.declared.identifier.BlockId.{BlockId}

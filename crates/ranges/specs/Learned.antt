@@ -2,12 +2,12 @@
 use Rattle.std.specs.Prelude.{ℤ, pos, negsuc, ◌-ℤ◌, ◌*ℤ◌, int_le, Bool, ◌&&◌, List, [], ◌∷◌, ◌++◌, Option, Some, None, slice_get, if◌then◌else◌}
 use Rattle.linear.specs.declared.form.RegisterId.{RegisterId}
 use Rattle.linear.specs.declared.form.Fact.{Fact}
-use Rattle.syntax.specs.declared.operator.BinaryOperator.{BinaryOperator}
-use Rattle.syntax.specs.declared.operator.BinaryOperator.TheVariants.{Add, Subtract, Multiply, AddNoWrap, SubtractNoWrap, MultiplyNoWrap}
-use Rattle.syntax.specs.declared.operator.BinaryOperator.TheVariants.{SignedDivide, UnsignedDivide, SignedRemainder, UnsignedRemainder, ShiftLeft}
-use Rattle.syntax.specs.declared.operator.BinaryOperator.TheVariants.{LogicalShiftRight, ArithmeticShiftRight, And, Or, ExclusiveOr}
-use Rattle.syntax.specs.declared.operator.Conversion.{Conversion}
-use Rattle.syntax.specs.declared.operator.Conversion.TheVariants.{Truncate, SignExtend, ZeroExtend}
+use Rattle.program.specs.syntax.declared.operator.BinaryOperator.{BinaryOperator}
+use Rattle.program.specs.syntax.declared.operator.BinaryOperator.TheVariants.{Add, Subtract, Multiply, AddNoWrap, SubtractNoWrap, MultiplyNoWrap}
+use Rattle.program.specs.syntax.declared.operator.BinaryOperator.TheVariants.{SignedDivide, UnsignedDivide, SignedRemainder, UnsignedRemainder, ShiftLeft}
+use Rattle.program.specs.syntax.declared.operator.BinaryOperator.TheVariants.{LogicalShiftRight, ArithmeticShiftRight, And, Or, ExclusiveOr}
+use Rattle.program.specs.syntax.declared.operator.Conversion.{Conversion}
+use Rattle.program.specs.syntax.declared.operator.Conversion.TheVariants.{Truncate, SignExtend, ZeroExtend}
 use Rattle.program.specs.declared.instruction.Argument.{Argument}
 use Rattle.program.specs.declared.instruction.Instruction.{Instruction}
 use Rattle.program.specs.declared.instruction.Instruction.TheVariants as instruction

@@ -1,5 +1,5 @@
 ghost use Rattle.std.specs.Prelude.{◌≡◌, ◌++◌, ◌∷◌, [], List, true, false, negsuc, ◌*ℤ◌, map, IfOk, OnOk};
-ghost use Rattle.syntax.specs.declared.operator.Predicate.TheVariants.{Equal};
+ghost use Rattle.program.specs.syntax.declared.operator.Predicate.TheVariants.{Equal};
 ghost use Rattle.ranges_owed.specs.cfg.declared.structure.Way.TheVariants.{Branch};
 ghost use Rattle.program.specs.declared.instruction.Case.{Case};
 ghost use Rattle.ranges.specs.Sums.{facts_of};

@@ -1,5 +1,5 @@
 ghost use Rattle.std.specs.Prelude.{◌≡◌, ◌++◌, ◌∷◌, [], pos, ◌≤ℤ◌, ◌-ℤ◌, true, IfOk, OnOk, slice_get};
-ghost use Rattle.syntax.specs.declared.operator.BinaryOperator.TheVariants.{AddNoWrap, SubtractNoWrap};
+ghost use Rattle.program.specs.syntax.declared.operator.BinaryOperator.TheVariants.{AddNoWrap, SubtractNoWrap};
 ghost use Rattle.ranges_owed.specs.Scales.{is_scale, scale_of};
 ghost use Rattle.ranges_owed.specs.Sums.{one, three};
 ghost use Rattle.ranges.specs.Sums.{shows};

@@ -1,11 +1,11 @@
 -- What the facts at an instruction must show, so that it does not trap and its callee's conditions hold.
 use Rattle.std.specs.Prelude.{ℕ, ℤ, pos, negsuc, ◌-ℤ◌, ◌*ℤ◌, List, [], ◌∷◌, map, Option, Some, None, slice_get}
-use Rattle.syntax.specs.declared.operator.BinaryOperator.{BinaryOperator}
-use Rattle.syntax.specs.declared.operator.BinaryOperator.TheVariants.{Add, Subtract, Multiply, AddNoWrap, SubtractNoWrap, MultiplyNoWrap}
-use Rattle.syntax.specs.declared.operator.BinaryOperator.TheVariants.{SignedDivide, UnsignedDivide, SignedRemainder, UnsignedRemainder, ShiftLeft}
-use Rattle.syntax.specs.declared.operator.BinaryOperator.TheVariants.{LogicalShiftRight, ArithmeticShiftRight, And, Or, ExclusiveOr}
-use Rattle.syntax.specs.declared.operator.Width.{Width}
-use Rattle.syntax.specs.declared.operator.Width.TheVariants.{Bits64, Bits32}
+use Rattle.program.specs.syntax.declared.operator.BinaryOperator.{BinaryOperator}
+use Rattle.program.specs.syntax.declared.operator.BinaryOperator.TheVariants.{Add, Subtract, Multiply, AddNoWrap, SubtractNoWrap, MultiplyNoWrap}
+use Rattle.program.specs.syntax.declared.operator.BinaryOperator.TheVariants.{SignedDivide, UnsignedDivide, SignedRemainder, UnsignedRemainder, ShiftLeft}
+use Rattle.program.specs.syntax.declared.operator.BinaryOperator.TheVariants.{LogicalShiftRight, ArithmeticShiftRight, And, Or, ExclusiveOr}
+use Rattle.program.specs.syntax.declared.operator.Width.{Width}
+use Rattle.program.specs.syntax.declared.operator.Width.TheVariants.{Bits64, Bits32}
 use Rattle.program.specs.declared.annotation.Inequality.{Inequality}
 use Rattle.program.specs.declared.instruction.Argument.{Argument}
 use Rattle.program.specs.declared.instruction.Instruction.{Instruction}

@@ -1,5 +1,5 @@
 ghost use Rattle.std.specs.Prelude.{◌≡◌, ◌++◌, ◌∷◌, [], true, Some, IfOk, OnOk, slice_get};
-ghost use Rattle.syntax.specs.declared.operator.BinaryOperator.TheVariants.{AddNoWrap, SubtractNoWrap};
+ghost use Rattle.program.specs.syntax.declared.operator.BinaryOperator.TheVariants.{AddNoWrap, SubtractNoWrap};
 ghost use Rattle.ranges_owed.specs.Inequalities.{difference_of};
 ghost use Rattle.ranges_owed.specs.Scales.{is_scale, scale_of};
 ghost use Rattle.ranges_owed.specs.Sums.{one};

@@ -1,7 +1,7 @@
 -- Between labels and tasks.
 use Rattle.std.proofs.Common.{◌≡◌, ◌≢◌, ℕ, ◌<◌, true, List, [], ◌∷◌, suc, length, Option, Some, None, inl, inr, refl, sym, ap, subst, ⊎_elim, ◌∙◌, arith}
 use Rattle.std.proofs.lemmas.Option.{slice_get_within}
-use Rattle.linear.specs.declared.form.RegisterId.{RegisterId}
+use Rattle.program.specs.linear.declared.form.RegisterId.{RegisterId}
 use Rattle.program.specs.declared.identifier.BlockId.{BlockId}
 use Rattle.program.specs.declared.annotation.Pending.{Pending}
 use Rattle.program.specs.declared.instruction.Ending.{Ending}

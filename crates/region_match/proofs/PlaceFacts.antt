@@ -2,7 +2,7 @@
 use Rattle.std.proofs.Common.{◌≡◌, ◌≢◌, ◌⊎◌, ◌↔◌, ℕ, ◌+◌, ◌<◌, ◌≤◌, Bool, true, false, not, IsTrue, List, length, Option, inl, inr, refl, sym, ⊎_elim, ◌∙◌, arith}
 use Rattle.std.specs.List.{Any}
 use Rattle.std.proofs.lemmas.Bool.{cases_Bool, cases_eq, cases_lt, true≢false, false≢true}
-use Rattle.linear.specs.declared.form.RegisterId.{RegisterId}
+use Rattle.program.specs.linear.declared.form.RegisterId.{RegisterId}
 use Rattle.program.specs.declared.annotation.Zone.{Zone}
 use Rattle.program.specs.declared.instruction.Instruction.TheVariants.{StartRegion}
 use Rattle.program.specs.declared.instruction.Step.{Step}

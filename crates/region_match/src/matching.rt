@@ -1,7 +1,7 @@
 ghost use Rattle.std.specs.Prelude.{◌≡◌, ◌↔◌, ◌⊎◌, ℕ, length, IsTrue};
 ghost use Rattle.std.specs.Option.{option_copied};
 ghost use Rattle.program.specs.declared.instruction.Instruction.TheVariants.{StartRegion};
-ghost use Rattle.linear.specs.declared.form.RegisterId.{RegisterId};
+ghost use Rattle.program.specs.linear.declared.form.RegisterId.{RegisterId};
 ghost use Rattle.program.specs.declared.identifier.BlockId.{BlockId};
 ghost use Rattle.region_match.specs.Rules.{IsDetach, ending_at, Starts};
 ghost use Rattle.refusal.specs.Earliest.{IsEarliest};

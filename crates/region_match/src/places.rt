@@ -1,5 +1,5 @@
 ghost use Rattle.std.specs.Prelude.{◌≡◌, ◌≢◌, ◌↔◌, ◌⊎◌, ℕ, false, length, Any, IsTrue};
-ghost use Rattle.linear.specs.declared.form.RegisterId.{RegisterId};
+ghost use Rattle.program.specs.linear.declared.form.RegisterId.{RegisterId};
 ghost use Rattle.program.specs.declared.instruction.Instruction.TheVariants.{StartRegion};
 ghost use Rattle.cfg.specs.Paths.{edges_of};
 ghost use Rattle.cfg.specs.Rules.{IsPredecessor};

@@ -1,5 +1,5 @@
 ghost use Rattle.std.specs.Prelude.{◌≡◌, ◌<◌, ◌↔◌, ℕ, List, true, false, length, Some, IsTrue, IfOk, MatchOption, slice_index_or};
-ghost use Rattle.linear.specs.declared.form.RegisterId.{RegisterId};
+ghost use Rattle.program.specs.linear.declared.form.RegisterId.{RegisterId};
 ghost use Rattle.program.specs.declared.identifier.BlockId.{BlockId};
 ghost use Rattle.program.specs.declared.instruction.Ending.{Ending};
 ghost use Rattle.cfg.specs.Paths.{Leg, IsPath};

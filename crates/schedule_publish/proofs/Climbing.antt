@@ -21,9 +21,9 @@ use Rattle.frame_engine.specs.declared.activation.Frame.{Frame}
 use Rattle.frame_engine.specs.declared.activation.Places.{Places}
 use Rattle.frame_engine.specs.Activation.{FrameFits, ShowsFrame, allocas_of}
 use Rattle.frame_engine.specs.Shows.{Layout}
-use Rattle.serial_stack.specs.Layouts.{alloca_sizes, for_body, offset_in, with_allocas}
-use Rattle.serial_stack.specs.Shown as serial
-use Rattle.serial_stack.specs.Shown.{HasTaker}
+use Rattle.private_stack.specs.serial_stack.Layouts.{alloca_sizes, for_body, offset_in, with_allocas}
+use Rattle.private_stack.specs.serial_stack.Shown as serial
+use Rattle.private_stack.specs.serial_stack.Shown.{HasTaker}
 use Rattle.schedule_workers.specs.Going.{IsAbove, PointsUp, TextFits}
 use Rattle.schedule_workers.specs.Layouts.{number_in, own_at}
 use Rattle.schedule_workers.specs.Shown.{cells_in}

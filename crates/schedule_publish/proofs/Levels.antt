@@ -28,7 +28,7 @@ use Rattle.frame_engine.specs.declared.activation.Places.{Places}
 use Rattle.frame_engine.specs.Activation.{FrameFits, allocas_of}
 use Rattle.frame_engine.specs.Names.{HasResult}
 use Rattle.frame_engine.specs.Shows.{Layout}
-use Rattle.serial_stack.specs.Shown as serial
+use Rattle.private_stack.specs.serial_stack.Shown as serial
 use Rattle.schedule_workers.specs.declared.activation.Activation.{Activation}
 use Rattle.schedule_workers.specs.declared.run.Run.{Run}
 use Rattle.schedule_workers.specs.Layouts.{alloca_at, number_in, own_at}

@@ -8,7 +8,7 @@ use Rattle.program.specs.declared.identifier.BlockId.{BlockId}
 use Rattle.frame.specs.declared.frame.Role.TheVariants as role
 use Rattle.cactus.specs.declared.node.Link.{Link}
 use Rattle.frame_engine.specs.declared.activation.Frame.{Frame}
-use Rattle.frame_strand.specs.Standing.{IsCopy}
+use Rattle.schedule_commit.specs.frame_strand.Standing.{IsCopy}
 use Rattle.schedule_workers.specs.declared.activation.Activation.{Activation}
 use Rattle.schedule_workers.specs.Scheduling.{counted_in}
 use Rattle.schedule_publish.specs.Linking.{AreLinks, IsActivation, IsFrameOf, IsLink, RegionsFit, counted_above, counted_of, frames_of, path_of, runner_below}

@@ -10,7 +10,7 @@ use Rattle.program.specs.declared.function.Program.{Program}
 use Rattle.frame_engine.specs.declared.activation.Places.{Places}
 use Rattle.frame_engine.specs.Activation.{allocas_of}
 use Rattle.frame_engine.specs.Starts.{starts_from}
-use Rattle.serial_stack.specs.Layouts.{alloca_sizes, allocas_in, for_body, offset_in, start_in}
+use Rattle.private_stack.specs.serial_stack.Layouts.{alloca_sizes, allocas_in, for_body, offset_in, start_in}
 use Rattle.private_stack.proofs.Living.{alloca_cells as text_cells}
 use Rattle.schedule_workers.specs.Going.{TextFits}
 use Rattle.schedule_workers.specs.Layouts.{alloca_cells, number_in, own_cells}

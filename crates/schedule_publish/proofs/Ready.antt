@@ -15,8 +15,8 @@ use Rattle.frame_engine.specs.declared.activation.Frame.{Frame}
 use Rattle.frame_engine.specs.declared.activation.Places.{Places}
 use Rattle.frame_engine.specs.Flat.{is_cell}
 use Rattle.frame_engine.specs.Shows.{Layout}
-use Rattle.frame_strand.specs.declared.cells.Change.{Change}
-use Rattle.private_stack_log.specs.Tables.{log_of}
+use Rattle.schedule_commit.specs.frame_strand.declared.cells.Change.{Change}
+use Rattle.private_stack.specs.private_stack_log.Tables.{log_of}
 use Rattle.schedule_workers.specs.declared.activation.Activation.{Activation}
 use Rattle.schedule_workers.specs.declared.run.Run.{Run}
 use Rattle.schedule_workers.specs.Scheduling.{counted_in}

@@ -26,8 +26,8 @@ use Rattle.frame_engine.specs.Activation.{FrameFits, ShowsFrame, allocas_of, bas
 use Rattle.frame_engine.specs.Fits.{PlaceFits}
 use Rattle.frame_engine.specs.Shows.{Layout, ShowsBases, ShowsRegisters}
 use Rattle.frame_engine.specs.Words.{bases}
-use Rattle.frame_strand.specs.Standing.{IsCopy}
-use Rattle.frame_strand.proofs.Beginning.{copy_fits, copy_shows}
+use Rattle.schedule_commit.specs.frame_strand.Standing.{IsCopy}
+use Rattle.schedule_commit.proofs.frame_strand.Beginning.{copy_fits, copy_shows}
 use Rattle.schedule_workers.specs.declared.activation.Activation.{Activation}
 use Rattle.schedule_workers.specs.declared.run.Run.{Run}
 use Rattle.schedule_workers.specs.declared.run.Block.{Block}

@@ -2,14 +2,14 @@
 use Rattle.std.specs.Prelude.{◌≡◌, ℕ, Some, length, true}
 use Rattle.cactus.specs.declared.node.Node.{Node}
 use Rattle.cactus.specs.Frames.{node_at}
-use Rattle.frame_strand.specs.Standing.{IsCopy}
+use Rattle.schedule_commit.specs.frame_strand.Standing.{IsCopy}
 use Rattle.schedule_workers.specs.declared.activation.Activation.{Activation}
 use Rattle.schedule_workers.specs.declared.run.Block.{Block}
 use Rattle.schedule_workers.specs.declared.run.Run.{Run}
 use Rattle.schedule_workers.specs.Lent.{IsFree}
 use Rattle.schedule_workers.specs.Scheduling.{counted_in, hand_of}
-use Rattle.private_stack_log.specs.Committing.{Agrees}
-use Rattle.private_stack_log.specs.Tables.{log_of}
+use Rattle.private_stack.specs.private_stack_log.Committing.{Agrees}
+use Rattle.private_stack.specs.private_stack_log.Tables.{log_of}
 use Rattle.program.specs.declared.function.Program.{Program}
 use Rattle.private_stack.specs.declared.cells.PileCells.{PileCells}
 use Rattle.private_stack.specs.declared.pile.Pile.{Pile}

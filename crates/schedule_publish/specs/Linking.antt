@@ -6,7 +6,7 @@ use Rattle.frame.specs.declared.frame.Role.{Role}
 use Rattle.frame.specs.declared.frame.Role.TheVariants as role
 use Rattle.cactus.specs.declared.node.Link.{Link}
 use Rattle.frame_engine.specs.declared.activation.Frame.{Frame}
-use Rattle.frame_strand.specs.Standing.{IsCopy}
+use Rattle.schedule_commit.specs.frame_strand.Standing.{IsCopy}
 use Rattle.schedule_workers.specs.declared.activation.Activation.{Activation}
 use Rattle.schedule_workers.specs.Scheduling.{counted_in}
 use Rattle.private_stack.specs.declared.pile.Pile.{Pile}

@@ -8,4 +8,6 @@ mod linking;
 mod taking;
 
 pub use fitting::{fitting_deep, has_no_child};
+pub use private_stack::{Pause as PilePause, Pile, page_around};
+pub use schedule_commit::{Pause, Strand, absorb, cell};
 pub use taking::absorb_deep;

@@ -3,7 +3,7 @@ ghost use Rattle.std.specs.Option.{option_copied};
 ghost use Rattle.linear.specs.declared.form.RegisterId.{RegisterId};
 ghost use Rattle.program.specs.declared.identifier.BlockId.{BlockId};
 ghost use Rattle.schedule_workers.specs.Scheduling.{counted_in};
-ghost use Rattle.frame_strand.specs.Standing.{IsCopy};
+ghost use Rattle.schedule_commit.specs.frame_strand.Standing.{IsCopy};
 ghost use Rattle.schedule_publish.specs.Linking.{AreLinks, IsFrameOf, RegionsFit, counted_of, frames_of};
 
 use cactus::Link;

@@ -16,3 +16,5 @@ pub mod Roots
 pub mod Copying
 pub mod Lent
 pub mod Pieces
+-- for the crates above
+pub use Rattle.frame_engine.specs as frame_engine

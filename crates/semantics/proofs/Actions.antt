@@ -6,7 +6,7 @@ use Rattle.semantics.specs.Cells.{Object, Shared, Local, Cell, same_object, same
 use Rattle.semantics.specs.Arithmetic.{Unmatched}
 use Rattle.semantics.specs.Frames.{Registers, Role, Child, Body, Frame, Item, Does, Ends, item_at, word_at, cell_at, region_of}
 use Rattle.semantics.specs.Effect.{traps, Action, Plain, Detach, Reattach, Sync, Call, Return, given, loads, adds_to, no_cells, no_adds, if_own, syncs, calls, returns, returns_value, reattaches, registers_along, argument_values, instruction_action, terminator_action, item_action, action_of, Effect}
-use Rattle.linear.specs.declared.form.RegisterId.{RegisterId}
+use Rattle.program.specs.linear.declared.form.RegisterId.{RegisterId}
 use Rattle.program.specs.declared.function.Program.{Program}
 use Rattle.program.specs.declared.instruction.Instruction.{Instruction}
 use Rattle.program.specs.declared.instruction.Instruction.TheVariants as instruction

@@ -12,7 +12,7 @@ use Rattle.semantics.specs.Tree.{Tree, MissesAt, is_left, is_unseen, is_added, M
 use Rattle.semantics.proofs.Actions.{reads_of, adds_of, action_kept}
 use Rattle.semantics.proofs.Steps.{Does, plain, detach, reattach, sync, call, ret, end, change_is, does}
 use Rattle.semantics.proofs.Places.{only_at, both_at, both_first, both_second, no_own_child, all_below_kept}
-use Rattle.linear.specs.declared.form.RegisterId.{RegisterId}
+use Rattle.program.specs.linear.declared.form.RegisterId.{RegisterId}
 use Rattle.program.specs.declared.function.Program.{Program}
 
 -- what stands at a place x that a step of p changes, and what it becomes; at is all that the step changes

@@ -8,7 +8,7 @@ use Rattle.semantics.specs.Effect.{Effect, Action, Plain, Detach, Reattach, Sync
 use Rattle.semantics.specs.State.{went, continued, synced, waiting, resumed}
 use Rattle.semantics.specs.SerialMeaning.{Ending, Left, Gave, Outcome, Rest, written, counted, joined, after_effect, after_left, after_child, after_gave, after_call, by_action, meaning}
 use Rattle.semantics.proofs.Outcomes.{counted_is, joined_is}
-use Rattle.linear.specs.declared.form.RegisterId.{RegisterId}
+use Rattle.program.specs.linear.declared.form.RegisterId.{RegisterId}
 use Rattle.program.specs.declared.function.Program.{Program}
 
 abbrev Gives : Rest → Rest → Type 0

@@ -7,7 +7,7 @@ use Rattle.semantics.specs.Frames.{Frame}
 use Rattle.semantics.specs.Effect.{Effect}
 use Rattle.semantics.specs.State.{went, resumed}
 use Rattle.semantics.specs.SerialMeaning.{Ending, Left, Gave, Outcome, Rest, written, one_more, both_outcomes, at_last, counted, joined, last, after_effect, after_left, after_child, after_gave, after_call}
-use Rattle.linear.specs.declared.form.RegisterId.{RegisterId}
+use Rattle.program.specs.linear.declared.form.RegisterId.{RegisterId}
 
 pub counted_is : (x : Option Outcome) (o : Outcome) → counted x ≡ Some o → (u : Outcome) × (x ≡ Some u) × (one_more u ≡ o)
 counted_is None o e = absurd (cc)

@@ -16,7 +16,7 @@ use Rattle.semantics.proofs.Diamond.{left_alone}
 use Rattle.semantics.proofs.TreeKept.{step_keeps_tree}
 use Rattle.semantics.proofs.Deep.{Deep, deep_kept}
 use Rattle.semantics.proofs.Outcomes.{counted_is, joined_is}
-use Rattle.linear.specs.declared.form.RegisterId.{RegisterId}
+use Rattle.program.specs.linear.declared.form.RegisterId.{RegisterId}
 use Rattle.program.specs.declared.function.Program.{Program}
 
 -- a frame that waits for no call

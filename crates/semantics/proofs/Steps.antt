@@ -5,7 +5,7 @@ use Rattle.semantics.specs.Frames.{Value, Registers, Wait, Free, OnRegion, OnCal
 use Rattle.semantics.specs.Effect.{Effect, Action, Plain, Detach, Reattach, Sync, Call, Return, action_of}
 use Rattle.semantics.specs.State.{State, Change, plain_change, detach_change, reattach_change, sync_change, call_change, return_change, end_change, may_go, childless, hand_over, to_caller, return_from, act, change_of_frame, change_of}
 use Rattle.semantics.proofs.Actions.{return_is_body, reattach_is_child}
-use Rattle.linear.specs.declared.form.RegisterId.{RegisterId}
+use Rattle.program.specs.linear.declared.form.RegisterId.{RegisterId}
 use Rattle.program.specs.declared.function.Program.{Program}
 
 pub data Does (prog : Program) (s : State) (p : Path) : Change → Type 0 where

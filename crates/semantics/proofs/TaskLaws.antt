@@ -20,7 +20,7 @@ use Rattle.semantics.proofs.Workers.{Manned, Parked, calls, ready, stalled}
 use Rattle.semantics.proofs.Machines.{unheld_by, step_manned, found, stolen_manned}
 use Rattle.semantics.proofs.Starting.{begin, start_tree, start_deep, start_manned}
 use Rattle.semantics.proofs.ChildCounts.{none_counted, counted_none, count_at, moved_alone, step_counts}
-use Rattle.linear.specs.declared.form.RegisterId.{RegisterId}
+use Rattle.program.specs.linear.declared.form.RegisterId.{RegisterId}
 use Rattle.program.specs.declared.function.Program.{Program}
 
 -- ---- a trap halts its frame, and nothing else changes

@@ -7,7 +7,7 @@ use Rattle.semantics.specs.Tree.{Tree}
 use Rattle.semantics.proofs.Steps.{Does}
 use Rattle.semantics.proofs.Places.{all_below_at}
 use Rattle.semantics.proofs.Diamond.{Spot, is_moved, is_gone, is_fresh, is_above, Goes, goes, spot, left_alone, stands, same_frame}
-use Rattle.linear.specs.declared.form.RegisterId.{RegisterId}
+use Rattle.program.specs.linear.declared.form.RegisterId.{RegisterId}
 use Rattle.program.specs.declared.function.Program.{Program}
 
 module _ (s : State) (p : Path) (c : Change) (tree : Tree s) (gp : Goes s p) (spots : (x : Path) (o : Option Frame) → c.frames x ≡ Some o → Spot s p c.frames x o) where

@@ -11,7 +11,7 @@ use Rattle.semantics.proofs.Places.{same_path_tells, same_path_apart, only_here,
 use Rattle.semantics.proofs.Steps.{Does}
 use Rattle.semantics.proofs.Diamond.{Goes, spot, Spot, is_moved, is_gone, is_fresh, is_above, goes_stays, stands, left_alone, same_frame}
 use Rattle.semantics.proofs.TreeKept.{step_keeps_tree}
-use Rattle.linear.specs.declared.form.RegisterId.{RegisterId}
+use Rattle.program.specs.linear.declared.form.RegisterId.{RegisterId}
 use Rattle.program.specs.declared.function.Program.{Program}
 
 -- no worker has this frame

@@ -5,17 +5,17 @@ use Rattle.std.specs.Int.{w32, w64, cast_signed, cast_unsigned, int_wrap, int_bi
 use Rattle.std.specs.Int.{Width as WordWidth}
 use Rattle.std.specs.Ordering.{int_eq}
 use mir.Val.{bits, hbits}
-use Rattle.syntax.specs.declared.operator.Width.{Width}
-use Rattle.syntax.specs.declared.operator.Width.TheVariants.{Bits64, Bits32}
-use Rattle.syntax.specs.declared.operator.BinaryOperator.{BinaryOperator}
-use Rattle.syntax.specs.declared.operator.BinaryOperator.TheVariants.{Add, Subtract, Multiply, AddNoWrap, SubtractNoWrap, MultiplyNoWrap, SignedDivide}
-use Rattle.syntax.specs.declared.operator.BinaryOperator.TheVariants.{UnsignedDivide, SignedRemainder, UnsignedRemainder, ShiftLeft, LogicalShiftRight}
-use Rattle.syntax.specs.declared.operator.BinaryOperator.TheVariants.{ArithmeticShiftRight, And, Or, ExclusiveOr}
-use Rattle.syntax.specs.declared.operator.Predicate.{Predicate}
-use Rattle.syntax.specs.declared.operator.Predicate.TheVariants.{Equal, NotEqual, UnsignedGreater, UnsignedAtLeast, UnsignedLess, UnsignedAtMost, SignedGreater}
-use Rattle.syntax.specs.declared.operator.Predicate.TheVariants.{SignedAtLeast, SignedLess, SignedAtMost}
-use Rattle.syntax.specs.declared.operator.Conversion.{Conversion}
-use Rattle.syntax.specs.declared.operator.Conversion.TheVariants.{Truncate, SignExtend, ZeroExtend}
+use Rattle.program.specs.syntax.declared.operator.Width.{Width}
+use Rattle.program.specs.syntax.declared.operator.Width.TheVariants.{Bits64, Bits32}
+use Rattle.program.specs.syntax.declared.operator.BinaryOperator.{BinaryOperator}
+use Rattle.program.specs.syntax.declared.operator.BinaryOperator.TheVariants.{Add, Subtract, Multiply, AddNoWrap, SubtractNoWrap, MultiplyNoWrap, SignedDivide}
+use Rattle.program.specs.syntax.declared.operator.BinaryOperator.TheVariants.{UnsignedDivide, SignedRemainder, UnsignedRemainder, ShiftLeft, LogicalShiftRight}
+use Rattle.program.specs.syntax.declared.operator.BinaryOperator.TheVariants.{ArithmeticShiftRight, And, Or, ExclusiveOr}
+use Rattle.program.specs.syntax.declared.operator.Predicate.{Predicate}
+use Rattle.program.specs.syntax.declared.operator.Predicate.TheVariants.{Equal, NotEqual, UnsignedGreater, UnsignedAtLeast, UnsignedLess, UnsignedAtMost, SignedGreater}
+use Rattle.program.specs.syntax.declared.operator.Predicate.TheVariants.{SignedAtLeast, SignedLess, SignedAtMost}
+use Rattle.program.specs.syntax.declared.operator.Conversion.{Conversion}
+use Rattle.program.specs.syntax.declared.operator.Conversion.TheVariants.{Truncate, SignExtend, ZeroExtend}
 
 -- why a run cannot go on
 pub data Trap : Type 0 where

@@ -6,7 +6,7 @@ use Rattle.semantics.specs.Cells.{Object, Local, Cell, same_object, same_cell, M
 use Rattle.semantics.specs.Arithmetic.{Trap, Undefined, BadIndex, Unmatched, Answer, Gives, Traps, binary, compares, converts}
 use Rattle.semantics.specs.Frames.{Value, Word, Truth, Pointer, Region, Registers, Role, Child, Body, Frame, and_then, Item, Does, Ends, item_at, phis_at}
 use Rattle.semantics.specs.Frames.{cells_of, truth_of, region_of, set_register, word_at, object_at, first_cell, cell_at}
-use Rattle.linear.specs.declared.form.RegisterId.{RegisterId}
+use Rattle.program.specs.linear.declared.form.RegisterId.{RegisterId}
 use Rattle.program.specs.declared.function.Program.{Program}
 use Rattle.program.specs.declared.instruction.Instruction.{Instruction}
 use Rattle.program.specs.declared.instruction.Instruction.TheVariants as instruction

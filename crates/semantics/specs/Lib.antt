@@ -10,3 +10,6 @@ pub mod Events
 pub mod Replay
 pub mod Counts
 pub mod Tasks
+-- for the crates above
+pub use Rattle.program.specs as program
+pub use Rattle.program.specs.linear as linear

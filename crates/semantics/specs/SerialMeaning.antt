@@ -6,7 +6,7 @@ use Rattle.semantics.specs.Arithmetic.{Trap}
 use Rattle.semantics.specs.Frames.{Frame}
 use Rattle.semantics.specs.Effect.{Effect, Action, Plain, Detach, Reattach, Sync, Call, Return, action_of}
 use Rattle.semantics.specs.State.{override, added, clears, went, detached, continued, synced, called, waiting, resumed, root_frame}
-use Rattle.linear.specs.declared.form.RegisterId.{RegisterId}
+use Rattle.program.specs.linear.declared.form.RegisterId.{RegisterId}
 use Rattle.program.specs.declared.function.Program.{Program}
 
 -- how the rest of a child or of a function's body ends

@@ -6,7 +6,7 @@ use Rattle.semantics.specs.Cells.{Cell, Memory, globals_of, owns}
 use Rattle.semantics.specs.Arithmetic.{Trap, cell_sum}
 use Rattle.semantics.specs.Frames.{Value, Word, Registers, Wait, Free, OnRegion, OnCall, Halted, Role, Child, Body, Frame, set_register}
 use Rattle.semantics.specs.Effect.{Effect, Action, Plain, Detach, Reattach, Sync, Call, Return, no_cells, no_writes, no_adds, action_of}
-use Rattle.linear.specs.declared.form.RegisterId.{RegisterId}
+use Rattle.program.specs.linear.declared.form.RegisterId.{RegisterId}
 use Rattle.program.specs.declared.function.Program.{Program}
 
 pub record State : Type 0 where

@@ -4,7 +4,7 @@ use Rattle.semantics.specs.Paths.{Path}
 use Rattle.semantics.specs.Cells.{Cell}
 use Rattle.semantics.specs.Frames.{OnCall, Body, Frame}
 use Rattle.semantics.specs.State.{State, Change}
-use Rattle.linear.specs.declared.form.RegisterId.{RegisterId}
+use Rattle.program.specs.linear.declared.form.RegisterId.{RegisterId}
 
 -- each frame but the root has a parent that made it, and the callers are just those that wait for a living call
 pub record Tree (s : State) : Type 0 where

@@ -12,6 +12,13 @@
 ghost use Rattle.semantics.specs.Counts.{RegionCounts};
 ghost use Rattle.semantics.specs.Tasks.{FramesOnTasks};
 
+// What is run, for the crates above.
+pub use program::{
+    Address, AllocaId, BinaryOperator, Block, BlockId, Ending, Function, FunctionId, GlobalId,
+    Instruction, ObjectName, Operand, Phi, PhiEntry, Predicate, Program, RegisterId, Step,
+    Terminator, Width,
+};
+
 /// Whatever the program: counts of children for each frame and region that detaches raise and reattaches lower are the numbers of
 /// living children in each machine that a schedule leads to, and a sync passes just where its count is none.
 pub fn region_counts()

@@ -7,3 +7,5 @@ pub mod Calls
 pub mod Commits
 pub mod Made
 pub mod Stacks
+-- for the crates above
+pub use Rattle.schedule_core.proofs as schedule_core

@@ -27,7 +27,8 @@ pub use board::Board;
 pub use history::{Entry, History};
 pub use outside::{advance, blank_strand, clear};
 pub use schedule_core::{
-    Event, Finished, Memory, Pause, Places, RunFault, Strand, Verified, places_of, steps_of,
+    Event, Finished, Machine, Memory, Pause, Places, RunFault, Status, Strand, TaskView, Verified,
+    places_of, replay, steps_of,
 };
 pub use seat::Seat;
 pub use shared::Shared;

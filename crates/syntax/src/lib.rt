@@ -14,6 +14,7 @@ pub use annotation::{
     Zone,
 };
 pub use instruction::{Address, AllocaSize, Argument, Instruction, Operand, Phi, PhiEntry, Step};
+pub use lists::{Name, Seq};
 pub use module::{Block, Function, Global, Module, Parameter, ResultType};
 pub use operator::{BinaryOperator, Conversion, Mode, Predicate, Width};
 pub use terminator::{Case, Ending, Terminator};

@@ -21,11 +21,12 @@
 //! - A [`Verified`] is good for any number of runs, and threads may share it. Whatever the schedule, a run that ends has the serial answer.
 #![tactic(auto)]
 
-pub use deque_pool::{Figures, Gate, Go, History, OpenGate, Recorded, run, run_recorded};
+pub use deque_pool::{
+    Event, Figures, Gate, Go, History, Machine, OpenGate, Recorded, replay, run, run_recorded,
+};
 pub use explain::{Explanation, explain, rule_text, told};
 pub use frame::Path;
 pub use outcome::{Finished, Memory, RunFault};
-pub use schedule_core::{Event, Machine, replay};
 pub use serial_machine::{
     Decoded, Unfinished, serial_run, serial_run_by, serial_run_within, serial_run_within_by,
 };

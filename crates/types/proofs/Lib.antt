@@ -6,3 +6,5 @@ pub mod Judging
 pub mod Scopes
 pub mod TextCalls
 pub mod Programs
+-- for the crates above
+pub use Rattle.types_names.proofs as types_names

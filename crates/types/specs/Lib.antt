@@ -7,3 +7,5 @@ pub mod Instruction
 pub mod Meaning
 pub mod Terminator
 pub mod Typed
+-- for the crates above
+pub use Rattle.types_names.specs as types_names

@@ -3,8 +3,7 @@
 
 use lists::OutOfMemory;
 use program::{Program, RegisterKind};
-use schedule_core::{Event, Machine, TaskView};
-use shared_run::{Bench, Board, Entry, History, Verified};
+use shared_run::{Bench, Board, Entry, Event, History, Machine, TaskView, Verified};
 use std::alloc::Global;
 
 /// The machine after the events of a history that it was given.

@@ -6,10 +6,9 @@ ghost use Rattle.shared_run.specs.schedule_core.Strands.{IsMadeOf};
 use crate::boards::calls::{Asked, Call};
 use crate::boards::replies::{Answer, claimed, committed, fetched, loaded, published, stepped};
 use lists::OutOfMemory;
-use schedule_core::{Machine, Status};
 use shared_run::{
-    Bench, Board, Fetched, Loaded, Pause, Places, PrivateStack, Published, Seat, Standing, Strand,
-    Ticket, Verified, advance, blank_strand, clear,
+    Bench, Board, Fetched, Loaded, Machine, Pause, Places, PrivateStack, Published, Seat, Standing,
+    Status, Strand, Ticket, Verified, advance, blank_strand, clear,
 };
 use std::alloc::Global;
 use std::marker::PhantomData;

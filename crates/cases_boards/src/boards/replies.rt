@@ -1,10 +1,9 @@
 //! What the calls of a board come to, in words.
 
 use frame::Path;
-use schedule_core::Machine;
 use shared_run::{
-    Claimed, Committed, Entry, Fetched, History, Loaded, Pause, Published, Standing, Stepped,
-    Ticket,
+    Claimed, Committed, Entry, Fetched, History, Loaded, Machine, Pause, Published, Standing,
+    Stepped, Ticket,
 };
 use std::alloc::AllocError;
 

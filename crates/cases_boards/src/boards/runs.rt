@@ -7,10 +7,10 @@ use crate::boards::mirror::Mirror;
 use crate::boards::players::players_of;
 use crate::boards::rows::{Notes, play_drawn, play_rows};
 use lists::OutOfMemory;
-use schedule_core::Machine;
 use serial_machine::serial_run;
 use shared_run::{
-    Bench, Board, Finished, History, Memory, Places, RunFault, Seat, Shared, Start, Verified,
+    Bench, Board, Finished, History, Machine, Memory, Places, RunFault, Seat, Shared, Start,
+    Verified,
 };
 use std::alloc::{AllocError, Global};
 use std::marker::Brand;

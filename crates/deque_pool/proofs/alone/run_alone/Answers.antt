@@ -1,4 +1,4 @@
-use Rattle.schedule_core.proofs.Grounds.{made_cells}
+use Rattle.shared_run.proofs.schedule_core.Grounds.{made_cells}
 use Rattle.deque_pool.proofs.Answered.{answered_by}
 use Rattle.deque_pool.proofs.alone.run_alone.Goals as goal
 

@@ -1,6 +1,6 @@
 use Rattle.std.proofs.Common.{subst}
 use Rattle.refusal.specs.Earliest.{IsEarliest}
-use Rattle.footprints_zones.specs.declared.place.Use.{Use}
+use Rattle.footprints_feet.specs.footprints_zones.declared.place.Use.{Use}
 use Rattle.footprints.specs.Rules.{IsUseBroken}
 use Rattle.footprints.proofs.judge.step_fault.Goals as goal
 

@@ -2,7 +2,7 @@ use Rattle.std.proofs.Common.{◌≡◌, false, take}
 use Rattle.std.specs.Prelude.{◌==◌, ◌&&◌}
 use Rattle.std.specs.List.{list_any}
 use Rattle.program.specs.declared.annotation.Pending.{Pending}
-use Rattle.footprints_zones.specs.Zones.{span, as_written, covers}
+use Rattle.footprints_feet.specs.footprints_zones.Zones.{span, as_written, covers}
 use Rattle.footprints.proofs.pass.is_passed.Given as goal
 
 abbrev pub invariant-loop-item : goal.invariant-loop-item

@@ -1,5 +1,5 @@
 use Rattle.std.proofs.Common.{◌≡◌, IsTrue}
-use Rattle.linear.specs.declared.form.RegisterId.{RegisterId}
+use Rattle.program.specs.linear.declared.form.RegisterId.{RegisterId}
 use Rattle.program.specs.declared.instruction.Instruction.TheVariants.{StartRegion}
 use Rattle.program.specs.declared.instruction.Step.{Step}
 use Rattle.refusal.specs.declared.broken.Broken.{Broken}

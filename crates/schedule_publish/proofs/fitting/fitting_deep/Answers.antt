@@ -1,7 +1,7 @@
 use Rattle.std.proofs.Common.{◌∙◌, List, ℤ, sym, ap, subst}
 use Rattle.std.specs.Option.{option_copied}
-use Rattle.private_stack_log.specs.Committing.{Agrees}
-use Rattle.private_stack_log.specs.Tables.{log_of}
+use Rattle.private_stack.specs.private_stack_log.Committing.{Agrees}
+use Rattle.private_stack.specs.private_stack_log.Tables.{log_of}
 use Rattle.schedule_workers.specs.declared.run.Block.{Block}
 use Rattle.schedule_workers.specs.Lent.{IsFree}
 use Rattle.schedule_publish.proofs.fitting.fitting_deep.Goals as goal

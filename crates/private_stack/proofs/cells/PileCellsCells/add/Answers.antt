@@ -5,7 +5,7 @@ use Rattle.std.proofs.lemmas.Int.{to_z-of_z}
 use mir.Val.{to_z, of_z}
 use Rattle.semantics.specs.Arithmetic.{cell_sum}
 use Rattle.frame_engine.specs.Access.{Adds}
-use Rattle.frame_strand.specs.declared.cells.Stop.{Stop}
+use Rattle.private_stack_log.specs.frame_strand.declared.cells.Stop.{Stop}
 use Rattle.private_stack_log.specs.Accessing.{CellHolds}
 use Rattle.private_stack_log.specs.Tables.{Table}
 use Rattle.private_stack.specs.OwnCells.{IsOwnPut, may_be, own_cell}

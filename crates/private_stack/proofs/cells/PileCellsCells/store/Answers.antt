@@ -4,7 +4,7 @@ use Rattle.std.specs.Vec.{with_item}
 use Rattle.std.proofs.lemmas.Int.{to_z-of_z}
 use mir.Val.{to_z, of_z}
 use Rattle.frame_engine.specs.Access.{Stores}
-use Rattle.frame_strand.specs.declared.cells.Stop.{Stop}
+use Rattle.private_stack_log.specs.frame_strand.declared.cells.Stop.{Stop}
 use Rattle.private_stack_log.specs.Accessing.{TableDoes}
 use Rattle.private_stack_log.specs.Tables.{Table}
 use Rattle.private_stack.specs.OwnCells.{CellsDo, IsOwnPut, own_cell}

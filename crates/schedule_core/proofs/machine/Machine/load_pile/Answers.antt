@@ -6,9 +6,9 @@ use Rattle.program.specs.declared.function.Program.{Program}
 use Rattle.schedule_workers.specs.declared.run.Block.{Block}
 use Rattle.schedule_workers.specs.Lent.{IsFree}
 use Rattle.schedule_workers.specs.Scheduling.{hand_of}
-use Rattle.private_stack_log.specs.Logs.{Log}
-use Rattle.private_stack.specs.Along.{MayBegin}
-use Rattle.private_stack.specs.Layouts.{Segment}
+use Rattle.schedule_publish.specs.private_stack_log.Logs.{Log}
+use Rattle.schedule_publish.specs.private_stack.Along.{MayBegin}
+use Rattle.schedule_publish.specs.private_stack.Layouts.{Segment}
 use Rattle.schedule_publish.specs.Fitting.{HasNoChild, segment_block}
 use Rattle.schedule_core.specs.Stages.{program_of}
 use Rattle.schedule_core.proofs.Bases.{may_load}

@@ -1,0 +1,2 @@
+-- for the crates above
+pub use Rattle.schedule_core.specs.store as store
