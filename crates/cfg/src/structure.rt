@@ -43,10 +43,7 @@ impl BlockEdges {
     pub fn leads_to(&self, block: usize) -> bool
         ensures { result ≡ leads_to block self.now.edges }
     {
-        self.edges
-            .as_slice()
-            .iter()
-            .any(|edge| edge.to.0 == block)
+        self.edges.as_slice().iter().any(|edge| edge.to.0 == block)
     }
 }
 
