@@ -18,6 +18,12 @@ const STEPS_A_BYTE: usize = 100;
 /// How often lines are tried anew once some were taken out.
 const MOST_ROUNDS: usize = 64;
 
+/// How often guesses are tried anew.
+const MOST_GUESSES: usize = 24;
+
+/// The bytes of a text over which guesses are tried without the lines that may show them.
+const LONG: usize = 65_536;
+
 /// A text as it was.
 pub fn copied(alloc: Global, text: &[u8]) -> Result<Vec<u8>, Refused>
     ensures { IfOk result (λ out. out.items ≡ text.now) }
@@ -156,8 +162,8 @@ fn with_guesses(
     effort: &Effort,
 ) -> Result<String, Unanswered> {
     let mut guessed = proposed_over(alloc, state, text.as_str(), Kind::Guesses)?;
-    for _round in 0..MOST_ROUNDS {
-        let more = proposed_over(alloc, state, guessed.as_str(), Kind::Steps)?;
+    let mut more = proposed_over(alloc, state, guessed.as_str(), Kind::Steps)?;
+    for _round in 0..MOST_GUESSES {
         let new = NewLines::between(alloc, text.as_str(), more.as_str())?;
         let Some(refused) = refused_of(alloc, state, more.as_str(), &new, effort)? else {
             return Ok(text);
@@ -168,8 +174,9 @@ fn with_guesses(
             return tried(alloc, state, text.as_str(), more, effort);
         }
         guessed = without(alloc, guessed.as_str(), guesses.as_slice())?;
+        more = proposed_over(alloc, state, guessed.as_str(), Kind::Steps)?;
     }
-    Ok(text)
+    tried(alloc, state, text.as_str(), more, effort)
 }
 
 /// The same of each kind: what is sure first, since there is room for few lines at a block; zones and costs follow from facts.
@@ -181,7 +188,12 @@ fn with_all(
 ) -> Result<String, Unanswered> {
     let text = String::from_str(alloc, text)?;
     let text = with_kind(alloc, state, text, Kind::Facts, effort)?;
-    let text = with_guesses(alloc, state, text, effort)?;
+    let text = if text.len() > LONG {
+        let text = with_kind(alloc, state, text, Kind::Guesses, effort)?;
+        with_kind(alloc, state, text, Kind::Steps, effort)?
+    } else {
+        with_guesses(alloc, state, text, effort)?
+    };
     let text = with_kind(alloc, state, text, Kind::Zones, effort)?;
     with_kind(alloc, state, text, Kind::Costs, effort)
 }

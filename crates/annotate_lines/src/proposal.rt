@@ -19,7 +19,7 @@ use syntax::{Block, Function, Module};
 /// The lines of one word that may stand at one place.
 const MOST_LINES: usize = 32;
 
-/// The facts that are looked at for `shows` lines in all.
+/// The facts and rests that are looked at for `shows` lines in all.
 const MOST_EFFORT: usize = 4_000_000;
 
 /// Which lines are proposed.

@@ -4,7 +4,7 @@ use crate::sum::Sum;
 use std::alloc::{AllocError, Global};
 
 /// The most sums that a search looks at.
-const MOST_RESTS: usize = 192;
+const MOST_RESTS: usize = 128;
 
 /// What is left to be shown once a fact is taken out of another rest.
 #[derive(Drop)]
@@ -22,6 +22,8 @@ struct Search<'w, 'a> {
     alloc: Global,
     facts: &'w [Sum<'a>],
     rests: Vec<Rest<'a>>,
+    /// How many rests were compared with others since that was last counted.
+    compared: usize,
 }
 
 /// How often a fact is taken out of a rest for a register with these coefficients; none where the signs differ.
@@ -89,7 +91,8 @@ impl<'a> Search<'_, 'a> {
         let sum = rest.sum.with(taken, 0i128.saturating_sub(times))?;
         let number = self.rests.len();
         let is_shown = matches!(sum.as_number(), Some(left) if left >= 0);
-        if sum.has_form_terms() && !self.is_found(&sum) {
+        self.compared = self.compared.saturating_add(number);
+        if is_shown || number < MOST_RESTS && sum.has_form_terms() && !self.is_found(&sum) {
             self.rests.push(Rest {
                 sum,
                 of,
@@ -97,11 +100,7 @@ impl<'a> Search<'_, 'a> {
                 times,
             })?;
         }
-        Ok(if is_shown && number < self.rests.len() {
-            Some(number)
-        } else {
-            None
-        })
+        Ok(if is_shown { Some(number) } else { None })
     }
 
     /// Takes each fact out of a rest that has a register as the rest has it. The number of a rest that is shown, as soon as there is one.
@@ -135,14 +134,25 @@ impl<'a> Search<'_, 'a> {
         }
     }
 
+    /// What it counts for to look at the rest of this number: each fact, by each of its registers.
+    fn cost_of(&self, of: usize) -> usize {
+        let registers = match self.rests.get(of) {
+            Some(rest) => rest.sum.terms.len(),
+            None => 0,
+        };
+        self.facts.len().saturating_mul(registers.saturating_add(1))
+    }
+
     /// Looks at the rests in their order; the number of one that is shown. What is looked at is taken off the effort.
     fn run(&mut self, effort: &mut usize) -> Result<Option<usize>, AllocError> {
         for of in 0..MOST_RESTS {
-            if of >= self.rests.len() || *effort < self.facts.len() {
+            if of >= self.rests.len() || *effort == 0 {
                 return Ok(None);
             }
-            *effort = effort.saturating_sub(self.facts.len().saturating_add(of));
             let shown = self.follow(of)?;
+            let cost = self.cost_of(of).saturating_add(self.compared);
+            self.compared = 0;
+            *effort = effort.saturating_sub(cost);
             if shown.is_some() {
                 return Ok(shown);
             }
@@ -251,6 +261,7 @@ pub fn lines_between<'a>(
         alloc,
         facts,
         rests: Vec::new(alloc),
+        compared: 0,
     };
     search.rests.push(Rest {
         sum: sum.copy()?,

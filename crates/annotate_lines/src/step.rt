@@ -331,8 +331,12 @@ impl<'a> Walk<'a> {
     /// Goes over a step; the lines that may stand before it.
     pub fn pass(&mut self, step: &'a Step) -> Result<String, AllocError> {
         self.begin(step.shows.as_slice())?;
+        if self.effort == 0 {
+            return self.spell_told();
+        }
         let goals = self.scope.goals(&step.instruction)?;
         self.reach_all(goals)?;
+        self.effort = self.effort.saturating_sub(self.block.steps.len());
         let touched = self
             .scope
             .touched(self.block.steps.as_slice(), &step.instruction)?;
