@@ -108,7 +108,9 @@ impl<'a> Known<'a> {
             above,
             block,
         };
-        for sum in place.guesses(self.facts.sums.get(first..).unwrap_or(&[]))? {
+        let sums = self.facts.sums.as_slice();
+        let from = first.min(sums.len());
+        for sum in place.guesses(&sums[from..])? {
             self.facts.add(sum)?;
         }
         let stated = self.facts.take();
