@@ -8,7 +8,7 @@ use explain_facts::{match_text, spend};
 use ir_reader::read;
 use ranges::{Effort, Unanswered};
 use refusal::Refused;
-use std::alloc::Global;
+use std::alloc::{AllocError, Global};
 use std::hash::RandomState;
 use verifier::{Unverified, verify_within};
 
@@ -17,6 +17,12 @@ const STEPS_A_BYTE: usize = 100;
 
 /// How often lines are tried anew once some were taken out.
 const MOST_ROUNDS: usize = 64;
+
+/// How often guesses are tried anew.
+const MOST_GUESSES: usize = 24;
+
+/// The bytes of a text over which guesses are tried without the lines that may show them.
+const LONG: usize = 65_536;
 
 /// A text as it was.
 pub fn copied(alloc: Global, text: &[u8]) -> Result<Vec<u8>, Refused>
@@ -110,7 +116,21 @@ fn tried(
     Ok(String::from_str(alloc, text)?)
 }
 
-/// A text with lines of a kind put in that follow from others and stand their trial; as it was, where it cannot be read.
+/// A text with lines of a kind put in that may follow from others; as it was, where it cannot be read.
+fn proposed_over(
+    alloc: Global,
+    state: RandomState,
+    text: &str,
+    kind: Kind,
+) -> Result<String, Unanswered> {
+    match proposed(alloc, state, text.as_bytes(), kind) {
+        Ok(proposal) => Ok(proposal),
+        Err(Refused::Fault { .. }) => Ok(String::from_str(alloc, text)?),
+        Err(Refused::Memory) => Err(Unanswered::OutOfMemory),
+    }
+}
+
+/// A text with lines of a kind put in that stand their trial.
 fn with_kind(
     alloc: Global,
     state: RandomState,
@@ -118,11 +138,45 @@ fn with_kind(
     kind: Kind,
     effort: &Effort,
 ) -> Result<String, Unanswered> {
-    match proposed(alloc, state, text.as_bytes(), kind) {
-        Ok(proposal) => tried(alloc, state, text.as_str(), proposal, effort),
-        Err(Refused::Fault { .. }) => Ok(text),
-        Err(Refused::Memory) => Err(Unanswered::OutOfMemory),
+    let proposal = proposed_over(alloc, state, text.as_str(), kind)?;
+    tried(alloc, state, text.as_str(), proposal, effort)
+}
+
+/// The lines of a text, by numbers of one with more lines; the numbers of lines that it has not are left out.
+fn own_lines(alloc: Global, more: &NewLines, numbers: &[u32]) -> Result<Vec<u32>, AllocError> {
+    let mut own = Vec::new(alloc);
+    for number in numbers {
+        if !more.has(*number) {
+            own.push(more.own_line(*number))?;
+        }
     }
+    Ok(own)
+}
+
+/// A text with guesses put in that stand their trial beside the `shows` lines by which edges show them. As long as a guess is refused, what is shown without
+/// it is found anew.
+fn with_guesses(
+    alloc: Global,
+    state: RandomState,
+    text: String,
+    effort: &Effort,
+) -> Result<String, Unanswered> {
+    let mut guessed = proposed_over(alloc, state, text.as_str(), Kind::Guesses)?;
+    let mut more = proposed_over(alloc, state, guessed.as_str(), Kind::Steps)?;
+    for _round in 0..MOST_GUESSES {
+        let new = NewLines::between(alloc, text.as_str(), more.as_str())?;
+        let Some(refused) = refused_of(alloc, state, more.as_str(), &new, effort)? else {
+            return Ok(text);
+        };
+        let steps = NewLines::between(alloc, guessed.as_str(), more.as_str())?;
+        let guesses = own_lines(alloc, &steps, refused.as_slice())?;
+        if guesses.is_empty() {
+            return tried(alloc, state, text.as_str(), more, effort);
+        }
+        guessed = without(alloc, guessed.as_str(), guesses.as_slice())?;
+        more = proposed_over(alloc, state, guessed.as_str(), Kind::Steps)?;
+    }
+    tried(alloc, state, text.as_str(), more, effort)
 }
 
 /// The same of each kind: what is sure first, since there is room for few lines at a block; zones and costs follow from facts.
@@ -134,8 +188,12 @@ fn with_all(
 ) -> Result<String, Unanswered> {
     let text = String::from_str(alloc, text)?;
     let text = with_kind(alloc, state, text, Kind::Facts, effort)?;
-    let text = with_kind(alloc, state, text, Kind::Guesses, effort)?;
-    let text = with_kind(alloc, state, text, Kind::Steps, effort)?;
+    let text = if text.len() > LONG {
+        let text = with_kind(alloc, state, text, Kind::Guesses, effort)?;
+        with_kind(alloc, state, text, Kind::Steps, effort)?
+    } else {
+        with_guesses(alloc, state, text, effort)?
+    };
     let text = with_kind(alloc, state, text, Kind::Zones, effort)?;
     with_kind(alloc, state, text, Kind::Costs, effort)
 }

@@ -125,13 +125,9 @@ impl<'a> Facts<'a> {
 
     /// States that a register is this sum.
     fn equate(&mut self, name: &'a str, value: &Sum<'a>) -> Result<(), AllocError> {
-        let mut above = value.copy()?;
-        above.add_term(name, -1)?;
-        self.add(above)?;
-        let mut below = Sum::number(self.alloc, 0);
-        below.add_term(name, 1)?;
-        below.add(value, -1)?;
-        self.add(below)
+        let (most, least) = equation(self.alloc, name, value)?;
+        self.add(most)?;
+        self.add(least)
     }
 
     /// States what an instruction says of a register that blocks beside its own take.
@@ -182,6 +178,20 @@ impl<'a> Facts<'a> {
         }
         self.branch(block.steps.as_slice(), edge.way)
     }
+}
+
+/// That a register is at most a sum, and that it is at least the sum.
+pub fn equation<'a>(
+    alloc: Global,
+    name: &'a str,
+    value: &Sum<'a>,
+) -> Result<(Sum<'a>, Sum<'a>), AllocError> {
+    let mut most = value.copy()?;
+    most.add_term(name, -1)?;
+    let mut least = Sum::number(alloc, 0);
+    least.add_term(name, 1)?;
+    least.add(value, -1)?;
+    Ok((most, least))
 }
 
 /// Whether a function has many instructions.

@@ -100,32 +100,47 @@ impl<'a> Known<'a> {
         Ok(())
     }
 
-    /// States what may be so of a block's counters.
-    fn guess(&mut self, above: &[usize], block: usize) -> Result<(), AllocError> {
+    /// States what may be so of a block's counters, by the facts from this number on.
+    fn guess(&mut self, above: &[usize], block: usize, first: usize) -> Result<(), AllocError> {
         let place = Place {
             alloc: self.alloc,
             function: self.function,
             above,
             block,
         };
-        for sum in place.guesses(self.facts.sums.as_slice())? {
+        let sums = self.facts.sums.as_slice();
+        let from = first.min(sums.len());
+        for sum in place.guesses(&sums[from..])? {
             self.facts.add(sum)?;
+        }
+        let stated = self.facts.take();
+        if block < self.guessed.len() {
+            self.guessed[block].extend_from_slice(stated.as_slice())?;
         }
         Ok(())
     }
 
-    /// States what may be so at the heads of loops, unless the function has many blocks.
-    fn guess_all(&mut self) -> Result<(), AllocError> {
-        let count = self.function.blocks.len();
-        let above = dominators_of(self.alloc, self.edges.as_slice(), count)?;
-        for block in 0..count {
-            if count <= MOST_BLOCKS {
-                self.guess(above.as_slice(), block)?;
-            }
-            let guessed = self.facts.take();
-            self.guessed.push(guessed)?;
+    /// The same of all blocks.
+    fn guess_from(&mut self, above: &[usize], first: usize) -> Result<(), AllocError> {
+        for block in 0..self.function.blocks.len() {
+            self.guess(above, block, first)?;
         }
         Ok(())
+    }
+
+    /// States what may be so at the heads of loops, unless the function has many blocks; then what may be so if that is.
+    fn guess_all(&mut self) -> Result<(), AllocError> {
+        let count = self.function.blocks.len();
+        for _block in 0..count {
+            self.guessed.push(Vec::new(self.alloc))?;
+        }
+        if count > MOST_BLOCKS {
+            return Ok(());
+        }
+        let above = dominators_of(self.alloc, self.edges.as_slice(), count)?;
+        let stated = self.facts.sums.len();
+        self.guess_from(above.as_slice(), 0)?;
+        self.guess_from(above.as_slice(), stated)
     }
 
     /// The numbers of the facts that the source of an edge adds on it.

@@ -81,7 +81,7 @@ impl<'a> Need<'a> {
 }
 
 /// Adds the terms of a sum at a block's start, with what its phis take on an edge from a block of this label put in.
-fn move_terms<'a>(
+pub fn move_terms<'a>(
     moved: &mut Sum<'a>,
     sum: &Sum<'a>,
     label: &Name,

@@ -6,8 +6,10 @@
 #![tactic(auto)]
 
 mod budget;
+mod cells;
 mod edge;
 mod fact;
+mod goal;
 mod guess;
 mod hull;
 mod keep;
@@ -15,6 +17,7 @@ mod left;
 mod pending;
 mod proposal;
 mod ring;
+mod search;
 mod step;
 mod sum;
 

@@ -1,25 +1,19 @@
 //! The zones that children may still touch where a block begins, because they are handed on to it.
 
+use crate::cells::is_same_object;
 use crate::edge::{Edge, Way, block_at, edges_of};
+use crate::guess::{Place, dominators_of};
 use crate::hull::Hull;
 use crate::keep::names_own;
 use crate::sum::Sum;
 use std::alloc::{AllocError, Global};
-use syntax::{Address, Block, Form, Function, Pending, Zone};
+use syntax::{Block, Form, Function, Pending, Zone};
 
 /// A zone that is pending of a region.
 #[derive(Clone, Copy)]
 pub struct Handed<'a> {
     pub region: &'a str,
     pub zone: &'a Zone,
-}
-
-fn is_same_object(one: &Address, other: &Address) -> bool {
-    match (one, other) {
-        (Address::Register(one), Address::Register(other)) => one.is_same(other),
-        (Address::Global(one), Address::Global(other)) => one.is_same(other),
-        _ => false,
-    }
 }
 
 /// Whether two forms are the same number whatever the registers hold.
@@ -33,6 +27,12 @@ fn are_same(alloc: Global, one: &Form, other: &Form) -> Result<bool, AllocError>
 fn form_names_own(alloc: Global, block: &Block, form: &Form) -> Result<bool, AllocError> {
     let sum = Sum::of_form(alloc, form)?;
     Ok(names_own(block, &sum))
+}
+
+/// Whether each register of a form has its value at a place.
+fn has_values(place: Place<'_, '_>, form: &Form) -> Result<bool, AllocError> {
+    let sum = Sum::of_form(place.alloc, form)?;
+    Ok(place.has_values(&sum))
 }
 
 impl<'a> Handed<'a> {
@@ -57,6 +57,11 @@ impl<'a> Handed<'a> {
         )
     }
 
+    /// Whether the registers of both ends have their values at a place.
+    fn may_stand(self, place: Place<'_, '_>) -> Result<bool, AllocError> {
+        Ok(has_values(place, &self.zone.low)? && has_values(place, &self.zone.high)?)
+    }
+
     /// Whether a block says itself what is pending of the region's object.
     fn is_said(self, block: &Block) -> bool {
         for pending in block.notes.pending.as_slice() {
@@ -69,9 +74,9 @@ impl<'a> Handed<'a> {
         false
     }
 
-    /// Whether a block says that itself, or a register of the zone is another one there.
-    fn is_kept_out(self, alloc: Global, block: &Block) -> Result<bool, AllocError> {
-        Ok(self.is_said(block) || self.is_renamed(alloc, block)?)
+    /// Whether a block says that itself, or a register of the zone is another one there, or has no value.
+    fn is_kept_out(self, place: Place<'_, '_>, block: &Block) -> Result<bool, AllocError> {
+        Ok(self.is_said(block) || self.is_renamed(place.alloc, block)? || !self.may_stand(place)?)
     }
 }
 
@@ -90,17 +95,29 @@ pub struct Waiting<'a> {
     alloc: Global,
     function: &'a Function,
     edges: Vec<Edge<'a>>,
+    /// For each block one that is on all ways to it.
+    above: Vec<usize>,
     pub handed: Vec<Vec<Handed<'a>>>,
 }
 
 impl<'a> Waiting<'a> {
+    /// Where a block begins.
+    fn place(&self, block: usize) -> Place<'_, 'a> {
+        Place {
+            alloc: self.alloc,
+            function: self.function,
+            above: self.above.as_slice(),
+            block,
+        }
+    }
+
     /// Hands a zone on to a block; whether that is new.
     fn put(&mut self, to: usize, next: Handed<'a>) -> Result<bool, AllocError> {
         let blocks = self.function.blocks.as_slice();
         if to >= blocks.len() || to >= self.handed.len() {
             return Ok(false);
         }
-        if next.is_kept_out(self.alloc, &blocks[to])?
+        if next.is_kept_out(self.place(to), &blocks[to])?
             || is_put(self.alloc, self.handed[to].as_slice(), next)?
         {
             return Ok(false);
@@ -205,7 +222,9 @@ impl<'a> Waiting<'a> {
     fn put_guess(&mut self, to: usize, next: Handed<'a>) -> Result<(), AllocError> {
         let blocks = self.function.blocks.as_slice();
         if to < blocks.len() && to < self.handed.len() && !next.is_said(&blocks[to]) {
-            self.handed[to].push(next)?;
+            if next.may_stand(self.place(to))? {
+                self.handed[to].push(next)?;
+            }
         }
         Ok(())
     }
@@ -266,10 +285,12 @@ pub fn waiting_of<'a>(
     hulls: &'a [Hull<'a>],
 ) -> Result<Waiting<'a>, AllocError> {
     let edges = edges_of(alloc, function)?;
+    let above = dominators_of(alloc, edges.as_slice(), function.blocks.len())?;
     let mut waiting = Waiting {
         alloc,
         function,
         edges,
+        above,
         handed: Vec::new(alloc),
     };
     waiting.begin()?;

@@ -1,6 +1,8 @@
 //! The lines that are put in.
 
 use crate::budget::{Total, cost_of, given, total_of};
+use crate::cells::firsts_of;
+use crate::goal::Scope;
 use crate::hull::hulls_of;
 use crate::keep::{Known, known_of};
 use crate::left::{Need, needs_of};
@@ -16,6 +18,9 @@ use syntax::{Block, Function, Module};
 
 /// The lines of one word that may stand at one place.
 const MOST_LINES: usize = 32;
+
+/// The facts and rests that are looked at for `shows` lines in all.
+const MOST_EFFORT: usize = 4_000_000;
 
 /// Which lines are proposed.
 #[derive(Clone, Copy, PartialEq, Eq)]
@@ -43,7 +48,10 @@ struct Proposal {
 #[derive(Drop)]
 struct Draft<'a> {
     alloc: Global,
+    module: &'a Module,
     kind: Kind,
+    /// What is left of the effort for `shows` lines.
+    effort: usize,
     /// In the order of the text, one for a line at most.
     proposals: Vec<Proposal>,
     costs: Vec<(&'a str, u128)>,
@@ -197,24 +205,40 @@ impl<'a> Draft<'a> {
         Ok(())
     }
 
-    /// Proposes the bounds of products behind the steps of a block.
-    fn add_steps_of(&mut self, block: &'a Block, facts: Vec<Sum<'a>>) -> Result<(), AllocError> {
-        let mut walk = Walk::new(self.alloc, facts);
+    /// Proposes how the facts show what the steps of a block ask, and its end.
+    fn add_steps_of(
+        &mut self,
+        known: &Known<'a>,
+        index: usize,
+        block: &'a Block,
+        first: usize,
+    ) -> Result<(), AllocError> {
+        let scope = Scope {
+            alloc: self.alloc,
+            module: self.module,
+            function: known.function,
+        };
+        let mut walk = Walk::new(scope, index, block, first, self.effort)?;
         for step in block.steps.as_slice() {
-            let mut lines = String::new(self.alloc);
-            walk.pass(step, &mut lines)?;
-            self.propose(step.line, lines)?;
+            let lines = walk.pass(step)?;
+            self.propose(step.line.saturating_sub(1), lines)?;
         }
+        if let Some(ending) = &block.ending {
+            let lines = walk.end(known, ending)?;
+            self.propose(ending.line.saturating_sub(1), lines)?;
+        }
+        self.effort = walk.effort;
         Ok(())
     }
 
-    /// Proposes the bounds of products behind the steps of all blocks.
+    /// The same of all blocks.
     fn add_steps(&mut self, function: &'a Function) -> Result<(), AllocError> {
         let known = known_of(self.alloc, function, false)?;
         let blocks = function.blocks.as_slice();
-        for index in 0..blocks.len() {
-            let facts = known.facts_at(index)?;
-            self.add_steps_of(&blocks[index], facts)?;
+        let firsts = firsts_of(self.alloc, known.edges.as_slice(), blocks.len())?;
+        for (index, block) in blocks.iter().enumerate() {
+            let first = firsts.get(index).copied().flatten().unwrap_or(0);
+            self.add_steps_of(&known, index, block, first)?;
         }
         Ok(())
     }
@@ -318,7 +342,9 @@ fn with_lines(
 ) -> Result<String, AllocError> {
     let mut draft = Draft {
         alloc,
+        module,
         kind,
+        effort: MOST_EFFORT,
         proposals: Vec::new(alloc),
         costs: Vec::new(alloc),
     };

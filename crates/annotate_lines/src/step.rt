@@ -1,201 +1,405 @@
-//! Bounds of products, and of what is made of them, each by lines that two facts show: lines to be tried.
+//! Lines within blocks, with which facts show what is asked at an instruction or along an edge: lines to be tried.
 
-use crate::budget::greatest_apart;
-use crate::edge::register_of;
-use crate::fact::is_exact;
+use crate::cells::Cells;
+use crate::edge::{Way, block_at, register_of};
+use crate::fact::{equation, is_exact};
+use crate::goal::{Scope, ends_of};
+use crate::keep::Known;
 use crate::left::definition_of;
+use crate::search::lines_between;
 use crate::sum::Sum;
-use std::alloc::{AllocError, Global};
-use syntax::{BinaryOperator, Inequality, Instruction, Operand, Step};
+use std::alloc::AllocError;
+use syntax::{
+    BinaryOperator, Block, Conversion, Ending, Inequality, Instruction, Operand, Step, Terminator,
+    Width, Zone,
+};
 
-/// The most registers of a block whose bounds are told, and the most facts of one that are looked at.
-const MOST_TOLD: usize = 128;
-
+/// The most facts of a block that are looked at, and the lines that may stand before one instruction.
 const MOST_FACTS: usize = 1_024;
 
-/// What is known in a block as far as one has come, and the registers whose bounds are told.
+const MOST_LINES: usize = 32;
+
+/// What is known in a block as far as one has come.
 #[derive(Drop)]
 pub struct Walk<'a> {
-    alloc: Global,
+    scope: Scope<'a>,
+    place: usize,
+    block: &'a Block,
+    /// Whether the block belongs to the function itself, and not to a child.
+    is_function: bool,
     facts: Vec<Sum<'a>>,
-    told: Vec<&'a str>,
+    /// What is left of the effort.
+    pub effort: usize,
+    /// The zones that cover what the block may touch.
+    covering: Vec<&'a Zone>,
+    /// What is told before an instruction, beside so many lines of the text.
+    told: Vec<Sum<'a>>,
+    stated: usize,
 }
 
 impl<'a> Walk<'a> {
-    pub fn new(alloc: Global, facts: Vec<Sum<'a>>) -> Walk<'a> {
-        Walk {
-            alloc,
-            facts,
-            told: Vec::new(alloc),
-        }
+    /// At the head of the block of this number, of the child with this first block.
+    pub fn new(
+        scope: Scope<'a>,
+        place: usize,
+        block: &'a Block,
+        first: usize,
+        effort: usize,
+    ) -> Result<Walk<'a>, AllocError> {
+        let mut walk = Walk {
+            scope,
+            place,
+            block,
+            is_function: first == 0,
+            facts: Vec::new(scope.alloc),
+            effort,
+            covering: scope.covering(first)?,
+            told: Vec::new(scope.alloc),
+            stated: 0,
+        };
+        walk.learn_all(if place == 0 {
+            scope.function.notes.requirements.as_slice()
+        } else {
+            block.notes.keeps.as_slice()
+        })?;
+        Ok(walk)
     }
 
-    fn is_told(&self, name: &str) -> bool {
-        for other in &self.told {
-            if *other == name {
-                return true;
-            }
-        }
-        false
-    }
-
-    /// Whether a sum is a product, or has a register whose bounds are told.
-    fn is_asked(&self, instruction: &Instruction, sum: &Sum<'a>) -> bool {
-        if self.told.len() >= MOST_TOLD {
-            return false;
-        }
-        for (name, _coefficient) in &sum.terms {
-            if self.is_told(name) {
-                return true;
-            }
-        }
-        is_product(instruction)
-    }
-
-    /// Says in a line that a sum is at least 0, and states it; nothing that is no form.
-    fn tell(&mut self, fact: Sum<'a>, out: &mut String) -> Result<(), AllocError> {
-        if fact.is_form() {
-            out.push_str("  ;! shows ")?;
-            fact.spell_inequality(out)?;
-            out.push_str("\n")?;
+    fn learn(&mut self, fact: Sum<'a>) -> Result<(), AllocError> {
+        if self.facts.len() < MOST_FACTS {
             self.facts.push(fact)?;
         }
         Ok(())
     }
 
-    /// So many times a register, and the least number that this may come to.
-    fn part(&self, name: &'a str, times: i128) -> Result<Option<(Sum<'a>, i128)>, AllocError> {
-        let mut part = Sum::number(self.alloc, 0);
-        part.add_term(name, times)?;
-        let mut opposite = Sum::number(self.alloc, 0);
-        opposite.add(&part, -1)?;
-        Ok(match greatest_apart(self.facts.as_slice(), &opposite) {
-            Some(most) => Some((part, 0i128.saturating_sub(most))),
-            None => None,
-        })
+    /// States what the text says.
+    fn learn_all(&mut self, inequalities: &'a [Inequality]) -> Result<(), AllocError> {
+        for inequality in inequalities {
+            let sum = Sum::of_inequality(self.scope.alloc, inequality)?;
+            self.learn(sum)?;
+        }
+        Ok(())
     }
 
-    /// Tells what so many times a register is at least.
-    fn tell_part(
+    /// States that so many times a register, and a number, is at least 0.
+    fn learn_bound(&mut self, name: &'a str, times: i128, number: i128) -> Result<(), AllocError> {
+        let mut bound = Sum::number(self.scope.alloc, number);
+        bound.add_term(name, times)?;
+        self.learn(bound)
+    }
+
+    /// States that a register lies from one number to another.
+    fn learn_bounds(&mut self, name: &'a str, low: i128, high: i128) -> Result<(), AllocError> {
+        self.learn_bound(name, 1, 0i128.saturating_sub(low))?;
+        self.learn_bound(name, -1, high)
+    }
+
+    /// States that a register is this sum.
+    fn learn_equal(&mut self, name: &'a str, value: &Sum<'a>) -> Result<(), AllocError> {
+        let (most, least) = equation(self.scope.alloc, name, value)?;
+        self.learn(most)?;
+        self.learn(least)
+    }
+
+    /// Says in lines that sums are at least 0, and states them, if there is room for the lines.
+    fn tell_all(&mut self, lines: Vec<Sum<'a>>) -> Result<(), AllocError> {
+        let count = self.stated.saturating_add(self.told.len());
+        if count.saturating_add(lines.len()) > MOST_LINES {
+            return Ok(());
+        }
+        for line in lines {
+            self.learn(line.copy()?)?;
+            self.told.push(line)?;
+        }
+        Ok(())
+    }
+
+    /// Tells how the facts show a sum; whether they do.
+    fn reach(&mut self, sum: &Sum<'a>, is_stated: bool) -> Result<bool, AllocError> {
+        if let Some(number) = sum.as_number() {
+            return Ok(number >= 0);
+        }
+        let facts = self.facts.as_slice();
+        match lines_between(self.scope.alloc, facts, sum, is_stated, &mut self.effort)? {
+            Some(lines) => {
+                self.tell_all(lines)?;
+                Ok(true)
+            }
+            None => Ok(false),
+        }
+    }
+
+    fn reach_all(&mut self, goals: Vec<Sum<'a>>) -> Result<(), AllocError> {
+        for goal in goals {
+            self.reach(&goal, false)?;
+        }
+        Ok(())
+    }
+
+    /// Whether it is known that an operand is at least a number.
+    fn is_at_least(&mut self, operand: &'a Operand, number: i128) -> Result<bool, AllocError> {
+        let mut sum = Sum::number(self.scope.alloc, 0i128.saturating_sub(number));
+        sum.add_operand(operand, 1)?;
+        self.reach(&sum, false)
+    }
+
+    fn is_at_most(&mut self, operand: &'a Operand, number: i128) -> Result<bool, AllocError> {
+        let mut sum = Sum::number(self.scope.alloc, number);
+        sum.add_operand(operand, -1)?;
+        self.reach(&sum, false)
+    }
+
+    /// States what a quotient or a remainder by a number is.
+    fn learn_part(
         &mut self,
         name: &'a str,
-        times: i128,
-        out: &mut String,
+        operator: BinaryOperator,
+        whole: &'a Operand,
+        divisor: i128,
     ) -> Result<(), AllocError> {
-        match self.part(name, times)? {
-            Some((mut part, least)) => {
-                part.add_number(0i128.saturating_sub(least));
-                self.tell(part, out)
+        if operator == BinaryOperator::SignedRemainder {
+            return self.learn_bounds(name, 0, divisor.saturating_sub(1));
+        }
+        let mut rest = Sum::number(self.scope.alloc, 0);
+        rest.add_operand(whole, 1)?;
+        rest.add_term(name, 0i128.saturating_sub(divisor))?;
+        let mut over = Sum::number(self.scope.alloc, divisor.saturating_sub(1));
+        over.add(&rest, -1)?;
+        self.learn(rest)?;
+        self.learn(over)?;
+        self.learn_bound(name, 1, 0)
+    }
+
+    /// States what an operation with a number on its right makes known.
+    fn learn_operation(
+        &mut self,
+        name: &'a str,
+        operator: BinaryOperator,
+        left: &'a Operand,
+        right: i128,
+    ) -> Result<(), AllocError> {
+        match operator {
+            BinaryOperator::And if right >= 0 => self.learn_bounds(name, 0, right),
+            BinaryOperator::SignedDivide | BinaryOperator::SignedRemainder
+                if right >= 1 && right <= 1_000_000 => {
+                if self.is_at_least(left, 0)? {
+                    self.learn_part(name, operator, left, right)?;
+                }
+                Ok(())
             }
+            _ => Ok(()),
+        }
+    }
+
+    fn learn_conversion(
+        &mut self,
+        name: &'a str,
+        conversion: Conversion,
+        operand: &'a Operand,
+    ) -> Result<(), AllocError> {
+        let (low, high) = ends_of(Width::Bits32);
+        let is_same = match conversion {
+            Conversion::SignExtend => true,
+            Conversion::ZeroExtend => self.is_at_least(operand, 0)?,
+            Conversion::Truncate => {
+                self.is_at_least(operand, low)? && self.is_at_most(operand, high)?
+            }
+        };
+        if is_same {
+            let mut value = Sum::number(self.scope.alloc, 0);
+            value.add_operand(operand, 1)?;
+            self.learn_equal(name, &value)?;
+        }
+        match conversion {
+            Conversion::ZeroExtend => self.learn_bounds(name, 0, 4_294_967_295),
+            _ => self.learn_bounds(name, low, high),
+        }
+    }
+
+    /// States what an instruction makes known of the register that it defines.
+    fn learn_register(
+        &mut self,
+        name: &'a str,
+        instruction: &'a Instruction,
+    ) -> Result<(), AllocError> {
+        match instruction {
+            Instruction::Binary { .. } if is_exact(instruction) => {
+                match definition_of(self.scope.alloc, instruction)? {
+                    Some(value) => self.learn_equal(name, &value),
+                    None => Ok(()),
+                }
+            }
+            Instruction::Binary {
+                operator,
+                left,
+                right: Operand::Number(right),
+                ..
+            } => self.learn_operation(name, *operator, left, i128::from(*right)),
+            Instruction::Convert {
+                conversion,
+                value,
+                ..
+            } => self.learn_conversion(name, *conversion, value),
+            _ => Ok(()),
+        }
+    }
+
+    /// States what an instruction makes known.
+    fn learn_step(&mut self, instruction: &'a Instruction) -> Result<(), AllocError> {
+        if let Some(call) = self.scope.call_of(instruction) {
+            let mut said = Vec::new(self.scope.alloc);
+            call.push_said(
+                self.scope.alloc,
+                call.callee.notes.guarantees.as_slice(),
+                &mut said,
+            )?;
+            for fact in said {
+                self.learn(fact)?;
+            }
+        }
+        match register_of(instruction) {
+            Some(name) => self.learn_register(name, instruction),
             None => Ok(()),
         }
     }
 
-    /// Tells both bounds of the parts of a sum that are multiples of a register.
-    fn tell_parts(&mut self, sum: &Sum<'a>, out: &mut String) -> Result<(), AllocError> {
-        for (name, coefficient) in &sum.terms {
-            if coefficient.unsigned_abs() > 1 {
-                self.tell_part(name, *coefficient, out)?;
-                self.tell_part(name, 0i128.saturating_sub(*coefficient), out)?;
+    /// Begins with the lines of the text before an instruction.
+    fn begin(&mut self, shows: &'a [Inequality]) -> Result<(), AllocError> {
+        self.told.clear();
+        self.stated = shows.len();
+        self.learn_all(shows)
+    }
+
+    /// The lines before an instruction.
+    fn spell_told(&self) -> Result<String, AllocError> {
+        let mut lines = String::new(self.scope.alloc);
+        for fact in &self.told {
+            lines.push_str("  ;! shows ")?;
+            fact.spell_inequality(&mut lines)?;
+            lines.push_str("\n")?;
+        }
+        Ok(lines)
+    }
+
+    /// Tells how the facts show that cells lie in a zone; nothing, where they do not. Whether they do.
+    fn reach_zone(&mut self, cells: &Cells<'a>, zone: &'a Zone) -> Result<bool, AllocError> {
+        let wide = Cells::of_zone(self.scope.alloc, zone)?;
+        let facts = self.facts.len();
+        let told = self.told.len();
+        let low = cells.low.with(&wide.low, -1)?;
+        let high = wide.high.with(&cells.high, -1)?;
+        let is_covered = self.reach(&low, false)? && self.reach(&high, false)?;
+        if !is_covered {
+            self.facts.truncate(facts);
+            self.told.truncate(told);
+        }
+        Ok(is_covered)
+    }
+
+    /// Tells how the facts show that one of the covering zones has these cells.
+    fn reach_cover(&mut self, cells: &Cells<'a>) -> Result<(), AllocError> {
+        for place in 0..self.covering.len() {
+            if place < self.covering.len() {
+                let zone = self.covering[place];
+                if cells.may_lie_in(zone) && self.reach_zone(cells, zone)? {
+                    return Ok(());
+                }
             }
         }
         Ok(())
     }
 
-    /// Tells what a register that is a sum is at least, or at most if the sign is minus: with one part after the other replaced by its bound.
-    fn tell_side(
-        &mut self,
-        name: &'a str,
-        sum: &Sum<'a>,
-        sign: i128,
-        out: &mut String,
-    ) -> Result<(), AllocError> {
-        let mut fact = Sum::number(self.alloc, 0);
-        fact.add_term(name, sign)?;
-        fact.add(sum, 0i128.saturating_sub(sign))?;
-        for (part_name, coefficient) in &sum.terms {
-            let times = sign.saturating_mul(*coefficient);
-            let Some((part, least)) = self.part(part_name, times)? else {
-                return Ok(());
-            };
-            fact.add(&part, 1)?;
-            fact.add_number(0i128.saturating_sub(least));
-            self.tell(fact.copy()?, out)?;
-        }
-        Ok(())
-    }
-
-    /// Tells the bounds of the sum that a register is, as far as they follow from those of its parts.
-    fn tell_bounds(
-        &mut self,
-        name: &'a str,
-        sum: &Sum<'a>,
-        out: &mut String,
-    ) -> Result<(), AllocError> {
-        self.tell_parts(sum, out)?;
-        self.tell_side(name, sum, 1, out)?;
-        self.tell_side(name, sum, -1, out)?;
-        self.told.push(name)?;
-        Ok(())
-    }
-
-    /// States what the text says before a step.
-    fn learn(&mut self, shows: &'a [Inequality]) -> Result<(), AllocError> {
-        for inequality in shows {
-            if self.facts.len() < MOST_FACTS {
-                let sum = Sum::of_inequality(self.alloc, inequality)?;
-                self.facts.push(sum)?;
+    /// The same of all cells that are touched, but for the function's own where it touches them itself.
+    fn reach_covers(&mut self, touched: Vec<Cells<'a>>) -> Result<(), AllocError> {
+        for cells in touched {
+            if !self.is_function || !cells.is_own(self.scope.function) {
+                self.reach_cover(&cells)?;
             }
         }
         Ok(())
     }
 
-    /// States that a register lies from 0 to a number.
-    fn learn_mask(&mut self, name: &'a str, mask: i64) -> Result<(), AllocError> {
-        let mut low = Sum::number(self.alloc, 0);
-        low.add_term(name, 1)?;
-        self.facts.push(low)?;
-        let mut high = Sum::number(self.alloc, i128::from(mask));
-        high.add_term(name, -1)?;
-        self.facts.push(high)?;
+    /// Tells how the facts show that the zones of new children are covered.
+    fn reach_foot(&mut self, child: &'a Block) -> Result<(), AllocError> {
+        let mut touched = Vec::new(self.scope.alloc);
+        for zone in child.notes.foot.as_slice() {
+            touched.push(Cells::of_zone(self.scope.alloc, zone)?)?;
+        }
+        self.reach_covers(touched)
+    }
+
+    /// Goes over a step; the lines that may stand before it.
+    pub fn pass(&mut self, step: &'a Step) -> Result<String, AllocError> {
+        self.begin(step.shows.as_slice())?;
+        if self.effort == 0 {
+            return self.spell_told();
+        }
+        let goals = self.scope.goals(&step.instruction)?;
+        self.reach_all(goals)?;
+        self.effort = self.effort.saturating_sub(self.block.steps.len());
+        let touched = self
+            .scope
+            .touched(self.block.steps.as_slice(), &step.instruction)?;
+        self.reach_covers(touched)?;
+        self.learn_step(&step.instruction)?;
+        self.spell_told()
+    }
+
+    /// Tells how the facts show a sum along an edge, with what being taken says of it, or without.
+    fn reach_along(
+        &mut self,
+        known: &Known<'a>,
+        edge: usize,
+        goal: &Sum<'a>,
+    ) -> Result<(), AllocError> {
+        if self.reach(goal, false)? {
+            return Ok(());
+        }
+        for number in known.facts_on(edge) {
+            if let Some(fact) = known.facts.sums.get(*number) {
+                let rest = goal.with(fact, -1)?;
+                if self.reach(&rest, true)? {
+                    return Ok(());
+                }
+            }
+        }
         Ok(())
     }
 
-    /// Goes over a step, and adds the lines that may stand behind it.
-    pub fn pass(&mut self, step: &'a Step, out: &mut String) -> Result<(), AllocError> {
-        self.learn(step.shows.as_slice())?;
-        let instruction = &step.instruction;
-        let Some(name) = register_of(instruction) else {
-            return Ok(());
-        };
-        if let Some(mask) = mask_of(instruction) {
-            return self.learn_mask(name, mask);
+    fn reach_edge(
+        &mut self,
+        known: &Known<'a>,
+        edge: usize,
+        to: &'a Block,
+    ) -> Result<(), AllocError> {
+        for goal in self.scope.goals_along(self.block, to)? {
+            self.reach_along(known, edge, &goal)?;
         }
-        if !is_exact(instruction) {
-            return Ok(());
-        }
-        match definition_of(self.alloc, instruction)? {
-            Some(sum) if self.is_asked(instruction, &sum) => self.tell_bounds(name, &sum, out),
-            _ => Ok(()),
-        }
+        Ok(())
     }
-}
 
-fn is_product(instruction: &Instruction) -> bool {
-    match instruction {
-        Instruction::Binary { operator, .. } => *operator == BinaryOperator::MultiplyNoWrap,
-        _ => false,
+    fn reach_edges(&mut self, known: &Known<'a>) -> Result<(), AllocError> {
+        for (number, edge) in known.edges.iter().enumerate() {
+            if edge.from == self.place {
+                if let Some(to) = block_at(self.scope.function, edge.to) {
+                    self.reach_edge(known, number, to)?;
+                    if matches!(edge.way, Way::Detached) {
+                        self.reach_foot(to)?;
+                    }
+                }
+            }
+        }
+        Ok(())
     }
-}
 
-/// The number of an `and`, if it is not below 0.
-fn mask_of(instruction: &Instruction) -> Option<i64> {
-    match instruction {
-        Instruction::Binary {
-            operator: BinaryOperator::And,
-            right: Operand::Number(mask),
-            ..
-        } if *mask >= 0 => Some(*mask),
-        _ => None,
+    /// Goes over the end of the block; the lines that may stand before it.
+    pub fn end(&mut self, known: &Known<'a>, ending: &'a Ending) -> Result<String, AllocError> {
+        self.begin(ending.shows.as_slice())?;
+        if let Terminator::Return { value: Some(value) } = &ending.terminator {
+            let goals = self.scope.goals_at_return(value)?;
+            self.reach_all(goals)?;
+        }
+        self.reach_edges(known)?;
+        self.spell_told()
     }
 }

@@ -190,8 +190,8 @@ impl<'a> Sum<'a> {
         self.add(value, times)
     }
 
-    /// Whether a form may be as long and have numbers as great.
-    pub fn is_form(&self) -> bool {
+    /// Whether a form may name as many registers, with coefficients as great.
+    pub fn has_form_terms(&self) -> bool {
         let mut size = 0usize;
         for term in &self.terms {
             if !is_within(term.1, MOST_COEFFICIENT) {
@@ -201,7 +201,12 @@ impl<'a> Sum<'a> {
                 size = size.saturating_add(1);
             }
         }
-        size <= MOST_TERMS && is_within(self.constant, MOST_CONSTANT)
+        size <= MOST_TERMS
+    }
+
+    /// Whether a form may be as long and have numbers as great.
+    pub fn is_form(&self) -> bool {
+        self.has_form_terms() && is_within(self.constant, MOST_CONSTANT)
     }
 
     /// The terms in the order of their names.

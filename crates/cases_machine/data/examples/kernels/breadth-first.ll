@@ -19,12 +19,10 @@ define void @follow(i64 %lo, i64 %round) {
 entry:
   ;! left 0 39557
   %hi = add nsw i64 %lo, 128
-  ;! shows %hi <= 1024
   br label %nodes
 nodes:
   ;! keeps %lo >= 0
   ;! keeps %lo <= 896
-  ;! keeps %hi <= 1024
   ;! keeps %hi <= %lo+128
   ;! keeps %lo+128 <= %hi
   ;! keeps %v >= %lo
@@ -38,7 +36,6 @@ nodes:
   br i1 %more, label %node, label %done
 node:
   ;! keeps %lo >= 0
-  ;! keeps %lo <= 896
   ;! keeps %lo <= %v
   ;! keeps %e >= 0
   ;! keeps %e <= 4096
@@ -47,14 +44,12 @@ node:
   ;! keeps %hi <= %lo+128
   ;! keeps %lo+128 <= %hi
   ;! left 0 21*%hi+36865-9*%e-21*%v
-  ;! shows %v >= 0
   %pd = getelementptr inbounds i64, ptr @distance, i64 %v
   %d = load i64, ptr %pd
   %now = icmp eq i64 %d, %round
   br i1 %now, label %begin, label %next
 begin:
   ;! keeps %lo >= 0
-  ;! keeps %lo <= 896
   ;! keeps %lo <= %v
   ;! keeps %e >= 0
   ;! keeps %e <= 4096
@@ -80,9 +75,7 @@ within:
   ;! keeps %lo <= %v
   ;! keeps %e >= 0
   ;! keeps %e <= 4096
-  ;! keeps %hi <= 1024
   ;! keeps %v+1 <= %hi
-  ;! keeps %v >= 0
   ;! keeps %d <= %round
   ;! keeps %round <= %d
   ;! keeps %v2 <= %hi
@@ -98,9 +91,7 @@ ordered:
   ;! keeps %lo <= %v
   ;! keeps %e >= 0
   ;! keeps %e <= 4096
-  ;! keeps %hi <= 1024
   ;! keeps %v+1 <= %hi
-  ;! keeps %v >= 0
   ;! keeps %d <= %round
   ;! keeps %round <= %d
   ;! keeps %v2 <= %hi
@@ -116,10 +107,7 @@ follow:
   ;! keeps %lo <= 896
   ;! keeps %lo <= %v
   ;! keeps %e >= 0
-  ;! keeps %e <= 4096
-  ;! keeps %hi <= 1024
   ;! keeps %v+1 <= %hi
-  ;! keeps %v >= 0
   ;! keeps %d <= %round
   ;! keeps %round <= %d
   ;! keeps %v2 <= %hi
@@ -128,9 +116,7 @@ follow:
   ;! keeps %from <= %to
   ;! keeps %hi <= %lo+128
   ;! keeps %lo+128 <= %hi
-  ;! keeps %f >= 0
   ;! keeps %f >= %e
-  ;! keeps %f <= %to
   ;! keeps %f <= 4096
   ;! left 0 21*%hi+36850-21*%v-9*%f
   %f = phi i64 [ %from, %ordered ], [ %f1, %edge ]
@@ -141,13 +127,9 @@ edge:
   ;! keeps %lo <= 896
   ;! keeps %lo <= %v
   ;! keeps %e >= 0
-  ;! keeps %e <= 4096
-  ;! keeps %f >= 0
   ;! keeps %e <= %f
   ;! keeps %f <= 4096
-  ;! keeps %hi <= 1024
   ;! keeps %v+1 <= %hi
-  ;! keeps %v >= 0
   ;! keeps %d <= %round
   ;! keeps %round <= %d
   ;! keeps %v2 <= %hi
@@ -168,13 +150,9 @@ edge:
   br label %follow
 next:
   ;! keeps %lo >= 0
-  ;! keeps %lo <= 896
   ;! keeps %lo <= %v
-  ;! keeps %e >= 0
-  ;! keeps %e <= 4096
   ;! keeps %hi <= 1024
   ;! keeps %v+1 <= %hi
-  ;! keeps %v >= 0
   ;! keeps %hi <= %lo+128
   ;! keeps %lo+128 <= %hi
   ;! keeps %e3 >= 0
@@ -184,16 +162,6 @@ next:
   %v1 = add nsw i64 %v, 1
   br label %nodes
 done:
-  ;! keeps %lo >= 0
-  ;! keeps %lo <= 896
-  ;! keeps %lo <= %v
-  ;! keeps %v <= %hi
-  ;! keeps %e >= 0
-  ;! keeps %e <= 4096
-  ;! keeps %hi <= 1024
-  ;! keeps %hi <= %v
-  ;! keeps %hi <= %lo+128
-  ;! keeps %lo+128 <= %hi
   ;! left 0 1
   ret void
 }
@@ -208,13 +176,11 @@ define void @settle(i64 %lo, i64 %round) {
 entry:
   ;! left 0 2183
   %hi = add nsw i64 %lo, 128
-  ;! shows %hi <= 1024
   %then = add i64 %round, 1
   br label %nodes
 nodes:
   ;! keeps %lo >= 0
   ;! keeps %lo <= 896
-  ;! keeps %hi <= 1024
   ;! keeps %hi <= %lo+128
   ;! keeps %lo+128 <= %hi
   ;! keeps %v >= %lo
@@ -226,14 +192,12 @@ nodes:
   br i1 %more, label %node, label %done
 node:
   ;! keeps %lo >= 0
-  ;! keeps %lo <= 896
   ;! keeps %lo <= %v
   ;! keeps %hi <= 1024
   ;! keeps %v+1 <= %hi
   ;! keeps %hi <= %lo+128
   ;! keeps %lo+128 <= %hi
   ;! left 0 17*%hi-17*%v+2
-  ;! shows %v >= 0
   %pr = getelementptr inbounds i64, ptr @reached, i64 %v
   %times = load i64, ptr %pr
   store i64 0, ptr %pr
@@ -241,12 +205,9 @@ node:
   br i1 %hit, label %look, label %next
 look:
   ;! keeps %lo >= 0
-  ;! keeps %lo <= 896
   ;! keeps %lo <= %v
   ;! keeps %hi <= 1024
   ;! keeps %v+1 <= %hi
-  ;! keeps %v >= 0
-  ;! keeps %times >= 1
   ;! keeps %hi <= %lo+128
   ;! keeps %lo+128 <= %hi
   ;! left 0 17*%hi-17*%v-3
@@ -256,13 +217,9 @@ look:
   br i1 %fresh, label %set, label %next
 set:
   ;! keeps %lo >= 0
-  ;! keeps %lo <= 896
   ;! keeps %lo <= %v
   ;! keeps %hi <= 1024
   ;! keeps %v+1 <= %hi
-  ;! keeps %v >= 0
-  ;! keeps %times >= 1
-  ;! keeps %d+1 <= 0
   ;! keeps %hi <= %lo+128
   ;! keeps %lo+128 <= %hi
   ;! left 0 17*%hi-17*%v-7
@@ -272,11 +229,9 @@ set:
   br label %next
 next:
   ;! keeps %lo >= 0
-  ;! keeps %lo <= 896
   ;! keeps %lo <= %v
   ;! keeps %hi <= 1024
   ;! keeps %v+1 <= %hi
-  ;! keeps %v >= 0
   ;! keeps %hi <= %lo+128
   ;! keeps %lo+128 <= %hi
   ;! left 0 17*%hi-17*%v-11
@@ -284,14 +239,6 @@ next:
   %v1 = add nsw i64 %v, 1
   br label %nodes
 done:
-  ;! keeps %lo >= 0
-  ;! keeps %lo <= 896
-  ;! keeps %lo <= %v
-  ;! keeps %v <= %hi
-  ;! keeps %hi <= 1024
-  ;! keeps %hi <= %v
-  ;! keeps %hi <= %lo+128
-  ;! keeps %lo+128 <= %hi
   ;! left 0 2
   atomicrmw add ptr @news, i64 %count seq_cst
   ret void
@@ -386,9 +333,7 @@ settle.fork:
   ;! left 0 18321-18*%j
   detach within %s, label %settle.child, label %settle.next
 settle.child:
-  ;! keeps %i <= 1024
   ;! keeps %j >= 0
-  ;! keeps %i >= 897
   ;! keeps %j <= 896
   ;! left 0 2185
   ;! foot writes @distance %j %j+128
@@ -410,20 +355,12 @@ settle.next:
   %j1 = add nsw i64 %j, 128
   br label %settle
 settled:
-  ;! keeps %i <= 1024
-  ;! keeps %j <= 1024
-  ;! keeps %i >= 897
-  ;! keeps %j >= 897
   ;! pending %s writes @distance 0 %j
   ;! pending %s writes @reached 0 %j
   ;! pending %s adds @news 0 1
   ;! left 0 3
   sync within %s, label %out
 out:
-  ;! keeps %i <= 1024
-  ;! keeps %j <= 1024
-  ;! keeps %i >= 897
-  ;! keeps %j >= 897
   ;! left 0 2
   %x = load i64, ptr @news
   ret i64 %x
@@ -453,8 +390,6 @@ body:
   %i1 = add nsw i64 %i, 1
   br label %head
 done:
-  ;! keeps %i <= 1024
-  ;! keeps %i >= 1024
   ;! left 0 2
   store i64 0, ptr @distance
   ret void
@@ -488,13 +423,10 @@ level:
 again:
   ;! keeps %round >= 0
   ;! keeps %round <= 1023
-  ;! keeps %fresh >= 1
   ;! left 0 343616498-335891*%round
   %round1 = add nsw i64 %round, 1
   br label %levels
 done:
-  ;! keeps %round >= 0
-  ;! keeps %round <= 1024
   ;! left 0 1
   ret i64 %round
 }

@@ -24,10 +24,7 @@ entry:
   ;! shows 256*%b >= 0
   ;! shows 256*%b <= 3840
   %lo = mul nsw i64 %b, 256
-  ;! shows %lo >= 0
-  ;! shows %lo <= 3840
   %hi = add nsw i64 %lo, 256
-  ;! shows %hi <= 4096
   br label %places
 places:
   ;! keeps %b >= 0
@@ -37,15 +34,11 @@ places:
   ;! keeps %m >= 1
   ;! keeps %m <= 16
   ;! keeps 256*%b >= 0
-  ;! keeps 256*%b <= 3840
-  ;! keeps %lo >= 0
   ;! keeps %lo <= 3840
-  ;! keeps %hi <= 4096
   ;! keeps %lo <= 256*%b
   ;! keeps 256*%b <= %lo
   ;! keeps %hi <= %lo+256
   ;! keeps %lo+256 <= %hi
-  ;! keeps %i >= %lo
   ;! keeps %i <= %hi
   ;! keeps %k >= %lo
   ;! keeps %k <= %i
@@ -64,10 +57,7 @@ fits:
   ;! keeps %lo <= %i
   ;! keeps %lo <= %k
   ;! keeps %k <= %i
-  ;! keeps 256*%b >= 0
-  ;! keeps 256*%b <= 3840
   ;! keeps %lo >= 0
-  ;! keeps %lo <= 3840
   ;! keeps %hi <= 4096
   ;! keeps %i+1 <= %hi
   ;! keeps %lo <= 256*%b
@@ -90,14 +80,9 @@ letters:
   ;! keeps %lo <= %i
   ;! keeps %lo <= %k
   ;! keeps %k <= %i
-  ;! keeps 256*%b >= 0
   ;! keeps 256*%b <= 3840
   ;! keeps %lo >= 0
-  ;! keeps %lo <= 3840
-  ;! keeps %hi <= 4096
   ;! keeps %i+1 <= %hi
-  ;! keeps %i >= 0
-  ;! keeps %i <= 4095
   ;! keeps %end <= %n
   ;! keeps %lo <= 256*%b
   ;! keeps 256*%b <= %lo
@@ -115,21 +100,15 @@ letter:
   ;! keeps %b <= 15
   ;! keeps %n >= 0
   ;! keeps %n <= 4096
-  ;! keeps %m >= 1
   ;! keeps %m <= 16
-  ;! keeps %lo <= %i
   ;! keeps %lo <= %k
   ;! keeps %k <= %i
   ;! keeps %j >= 0
   ;! keeps %i+%m <= %n
   ;! keeps 256*%b >= 0
-  ;! keeps 256*%b <= 3840
-  ;! keeps %lo >= 0
   ;! keeps %lo <= 3840
-  ;! keeps %hi <= 4096
   ;! keeps %i+1 <= %hi
   ;! keeps %i >= 0
-  ;! keeps %i <= 4095
   ;! keeps %end <= %n
   ;! keeps %j+1 <= %m
   ;! keeps %lo <= 256*%b
@@ -152,28 +131,15 @@ same:
   ;! keeps %b <= 15
   ;! keeps %n >= 0
   ;! keeps %n <= 4096
-  ;! keeps %m >= 1
   ;! keeps %m <= 16
-  ;! keeps %lo <= %i
   ;! keeps %lo <= %k
   ;! keeps %k <= %i
   ;! keeps %j >= 0
   ;! keeps %i+%m <= %n
-  ;! keeps 256*%b >= 0
-  ;! keeps 256*%b <= 3840
   ;! keeps %lo >= 0
-  ;! keeps %lo <= 3840
-  ;! keeps %hi <= 4096
   ;! keeps %i+1 <= %hi
-  ;! keeps %i >= 0
-  ;! keeps %i <= 4095
   ;! keeps %end <= %n
   ;! keeps %j+1 <= %m
-  ;! keeps %i+%j+1 <= %n
-  ;! keeps %i <= %at
-  ;! keeps %at+1 <= %n
-  ;! keeps %x <= %y
-  ;! keeps %y <= %x
   ;! keeps %lo <= 256*%b
   ;! keeps 256*%b <= %lo
   ;! keeps %hi <= %lo+256
@@ -188,22 +154,11 @@ hit:
   ;! keeps %n <= 4096
   ;! keeps %m >= 1
   ;! keeps %m <= 16
-  ;! keeps %lo <= %i
   ;! keeps %lo <= %k
   ;! keeps %k <= %i
-  ;! keeps %j >= 0
-  ;! keeps %j <= %m
-  ;! keeps %i+%m <= %n
-  ;! keeps 256*%b >= 0
-  ;! keeps 256*%b <= 3840
   ;! keeps %lo >= 0
   ;! keeps %lo <= 3840
-  ;! keeps %hi <= 4096
   ;! keeps %i+1 <= %hi
-  ;! keeps %i >= 0
-  ;! keeps %i <= 4095
-  ;! keeps %end <= %n
-  ;! keeps %m <= %j
   ;! keeps %lo <= 256*%b
   ;! keeps 256*%b <= %lo
   ;! keeps %hi <= %lo+256
@@ -223,20 +178,9 @@ next:
   ;! keeps %m >= 1
   ;! keeps %m <= 16
   ;! keeps %lo <= %i
-  ;! keeps %lo <= %k
-  ;! keeps %k <= %i
-  ;! keeps %j >= 0
-  ;! keeps %j <= %m
-  ;! keeps %i+%m <= %n
-  ;! keeps 256*%b >= 0
-  ;! keeps 256*%b <= 3840
   ;! keeps %lo >= 0
-  ;! keeps %lo <= 3840
   ;! keeps %hi <= 4096
   ;! keeps %i+1 <= %hi
-  ;! keeps %i >= 0
-  ;! keeps %i <= 4095
-  ;! keeps %end <= %n
   ;! keeps %lo <= 256*%b
   ;! keeps 256*%b <= %lo
   ;! keeps %hi <= %lo+256
@@ -250,23 +194,6 @@ next:
 done:
   ;! keeps %b >= 0
   ;! keeps %b <= 15
-  ;! keeps %n >= 0
-  ;! keeps %n <= 4096
-  ;! keeps %m >= 1
-  ;! keeps %m <= 16
-  ;! keeps %lo <= %i
-  ;! keeps %i <= %hi
-  ;! keeps %lo <= %k
-  ;! keeps %k <= %i
-  ;! keeps 256*%b >= 0
-  ;! keeps 256*%b <= 3840
-  ;! keeps %lo >= 0
-  ;! keeps %lo <= 3840
-  ;! keeps %hi <= 4096
-  ;! keeps %lo <= 256*%b
-  ;! keeps 256*%b <= %lo
-  ;! keeps %hi <= %lo+256
-  ;! keeps %lo+256 <= %hi
   ;! left 0 4
   %count = sub i64 %k, %lo
   %pc = getelementptr inbounds i64, ptr %counts, i64 %b
@@ -300,25 +227,10 @@ begin:
   ;! left 0 41137-2571*%b
   %pc = getelementptr inbounds i64, ptr @counts, i64 %b
   %count = load i64, ptr %pc
-  ;! shows 256*%b >= 0
-  ;! shows 256*%b <= 3840
   %lo = mul nsw i64 %b, 256
-  ;! shows %lo >= 0
-  ;! shows %lo <= 3840
   %below = icmp sle i64 %count, 256
   br i1 %below, label %copies, label %none
 none:
-  ;! keeps %b >= 0
-  ;! keeps %w >= 0
-  ;! keeps %w <= 256*%b
-  ;! keeps %b <= 15
-  ;! keeps 256*%b >= 0
-  ;! keeps 256*%b <= 3840
-  ;! keeps %lo >= 0
-  ;! keeps %lo <= 3840
-  ;! keeps %count >= 257
-  ;! keeps %lo <= 256*%b
-  ;! keeps 256*%b <= %lo
   ;! left 0 1
   ret i64 -1
 copies:
@@ -328,8 +240,6 @@ copies:
   ;! keeps %b <= 15
   ;! keeps 256*%b >= 0
   ;! keeps 256*%b <= 3840
-  ;! keeps %lo >= 0
-  ;! keeps %lo <= 3840
   ;! keeps %count <= 256
   ;! keeps %lo <= 256*%b
   ;! keeps 256*%b <= %lo
@@ -351,7 +261,6 @@ copy:
   ;! keeps %v >= 0
   ;! keeps %v <= 256*%b+%q
   ;! keeps %b <= 15
-  ;! keeps 256*%b >= 0
   ;! keeps 256*%b <= 3840
   ;! keeps %lo >= 0
   ;! keeps %lo <= 3840
@@ -372,34 +281,18 @@ copy:
   %q1 = add nsw i64 %q, 1
   %v1 = add nsw i64 %v, 1
   ;! shows %v1 <= 256*%b+%q+1
-  ;! shows %q1 <= %count
   br label %copies
 next:
   ;! keeps %b >= 0
-  ;! keeps %w >= 0
-  ;! keeps %w <= 256*%b
-  ;! keeps %q >= 0
   ;! keeps %q <= 256
   ;! keeps %v >= 0
   ;! keeps %v <= 256*%b+%q
   ;! keeps %b <= 15
-  ;! keeps 256*%b >= 0
-  ;! keeps 256*%b <= 3840
-  ;! keeps %lo >= 0
-  ;! keeps %lo <= 3840
-  ;! keeps %count <= 256
-  ;! keeps %count <= %q
-  ;! keeps %lo <= 256*%b
-  ;! keeps 256*%b <= %lo
   ;! left 0 38570-2571*%b
   ;! shows %v <= 256*%b+256
   %b1 = add nsw i64 %b, 1
   br label %pieces
 done:
-  ;! keeps %b <= 16
-  ;! keeps %w >= 0
-  ;! keeps %w <= 256*%b
-  ;! keeps %b >= 16
   ;! left 0 1
   ret i64 %w
 }
@@ -478,12 +371,6 @@ after:
   %b1 = add nsw i64 %b, 1
   br label %head
 wait:
-  ;! keeps %n >= 0
-  ;! keeps %n <= 4096
-  ;! keeps %m >= 1
-  ;! keeps %m <= 16
-  ;! keeps %b <= 16
-  ;! keeps %b >= 16
   ;! pending %s reads @text 0 4096
   ;! pending %s reads @pattern 0 16
   ;! pending %s writes @found 0 256*%b
@@ -491,12 +378,6 @@ wait:
   ;! left 0 41143
   sync within %s, label %all
 all:
-  ;! keeps %n >= 0
-  ;! keeps %n <= 4096
-  ;! keeps %m >= 1
-  ;! keeps %m <= 16
-  ;! keeps %b <= 16
-  ;! keeps %b >= 16
   ;! left 0 41142
   %r = call i64 @gather()
   ret i64 %r

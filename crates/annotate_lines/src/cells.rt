@@ -1,0 +1,248 @@
+//! The cells that instructions touch, and the zones that may cover them.
+
+use crate::edge::{Edge, Way, block_at};
+use crate::goal::{Call, Scope};
+use crate::sum::Sum;
+use lists::Name;
+use std::alloc::{AllocError, Global};
+use syntax::{Address, Argument, Function, Instruction, Mode, Parameter, Step, Zone};
+
+/// How often the edges are gone along to find the children that blocks belong to.
+const MOST_ROUNDS: usize = 16;
+
+/// Cells of an object, and how they are touched.
+#[derive(Drop)]
+pub struct Cells<'a> {
+    mode: Mode,
+    object: &'a Address,
+    pub low: Sum<'a>,
+    pub high: Sum<'a>,
+}
+
+/// Whether both are one global or one register.
+pub fn is_same_object(one: &Address, other: &Address) -> bool {
+    match (one, other) {
+        (Address::Register(one), Address::Register(other)) => one.is_same(other),
+        (Address::Global(one), Address::Global(other)) => one.is_same(other),
+        _ => false,
+    }
+}
+
+impl<'a> Cells<'a> {
+    /// Some of an object's cells from the first one on, or of those from a register's or a number's on.
+    fn of(
+        alloc: Global,
+        mode: Mode,
+        object: &'a Address,
+        low: Sum<'a>,
+        count: i128,
+    ) -> Result<Cells<'a>, AllocError> {
+        let mut high = Sum::number(alloc, count);
+        high.add(&low, 1)?;
+        Ok(Cells {
+            mode,
+            object,
+            low,
+            high,
+        })
+    }
+
+    /// The cells of a zone.
+    pub fn of_zone(alloc: Global, zone: &'a Zone) -> Result<Cells<'a>, AllocError> {
+        Ok(Cells {
+            mode: zone.mode,
+            object: &zone.object,
+            low: Sum::of_form(alloc, &zone.low)?,
+            high: Sum::of_form(alloc, &zone.high)?,
+        })
+    }
+
+    /// The cells that a call touches by a zone of its callee; none where it is of no object of the caller's.
+    fn of_call(
+        alloc: Global,
+        call: Call<'a>,
+        zone: &'a Zone,
+    ) -> Result<Option<Cells<'a>>, AllocError> {
+        let object = match &zone.object {
+            Address::Global(_) => &zone.object,
+            Address::Register(name) => match call.argument(name.as_str()) {
+                Some(Argument::Pointer(object)) => object,
+                _ => return Ok(None),
+            },
+        };
+        Ok(Some(Cells {
+            mode: zone.mode,
+            object,
+            low: call.put_in(alloc, &Sum::of_form(alloc, &zone.low)?)?,
+            high: call.put_in(alloc, &Sum::of_form(alloc, &zone.high)?)?,
+        }))
+    }
+
+    /// Whether a zone is of the same object, and lets the cells be touched.
+    pub fn may_lie_in(&self, zone: &Zone) -> bool {
+        is_same_object(self.object, &zone.object)
+            && (zone.mode == Mode::Writes || zone.mode == self.mode)
+    }
+
+    /// Whether they are of an `alloca` of the function.
+    pub fn is_own(&self, function: &Function) -> bool {
+        match self.object {
+            Address::Global(_) => false,
+            Address::Register(name) => !is_pointer(function.parameters.as_slice(), name),
+        }
+    }
+}
+
+fn is_pointer(parameters: &[Parameter], name: &Name) -> bool {
+    for parameter in parameters {
+        if let Parameter::Pointer { name: own, .. } = parameter {
+            if own.is_same(name) {
+                return true;
+            }
+        }
+    }
+    false
+}
+
+/// The object and the cell of the `getelementptr` among these that defines a register.
+fn element_of<'a>(
+    alloc: Global,
+    steps: &'a [Step],
+    name: &Name,
+) -> Result<Option<(&'a Address, Sum<'a>)>, AllocError> {
+    for step in steps {
+        if let Instruction::ElementPointer {
+            register,
+            base,
+            index,
+        } = &step.instruction
+        {
+            if register.is_same(name) {
+                let mut cell = Sum::number(alloc, 0);
+                cell.add_operand(index, 1)?;
+                return Ok(Some((base, cell)));
+            }
+        }
+    }
+    Ok(None)
+}
+
+/// The address that an instruction touches, how, and how many cells from there on.
+fn access_of(instruction: &Instruction) -> Option<(&Address, Mode, i128)> {
+    match instruction {
+        Instruction::Load { address, .. } => Some((address, Mode::Reads, 1)),
+        Instruction::Store { address, .. } => Some((address, Mode::Writes, 1)),
+        Instruction::AtomicAdd { address, .. } => Some((address, Mode::Adds, 1)),
+        Instruction::StoreZeros { address, cells } => {
+            Some((address, Mode::Writes, i128::from(*cells)))
+        }
+        _ => None,
+    }
+}
+
+/// Adds the cells that a call touches by some zones of its callee.
+fn push_called<'a>(
+    alloc: Global,
+    call: Call<'a>,
+    zones: &'a [Zone],
+    out: &mut Vec<Cells<'a>>,
+) -> Result<(), AllocError> {
+    for zone in zones {
+        if let Some(cells) = Cells::of_call(alloc, call, zone)? {
+            out.push(cells)?;
+        }
+    }
+    Ok(())
+}
+
+fn push_zones<'a>(out: &mut Vec<&'a Zone>, zones: &'a [Zone]) -> Result<(), AllocError> {
+    for zone in zones {
+        out.push(zone)?;
+    }
+    Ok(())
+}
+
+impl<'a> Scope<'a> {
+    /// The cells that an instruction of a block touches.
+    pub fn touched(
+        self,
+        steps: &'a [Step],
+        instruction: &'a Instruction,
+    ) -> Result<Vec<Cells<'a>>, AllocError> {
+        let mut out = Vec::new(self.alloc);
+        if let Some((address, mode, count)) = access_of(instruction) {
+            let element = match address {
+                Address::Register(name) => element_of(self.alloc, steps, name)?,
+                Address::Global(_) => None,
+            };
+            let (object, low) = match element {
+                Some(found) => found,
+                None => (address, Sum::number(self.alloc, 0)),
+            };
+            out.push(Cells::of(self.alloc, mode, object, low, count)?)?;
+        }
+        if let Some(call) = self.call_of(instruction) {
+            let notes = &call.callee.notes;
+            push_called(self.alloc, call, notes.reads.as_slice(), &mut out)?;
+            push_called(self.alloc, call, notes.writes.as_slice(), &mut out)?;
+            push_called(self.alloc, call, notes.adds.as_slice(), &mut out)?;
+        }
+        Ok(out)
+    }
+
+    /// The zones that cover what the blocks of a child may touch, by the child's first block; what the function may touch, where that is the entry.
+    pub fn covering(self, first: usize) -> Result<Vec<&'a Zone>, AllocError> {
+        let mut zones = Vec::new(self.alloc);
+        match block_at(self.function, first) {
+            Some(child) if first != 0 => push_zones(&mut zones, child.notes.foot.as_slice())?,
+            _ => {
+                let notes = &self.function.notes;
+                push_zones(&mut zones, notes.reads.as_slice())?;
+                push_zones(&mut zones, notes.writes.as_slice())?;
+                push_zones(&mut zones, notes.adds.as_slice())?;
+            }
+        }
+        Ok(zones)
+    }
+}
+
+/// Says along an edge that its target is of the same child, or the first block of a new one. Whether that is new.
+fn pass_on(firsts: &mut Vec<Option<usize>>, edge: Edge<'_>) -> bool {
+    if edge.from >= firsts.len() || edge.to >= firsts.len() || firsts[edge.to].is_some() {
+        return false;
+    }
+    let first = match edge.way {
+        Way::Detached => Some(edge.to),
+        _ => firsts[edge.from],
+    };
+    firsts[edge.to] = first;
+    first.is_some()
+}
+
+fn pass_all_on(firsts: &mut Vec<Option<usize>>, edges: &[Edge<'_>]) -> bool {
+    let mut is_new = false;
+    for edge in edges {
+        if pass_on(firsts, *edge) {
+            is_new = true;
+        }
+    }
+    is_new
+}
+
+/// For each block the first one of the child that it belongs to: the entry, where that is the function itself; none where it is not known.
+pub fn firsts_of(
+    alloc: Global,
+    edges: &[Edge<'_>],
+    count: usize,
+) -> Result<Vec<Option<usize>>, AllocError> {
+    let mut firsts = Vec::new(alloc);
+    for block in 0..count {
+        firsts.push(if block == 0 { Some(0) } else { None })?;
+    }
+    for _round in 0..MOST_ROUNDS {
+        if !pass_all_on(&mut firsts, edges) {
+            return Ok(firsts);
+        }
+    }
+    Ok(firsts)
+}
