@@ -11,6 +11,7 @@ mod judge;
 mod kernel;
 mod loose;
 mod open;
+mod prepared;
 mod replay;
 mod rows;
 mod run;

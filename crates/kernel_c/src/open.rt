@@ -6,6 +6,7 @@ ghost use Rattle.kernel_c.specs.Held.{IsShareStatus, Opens, closed};
 
 use crate::handle::Handle;
 use crate::judge::{acceptance, rejection};
+use crate::prepared::Prepared;
 use crate::seed::{Seed, verify_seeded};
 use crate::shared::Shared;
 use crate::told::{CLOSED, DONE, OUT_OF_MEMORY, Verdict, plain_verdict};
@@ -13,11 +14,11 @@ use std::alloc::Global;
 use std::mem::replace;
 use verifier::Verified;
 
-/// Keeps a module, unless memory is refused.
+/// Keeps a module, decoded, unless memory is refused.
 fn kept(alloc: Global, kernel: Verified) -> Option<Handle>
     ensures { IfSome result (λ handle. handle.kernel.program ≡ Some kernel) }
 {
-    let shared = Shared::new(alloc, kernel)?;
+    let shared = Shared::new(alloc, Prepared::of(alloc, kernel)?)?;
     match Box::new(alloc, shared) {
         Ok(block) => Some(Handle::kept(block)),
         Err(_) => None,

@@ -109,7 +109,7 @@ fn replay_held(
 {
     match handle.taken() {
         Some(block) => {
-            let outcome = replay_over(alloc, block.module(), arguments, cells, workers, events);
+            let outcome = replay_over(alloc, block.verified(), arguments, cells, workers, events);
             (outcome, Handle::kept(block))
         }
         None => (plain_outcome(CLOSED), Handle::closed(alloc)),

@@ -4,16 +4,16 @@ ghost use Rattle.std.specs.Prelude.{◌≡◌, ◌≤◌, ◌+◌, Some, min};
 ghost use Rattle.kernel_c.specs.Held.{AreRuns, IsRun};
 
 use crate::handle::Handle;
+use crate::prepared::Prepared;
 use crate::serial::run_over;
 use crate::told::{CLOSED, Outcome, plain_outcome};
 use std::alloc::Global;
 use std::mem::replace;
-use verifier::Verified;
 
 /// Runs a module over one row.
 fn run_row(
     alloc: Global,
-    kernel: &Verified,
+    kernel: &Prepared,
     fuel: u64,
     arguments: &[i64],
     cells: &mut [i64],
@@ -34,7 +34,7 @@ fn end_of(first: usize, each: usize, all: usize) -> usize
 /// Runs a module once for each outcome, over its part of the arguments and of the cells.
 fn run_rows(
     alloc: Global,
-    kernel: &Verified,
+    kernel: &Prepared,
     fuel: u64,
     arguments_each: usize,
     arguments: &[i64],

@@ -4,17 +4,20 @@ ghost use Rattle.std.specs.Prelude.{◌≡◌, ◌≢◌, ◌⊎◌, IfErr, IfOk
 ghost use Rattle.outcome.specs.Requirements.{unmet_in};
 ghost use Rattle.outcome.specs.store.Made.{HasGlobalCells, IsMadeFor};
 ghost use Rattle.outcome.specs.store.Rows.{sizes_of};
+ghost use Rattle.serial_machine.specs.Decoding.{IsCodeOf};
 ghost use Rattle.kernel_c.specs.Told.{Exceeds, ExceedsProgram, HasOtherCells, IsOutcomeStatus, IsRunStatus, Lacks, Refuses, Runs, RunsProgram, Shows};
 ghost use Rattle.kernel_c.specs.Told.{bad_arguments, done, memory_from, other_cells, out_of_fuel, out_of_memory, refused, sizes_in};
 
 use crate::cells::count_cells;
 use crate::judge::rejection;
+use crate::prepared::Prepared;
 use crate::seed::{Seed, verify_seeded};
 use crate::told::{
     BAD_ARGUMENTS, DONE, OTHER_CELLS, OUT_OF_FUEL, OUT_OF_MEMORY, Outcome, plain_outcome,
 };
+use lists::OutOfMemory;
 use outcome::{Finished, Memory, RunFault};
-use serial_machine::{Unfinished, serial_run_within};
+use serial_machine::{Decoded, Unfinished, serial_run_within_by};
 use std::alloc::Global;
 use verifier::Verified;
 
@@ -56,14 +59,16 @@ pub fn finish(finished: &Finished, cells: &mut [i64]) -> Outcome
     }
 }
 
-/// Runs a module within some fuel over a row of its globals' numbers.
-pub fn run_over(
+/// Runs a module by its code within some fuel over a row of its globals' numbers.
+fn run_by(
     alloc: Global,
     kernel: &Verified,
+    code: &Decoded,
     fuel: u64,
     arguments: &[i64],
     cells: &mut [i64],
 ) -> Outcome
+    requires code { IsCodeOf kernel.now code.now }
     ensures ran { result.status ≡ done → RunsProgram kernel.now fuel arguments.now cells.old cells.new result }
     ensures fuel { result.status ≡ out_of_fuel → ExceedsProgram kernel.now fuel arguments.now cells.old }
     ensures arguments { result.status ≡ bad_arguments → unmet_in kernel.now arguments.now ≡ Some result.requirement }
@@ -75,7 +80,7 @@ pub fn run_over(
         Ok(memory) => memory,
         Err(status) => return plain_outcome(status),
     };
-    match serial_run_within(alloc, kernel, arguments, memory, fuel) {
+    match serial_run_within_by(alloc, kernel, code, arguments, memory, fuel) {
         Ok(finished) => finish(&finished, cells),
         Err(Unfinished::OutOfFuel { .. }) => plain_outcome(OUT_OF_FUEL),
         Err(Unfinished::Fault(RunFault::BadArguments { requirement, .. })) => Outcome {
@@ -85,6 +90,31 @@ pub fn run_over(
         Err(Unfinished::Fault(RunFault::OutOfMemory)) => plain_outcome(OUT_OF_MEMORY),
         Err(Unfinished::Fault(_)) => unreachable!(),
     }
+}
+
+/// Runs a prepared module within some fuel over a row of its globals' numbers.
+pub fn run_over(
+    alloc: Global,
+    kernel: &Prepared,
+    fuel: u64,
+    arguments: &[i64],
+    cells: &mut [i64],
+) -> Outcome
+    ensures ran { result.status ≡ done → RunsProgram kernel.now fuel arguments.now cells.old cells.new result }
+    ensures fuel { result.status ≡ out_of_fuel → ExceedsProgram kernel.now fuel arguments.now cells.old }
+    ensures arguments { result.status ≡ bad_arguments → unmet_in kernel.now arguments.now ≡ Some result.requirement }
+    ensures cells { result.status ≡ other_cells → length cells.old ≢ sum (sizes_in kernel.now) }
+    ensures kept { result.status ≢ done → cells.new ≡ cells.old }
+    ensures statuses { IsRunStatus result.status }
+{
+    run_by(
+        alloc,
+        kernel.verified(),
+        kernel.code(),
+        fuel,
+        arguments,
+        cells,
+    )
 }
 
 /// Verifies a text within some effort, and runs its module within some fuel.
@@ -106,7 +136,10 @@ fn run_text(
     ensures statuses { IsOutcomeStatus result.status }
 {
     match verify_seeded(alloc, seed, text, effort) {
-        Ok(kernel) => run_over(alloc, &kernel, fuel, arguments, cells),
+        Ok(kernel) => match Decoded::of(alloc, &kernel) {
+            Ok(code) => run_by(alloc, &kernel, &code, fuel, arguments, cells),
+            Err(OutOfMemory) => plain_outcome(OUT_OF_MEMORY),
+        },
         Err(why) => {
             let verdict = rejection(why);
             Outcome {

@@ -1,0 +1,63 @@
+//! A verified module, prepared for its runs.
+
+ghost use Rattle.std.specs.Prelude.{◌≡◌, IfSome};
+ghost use Rattle.serial_machine.specs.Decoding.{IsCodeOf};
+
+use lists::OutOfMemory;
+use serial_machine::Decoded;
+use std::alloc::Global;
+use std::marker::Model;
+use verifier::Verified;
+
+/// A verified module, which is decoded once for all its runs. Contracts see it as its program.
+pub struct Prepared {
+    verified: Verified,
+    code: Decoded,
+}
+
+impl Model for Prepared {
+    ghost use Rattle.program.specs.declared.function.Program.{Program};
+    ghost use Rattle.serial_machine.specs.Decoding.{IsCodeOf};
+
+    ghost Value = { Program };
+
+    ghost view = { λ m. m.verified };
+
+    ghost invariant = { λ m. IsCodeOf m.verified m.code };
+}
+
+/// Written out, so that it is proved once.
+impl Drop for Prepared {
+    fn drop(self) {
+        let Prepared {
+            verified: _,
+            code: _,
+        } = self;
+    }
+}
+
+impl Prepared {
+    /// Decodes a module. Where memory is refused, it is let go.
+    pub fn of(alloc: Global, verified: Verified) -> Option<Prepared>
+        ensures { IfSome result (λ kernel. kernel ≡ verified) }
+    {
+        match Decoded::of(alloc, &verified) {
+            Ok(code) => Some(Prepared { verified, code }),
+            Err(OutOfMemory) => None,
+        }
+    }
+
+    /// What was verified.
+    pub fn verified(&self) -> &Verified
+        ensures { result.now ≡ self.now }
+    {
+        &self.verified
+    }
+
+    /// Its code.
+    pub fn code(&self) -> &Decoded
+        ensures { IsCodeOf self.now result.now }
+    {
+        &self.code
+    }
+}
