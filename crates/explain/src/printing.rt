@@ -70,7 +70,9 @@ fn push_following(out: &mut String, others: &[Finding]) -> Result<(), OutOfMemor
     let mut parting = "";
     for other in others {
         if other.follows {
-            write!(out, "{parting} {} line {}", other.number, other.line)?;
+            let number = other.number;
+            let line = other.line;
+            write!(out, "{parting} {number} line {line}")?;
             parting = ",";
         }
     }

@@ -182,7 +182,8 @@ impl Doing<'_, '_> {
             return Ok(());
         }
         let line = self.trying.known.line;
-        if self.block.left.line != self.block.line {
+        let has_left = self.block.left.line != self.block.line;
+        if has_left || !self.trying.is_told() {
             return Ok(push_finding(findings, 702, line, notes)?);
         }
         let mut notes = String::new(alloc);

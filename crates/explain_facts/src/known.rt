@@ -265,9 +265,15 @@ impl Known<'_> {
                 "    nothing is known of %{name}, which is loaded: bound it by an `and` with a mask, or by a signed compare and a branch"
             );
         }
+        if self.block.0 == 0 {
+            return writeln!(
+                out,
+                "    nothing is known of %{name}: bound it by `requires`"
+            );
+        }
         writeln!(
             out,
-            "    nothing is known of %{name} in this block: say by `keeps` behind its label what is known before it, in the entry block by `requires`"
+            "    nothing is known of %{name} in this block: a `keeps` line behind its label brings along what is known before it"
         )
     }
 

@@ -398,9 +398,10 @@ pub fn push_edge(
         push_foot(&mut owed, blocks, terminator)?;
     }
     facts.switch_to(alloc, edge.facts.as_slice())?;
+    let known = facts.known();
     let passing = Passing {
         spot,
-        facts: &facts.known(),
+        facts: &known,
         edge,
         owed: owed.as_slice(),
     };
