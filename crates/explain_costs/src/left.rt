@@ -159,7 +159,7 @@ fn push_share(
     if !has_left(scene.function, share) {
         return Ok(writeln!(
             out,
-            "    behind it comes %{label}, which has none either: begin there (in a loop `tapirvm annotate` finds it where the counter has bounds)"
+            "    behind it comes %{label}, which has no `left` line either"
         )?);
     }
     write!(out, "    behind it comes %{label}, with `left ")?;
@@ -348,7 +348,9 @@ pub fn push_missing_left(
     bare.push_head(out)?;
     let shares = shares_of(alloc, needs)?;
     if !bare.push_shares(alloc, shares.as_slice(), out)? {
-        return Ok(());
+        return Ok(out.push_str(
+            "    begin with the last blocks; in a loop `tapirvm annotate` finds the lines where the counter has bounds\n",
+        )?);
     }
     match bare.most_wanted(alloc, needs)? {
         Some(wanted) => bare.push_line(alloc, &wanted, out),

@@ -128,7 +128,6 @@ fn push_place_notes(
     notes: &mut String,
 ) -> Result<bool, Unanswered> {
     push_asked(trying.text(), trying.known.scene, unmet, edge, notes)?;
-    push_asked_range(trying.known.scene, unmet, notes)?;
     push_choices(alloc, trying, unmet, notes)?;
     missing.take(alloc, trying.known, unmet)
 }
@@ -184,7 +183,7 @@ fn push_block_notes(
     }
 }
 
-/// A fault with what there is to say of it.
+/// A fault with what there is to say of it, as far as that is not said where there is more of the same line.
 fn finding_of(
     alloc: Global,
     source: Source<'_>,
@@ -192,6 +191,7 @@ fn finding_of(
     unmet: &Unmet,
     old: &[Unmet],
     effort: &Effort,
+    is_more: bool,
     missing: &mut Missing,
 ) -> Result<Finding, Unanswered> {
     let mut found = Finding {
@@ -205,21 +205,26 @@ fn finding_of(
     let Some(scene) = Scene::of(alloc, program, &matched.whole, unmet.site.function)? else {
         return Ok(found);
     };
+    let mut notes = String::new(alloc);
+    if !is_more {
+        push_asked_range(&scene, unmet, &mut notes)?;
+    }
     let blocks = scene.function.blocks.as_slice();
     if let Some(block) = blocks.get(unmet.site.block) {
         found.follows = push_block_notes(
-            alloc,
-            source,
-            &scene,
-            block,
-            unmet,
-            old,
-            effort,
-            missing,
-            &mut found.notes,
+            alloc, source, &scene, block, unmet, old, effort, missing, &mut notes,
         )?;
     }
+    found.notes = notes;
     Ok(found)
+}
+
+/// Whether a fault is at the line of the last finding, and breaks the same rule.
+fn is_of_last(findings: &[Finding], unmet: &Unmet) -> bool {
+    match findings.last() {
+        Some(last) => last.number == unmet.number && last.line == unmet.site.line,
+        None => false,
+    }
 }
 
 /// All faults of numbers of a text, as far as the effort reaches.
@@ -234,7 +239,17 @@ pub fn number_findings(
     let all = all_unmet(alloc, matched, effort)?;
     for unmet in all.iter() {
         let old = all.as_slice();
-        let found = finding_of(alloc, source, matched, unmet, old, effort, &mut missing)?;
+        let is_more = is_of_last(findings.as_slice(), unmet);
+        let found = finding_of(
+            alloc,
+            source,
+            matched,
+            unmet,
+            old,
+            effort,
+            is_more,
+            &mut missing,
+        )?;
         push_found(&mut findings, found)?;
     }
     Ok(findings)
