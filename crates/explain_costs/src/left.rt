@@ -9,6 +9,9 @@ use program::{Block, Function, Instruction, Step};
 use ranges::{Sum, Unanswered, sum_form};
 use std::alloc::Global;
 
+/// A number that no coefficient of a form reaches: 2^24.
+const FACTOR_LIMIT: u64 = 16_777_216;
+
 /// What comes next behind a block, on one of its ways: what is left at no place, at one, or at both targets of a detach.
 #[derive(Clone, Copy)]
 pub struct Need<'a> {
@@ -81,15 +84,14 @@ fn by_fact(
     let in_form = coefficient(form, register);
     let in_fact = coefficient(&fact.form, register);
     let cancels = (in_fact == 1 && in_form < 0) || (in_fact == -1 && in_form > 0);
-    if !cancels || in_form.unsigned_abs() >= 16_777_216 {
+    if !cancels {
         return Ok(None);
     }
-    let factor = if in_form < 0 {
-        0i64.saturating_sub(in_form)
-    } else {
-        in_form
-    };
-    match form.copy(alloc)?.plus_multiple(factor, &fact.form) {
+    let factor = in_form.unsigned_abs();
+    if factor >= FACTOR_LIMIT {
+        return Ok(None);
+    }
+    match form.copy(alloc)?.plus_multiple(factor as i64, &fact.form) {
         Ok(form) => Ok(Some(form)),
         Err(FormFault::Bounds) => Ok(None),
         Err(FormFault::Memory) => Err(OutOfMemory),

@@ -131,10 +131,21 @@ fn copied(alloc: Global, zone: &Zone) -> Result<Option<Zone>, OutOfMemory> {
 impl Passing<'_, '_, '_> {
     /// What is known on the edge.
     fn known(&self) -> Known<'_> {
+        let spot = self.spot;
         Known {
             facts: self.facts.facts(),
-            ..self.spot.known
+            ..spot.known
         }
+    }
+
+    fn scene(&self) -> &Scene<'_> {
+        let spot = self.spot;
+        spot.known.scene
+    }
+
+    /// What is pending at the target.
+    fn pending(&self) -> &[Pending] {
+        pending_at(self.scene().function, self.edge)
     }
 
     /// Why the zones of its object that are pending at the target do not cover this one; false where there are none.
@@ -146,7 +157,7 @@ impl Passing<'_, '_, '_> {
     ) -> Result<bool, Unanswered> {
         let trying = Trying::of(self.spot.source, self.known());
         let mut is_any = false;
-        for item in pending_at(self.spot.known.scene.function, self.edge) {
+        for item in self.pending() {
             if item.region == owed.region {
                 let z = placed_on(self.edge, item);
                 let y = as_written(owed.zone);
@@ -164,7 +175,7 @@ impl Passing<'_, '_, '_> {
         owed: Owed<'_>,
         out: &mut String,
     ) -> Result<(), Unanswered> {
-        let scene = self.spot.known.scene;
+        let scene = self.scene();
         push_still_pending(alloc, scene, self.edge.to, &as_written(owed.zone), out)?;
         if !self.push_waiting(alloc, owed, out)? {
             push_none_pending(scene, self.edge.to, owed.region, out)?;
@@ -188,7 +199,7 @@ impl Passing<'_, '_, '_> {
 
     /// A zone with a number as its low end: what all rounds of a loop have had before.
     fn from_start(&self, alloc: Global, zone: &Zone) -> Result<Option<Zone>, Unanswered> {
-        if !is_counted(self.spot.known.scene.function, &zone.low) {
+        if !is_counted(self.scene().function, &zone.low) {
             return Ok(None);
         }
         match lowest(alloc, self.known(), &zone.low)? {
@@ -229,7 +240,7 @@ impl Passing<'_, '_, '_> {
 
     /// The line of its region and object that the target has.
     fn line_there(&self, owed: Owed<'_>) -> Option<&Zone> {
-        for item in pending_at(self.spot.known.scene.function, self.edge) {
+        for item in self.pending() {
             if item.region == owed.region && is_alike(&item.zone, owed.zone) {
                 return Some(&item.zone);
             }
@@ -251,7 +262,7 @@ impl Passing<'_, '_, '_> {
         if !self.has_owed(alloc, &there, owed)? {
             return Ok(false);
         }
-        let scene = self.spot.known.scene;
+        let scene = self.scene();
         let name = scene.register(owed.region);
         let words = format!(in alloc; ";! pending %{name} ")?;
         match self.line_there(owed) {
@@ -317,7 +328,7 @@ impl Passing<'_, '_, '_> {
         if is_empty(alloc, self.facts, &y)? {
             return Ok(true);
         }
-        for item in pending_at(self.spot.known.scene.function, self.edge) {
+        for item in self.pending() {
             let z = placed_on(self.edge, item);
             if item.region == owed.region && covers(alloc, self.facts, &z, &y)? {
                 return Ok(true);
