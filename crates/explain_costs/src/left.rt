@@ -74,6 +74,17 @@ fn defines(step: &Step, defined: RegisterId) -> bool {
     }
 }
 
+/// The number of times that a fact takes a register out of a form, with the coefficients that it has in both; 0 where none does.
+fn cancelling(in_form: i64, in_fact: i64) -> i64 {
+    if in_fact == 1 {
+        0i64.saturating_sub(in_form)
+    } else if in_fact == -1 {
+        in_form
+    } else {
+        0
+    }
+}
+
 /// A form that is at least this one and does not name the register, by a fact about it.
 fn by_fact(
     alloc: Global,
@@ -83,15 +94,14 @@ fn by_fact(
 ) -> Result<Option<Form>, OutOfMemory> {
     let in_form = coefficient(form, register);
     let in_fact = coefficient(&fact.form, register);
-    let cancels = (in_fact == 1 && in_form < 0) || (in_fact == -1 && in_form > 0);
-    if !cancels {
+    let factor = cancelling(in_form, in_fact);
+    if factor <= 0 {
         return Ok(None);
     }
-    let factor = in_form.unsigned_abs();
-    if factor >= FACTOR_LIMIT {
+    if factor.unsigned_abs() >= FACTOR_LIMIT {
         return Ok(None);
     }
-    match form.copy(alloc)?.plus_multiple(factor as i64, &fact.form) {
+    match form.copy(alloc)?.plus_multiple(factor, &fact.form) {
         Ok(form) => Ok(Some(form)),
         Err(FormFault::Bounds) => Ok(None),
         Err(FormFault::Memory) => Err(OutOfMemory),
