@@ -4,5 +4,5 @@
 mod code;
 mod decode;
 
-pub use code::{BlockCode, Code, Edge, Move, Moves};
+pub use code::{BlockCode, Code, Edge, Move, Moves, RareCode};
 pub use decode::program_codes;

@@ -17,3 +17,4 @@ pub mod Access
 pub mod Accesses
 pub mod Progress
 pub mod Turned
+pub mod Kinds
