@@ -379,13 +379,14 @@ def matrix_product(side):
         7398: each * side + 6, 7400: each * side + 8, 7396: each * side + 4, 6476: each * side + 4 - row - 5})
 
 
-def tree_sum(cells, depth):
-    """The sum of so many cells; a child leaves its half in a cell of its parent's own."""
+def tree_sum(cells, depth, rounds=1):
+    """The sum of so many cells, `rounds` times; a child leaves its half in a cell of its parent's own."""
     leaf = 7 * cells + 8
-    whole = leaf * (2 ** (depth + 1) - 1) + 2
+    whole = (leaf * (2 ** (depth + 1) - 1) + 1) * rounds + 1
+    again = "".join(f"  %r{k} = call i64 @sum(ptr @a, i64 0, i64 64, i64 {depth})\n" for k in range(1, rounds))
     text = replaced(
         (KERNELS / "tree-sum.ll").read_text(), ("%depth <= 3", f"%depth <= {depth}"), ("max 3", f"max {depth}"), ("%d <= 2", f"%d <= {depth - 1}"),
-        ("i64 64, i64 3)", f"i64 64, i64 {depth})"))
+        ("  %r = call i64 @sum(ptr @a, i64 0, i64 64, i64 3)", f"{again}  %r = call i64 @sum(ptr @a, i64 0, i64 64, i64 {depth})"))
     return with_numbers(text, {64: cells, 512: 8 * cells, 456: leaf, 6842: whole})
 
 

@@ -10,6 +10,7 @@ use Rattle.cactus.specs.declared.node.Link.{Link}
 use Rattle.frame_engine.specs.declared.activation.Frame.{Frame}
 use Rattle.schedule_commit.specs.frame_strand.Standing.{IsCopy}
 use Rattle.schedule_workers.specs.declared.activation.Activation.{Activation}
+use Rattle.schedule_workers.specs.Copying.{IsFrameCopy}
 use Rattle.schedule_workers.specs.Scheduling.{counted_in}
 use Rattle.schedule_publish.specs.Linking.{AreLinks, IsActivation, IsFrameOf, IsLink, RegionsFit, counted_above, counted_of, frames_of, path_of, runner_below}
 use Rattle.private_stack.specs.declared.pile.Pile.{Pile}
@@ -44,11 +45,25 @@ path_next x n f at =
     ∙ (ap (λ (ns : List ℕ). x.base.path.items ++ ns) (map_last number (take n (frames_of x)) f)
     ∙ sym (append_assoc x.base.path.items (map number (take n (frames_of x))) ((f.made - 1) ∷ [])))
 
-module _ (worker : ℕ) (x : Pile) (n : ℕ) (f : Frame) (at : slice_get (frames_of x) n ≡ Some f) (a : Activation) (h : Frame) (copied : IsCopy f h)
+same_frame : (f h : Frame) → IsFrameCopy f h → IsCopy f h
+same_frame f h copied =
+    let of : {X : Type 0} (part : Frame → X) → part h ≡ part (record f { registers = h.registers }) = λ part. ap part copied.only in
+    record {
+      function = of (λ (g : Frame). g.function);
+      place = of (λ (g : Frame). g.place);
+      registers = copied.registers;
+      home = of (λ (g : Frame). g.home);
+      made = of (λ (g : Frame). g.made);
+      waits = of (λ (g : Frame). g.waits);
+      role = of (λ (g : Frame). g.role);
+      depth = of (λ (g : Frame). g.depth)
+    }
+
+module _ (worker : ℕ) (x : Pile) (n : ℕ) (f : Frame) (at : slice_get (frames_of x) n ≡ Some f) (a : Activation) (h : Frame) (copied : IsFrameCopy f h)
     (is : a ≡ record { frame = h; counts = a.counts; callee = None; runner = Some worker; stalled_in = None })
     (none : (region : ℕ) → counted_in a region ≡ 0) (as_many : length a.counts.items ≡ length h.registers.items) where
   copy : IsCopy f a.frame
-  copy = subst (λ (g : Frame). IsCopy f g) (sym (ap (λ (b : Activation). b.frame) is)) copied
+  copy = subst (λ (g : Frame). IsCopy f g) (sym (ap (λ (b : Activation). b.frame) is)) (same_frame f h copied)
 
   long : length a.counts.items ≡ length f.registers.items
   long = as_many ∙ ap (λ zs. length zs) copied.registers

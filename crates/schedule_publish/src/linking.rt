@@ -3,15 +3,14 @@ ghost use Rattle.std.specs.Option.{option_copied};
 ghost use Rattle.linear.specs.declared.form.RegisterId.{RegisterId};
 ghost use Rattle.program.specs.declared.identifier.BlockId.{BlockId};
 ghost use Rattle.schedule_workers.specs.Scheduling.{counted_in};
-ghost use Rattle.schedule_commit.specs.frame_strand.Standing.{IsCopy};
 ghost use Rattle.schedule_publish.specs.Linking.{AreLinks, IsFrameOf, RegionsFit, counted_of, frames_of};
 
 use cactus::Link;
 use frame::{Path, Role};
-use frame_engine::{Frame, Place};
+use frame_engine::Frame;
 use lists::{OutOfMemory, Seq};
 use private_stack::Pile;
-use schedule_workers::Activation;
+use schedule_workers::{Activation, frame_copy};
 use std::alloc::Global;
 
 /// The pile's frame of this number, counted from the base.
@@ -38,25 +37,6 @@ pub(crate) fn above(pile: &Pile, number: usize) -> Option<&Frame>
     }
 }
 
-/// The frame again, as it is to stand on the board.
-fn copy_of(alloc: Global, frame: &Frame) -> Result<Frame, OutOfMemory>
-    ensures { IfOk result (IsCopy frame.now) }
-{
-    Ok(Frame {
-        function: frame.function,
-        place: Place {
-            block: frame.place.block,
-            index: frame.place.index,
-        },
-        registers: Vec::from_slice(alloc, frame.registers.as_slice())?,
-        home: frame.home,
-        made: frame.made,
-        waits: frame.waits,
-        role: frame.role,
-        depth: frame.depth,
-    })
-}
-
 /// Counts the frame above, if it is a detached child.
 pub(crate) fn count_above(activation: &mut Activation, above: &Frame)
     requires region { (r : RegisterId) (n : BlockId) → above.now.role ≡ Role.Child r n → r.0 < length activation.old.counts.items }
@@ -81,7 +61,7 @@ fn activation_of(
     requires regions { RegionsFit pile.now }
     ensures { IfOk result (IsFrameOf worker pile.now number) }
 {
-    let frame = copy_of(alloc, frame_of(pile, number))?;
+    let frame = frame_copy(frame_of(pile, number))?;
     let mut activation = Activation::new(alloc, frame, worker)?;
     if let Some(above) = above(pile, number) {
         activation.runner = None;

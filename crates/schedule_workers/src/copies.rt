@@ -10,8 +10,12 @@ use frame_engine::{Flat, Frame, Place};
 use lists::OutOfMemory;
 use std::alloc::{AllocError, Global};
 
-/// The frame again.
-fn copy_of(frame: &Frame) -> Result<Frame, AllocError>
+/// The frame again, with registers of its own.
+///
+/// # Errors
+///
+/// Memory was refused.
+pub fn frame_copy(frame: &Frame) -> Result<Frame, AllocError>
     ensures { IfOk result (IsFrameCopy frame.now) }
 {
     let alloc = *frame.registers.allocator();
@@ -37,7 +41,7 @@ impl Clone for Activation {
 
     fn clone(&self) -> Result<Activation, AllocError> {
         Ok(Activation {
-            frame: copy_of(&self.frame)?,
+            frame: frame_copy(&self.frame)?,
             counts: Vec::from_slice(self.allocator(), self.counts.as_slice())?,
             callee: self.callee,
             runner: self.runner,

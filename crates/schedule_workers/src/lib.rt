@@ -30,4 +30,5 @@ mod sync;
 mod tops;
 
 pub use activation::Activation;
+pub use copies::frame_copy;
 pub use run::{Block, Run};
