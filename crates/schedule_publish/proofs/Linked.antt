@@ -56,7 +56,7 @@ same_frame f h copied =
       made = of (λ (g : Frame). g.made);
       waits = of (λ (g : Frame). g.waits);
       role = of (λ (g : Frame). g.role);
-      depth = of (λ (g : Frame). g.depth)
+      depth = of (λ (g : Frame). g.depth);
     }
 
 module _ (worker : ℕ) (x : Pile) (n : ℕ) (f : Frame) (at : slice_get (frames_of x) n ≡ Some f) (a : Activation) (h : Frame) (copied : IsFrameCopy f h)
