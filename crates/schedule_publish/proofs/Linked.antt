@@ -47,16 +47,15 @@ path_next x n f at =
 
 same_frame : (f h : Frame) → IsFrameCopy f h → IsCopy f h
 same_frame f h copied =
-    let of : {X : Type 0} (part : Frame → X) → part h ≡ part (record f { registers = h.registers }) = λ part. ap part copied.only in
     record {
-      function = of (λ (g : Frame). g.function);
-      place = of (λ (g : Frame). g.place);
+      function = ap (λ (g : Frame). g.function) copied.only;
+      place = ap (λ (g : Frame). g.place) copied.only;
       registers = copied.registers;
-      home = of (λ (g : Frame). g.home);
-      made = of (λ (g : Frame). g.made);
-      waits = of (λ (g : Frame). g.waits);
-      role = of (λ (g : Frame). g.role);
-      depth = of (λ (g : Frame). g.depth);
+      home = ap (λ (g : Frame). g.home) copied.only;
+      made = ap (λ (g : Frame). g.made) copied.only;
+      waits = ap (λ (g : Frame). g.waits) copied.only;
+      role = ap (λ (g : Frame). g.role) copied.only;
+      depth = ap (λ (g : Frame). g.depth) copied.only;
     }
 
 module _ (worker : ℕ) (x : Pile) (n : ℕ) (f : Frame) (at : slice_get (frames_of x) n ≡ Some f) (a : Activation) (h : Frame) (copied : IsFrameCopy f h)
