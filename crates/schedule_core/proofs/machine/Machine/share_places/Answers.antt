@@ -3,7 +3,7 @@ use Rattle.frame_engine.specs.declared.activation.Places.{Places}
 use Rattle.schedule_workers.specs.Starts.{ArePlaces}
 use Rattle.schedule_core.specs.Stages.{program_of}
 use Rattle.schedule_core.proofs.Commits.{places_kept}
-use Rattle.schedule_core.proofs.shared_places.Machine.share_places.Goals as goal
+use Rattle.schedule_core.proofs.machine.Machine.share_places.Goals as goal
 
 pub returns : goal.returns
 returns c =
