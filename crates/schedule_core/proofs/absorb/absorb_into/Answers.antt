@@ -22,7 +22,7 @@ pub absorb-requires-clause-program : goal.absorb-requires-clause-program
 absorb-requires-clause-program c = c.requires.made.module_is ∙ sym c.program-program.ensures.value
 
 pub absorb-requires-clause-places : goal.absorb-requires-clause-places
-absorb-requires-clause-places c = same_places c.args.stage.now c.requires.machine c.args.strand.now.places.now c.requires.made.places_are
+absorb-requires-clause-places c = same_places c.args.stage.now c.requires.machine c.args.strand.now.places.now c.requires.made.places_are ∙ sym c.get.ensures
 
 pub absorb-requires-clause-safe : goal.absorb-requires-clause-safe
 absorb-requires-clause-safe c =
