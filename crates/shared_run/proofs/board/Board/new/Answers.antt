@@ -19,7 +19,7 @@ invariant_of-result g c =
       legal_begin o own c.new-history.result.events stage same c.new-history.ensures
           (legal_start o stage replays started.admitted.1 c.program-accepted.ensures.accepted started.admitted.0 made),
       c.open-book.ensures.total ∙ sym (ap length c.new-history.ensures),
-      c.in-Ok.ensures ∙ c.requires.arguments,
+      c.in-Ok.ensures.items ∙ c.requires.arguments,
       c.requires.crew,
     )
 
