@@ -68,17 +68,20 @@ fn two_seats<L: Bench + Send + Sync, R: Threads + Wait + Sync>(
     rt: &R,
     alloc: Global,
     verified: &Verified,
+    arguments: &[i64],
     memory: Memory,
     blank: Blank,
 ) -> bool
     requires made { IsMadeFor verified.now memory }
     requires code { verified.now ≡ L.code }
+    requires arguments { arguments.now ≡ L.arguments }
+    requires memory { memory ≡ L.memory }
     requires crew { 2 ≡ L.crew }
     requires name { blank.name ≡ L.name }
     requires parts { blank.parts ≡ L.parts }
     requires one_each { blank.parts ≡ 2 }
 {
-    let made = Shared::<L>::new(alloc, verified, [64].as_slice(), memory, 2, blank);
+    let made = Shared::<L>::new(alloc, verified, arguments, memory, 2, blank);
     let Ok((shared, mut seats)) = made else {
         return false;
     };
@@ -91,7 +94,15 @@ fn is_played_by_two<R: Threads + Wait + Sync>(rt: &R, alloc: Global, verified: &
     let Ok(memory) = Memory::zeroed(alloc, verified) else {
         return false;
     };
-    two_seats::<Brand, R>(rt, alloc, verified, memory, Blank::new(2))
+    let arguments = [64];
+    two_seats::<Brand, R>(
+        rt,
+        alloc,
+        verified,
+        arguments.as_slice(),
+        memory,
+        Blank::new(2),
+    )
 }
 
 /// Answers the case.

@@ -1,7 +1,6 @@
 //! The rounds of a run on threads. There is one: its workers leave when the run has ended. No contract tells what stands behind a lock, so where they
 //! left and it has not ended, though none of them was refused memory or stopped, they are set to work again.
 ghost use Rattle.std.specs.Prelude.{◌≡◌, vec_len, IfOk};
-ghost use Rattle.shared_run.specs.schedule_workers.Starts.{ArePlaces};
 ghost use Rattle.shared_run.specs.schedule_core.Admission.{IsAdmitted};
 ghost use Rattle.shared_run.specs.store.Made.{IsMadeFor};
 ghost use Rattle.shared_run.specs.Answer.{IsSerialAnswer, LeadTo};
@@ -16,7 +15,7 @@ use crate::work::work;
 use crate::workers::{Worker, crew_of, disband};
 use crossbeam_utils::CachePadded;
 use lists::OutOfMemory;
-use shared_run::{Bench, Memory, Places, RunFault, Seat, Shared, Verified, places_of};
+use shared_run::{Bench, Memory, RunFault, Seat, Shared, Verified};
 use std::alloc::Global;
 use std::sync::atomic::AtomicBool;
 use std::sync::ledger::Blank;
@@ -38,6 +37,8 @@ pub(crate) fn run_by<L: Bench + Send + Sync, G: Gate + Sync, R: Threads + Wait +
 ) -> Result<Recorded, RunFault>
     requires made { IsMadeFor verified.now memory }
     requires code { verified.now ≡ L.code }
+    requires arguments { arguments.now ≡ L.arguments }
+    requires memory { memory ≡ L.memory }
     requires crew { workers ≡ L.crew }
     requires name { blank.name ≡ L.name }
     requires parts { blank.parts ≡ L.parts }
@@ -49,15 +50,12 @@ pub(crate) fn run_by<L: Bench + Send + Sync, G: Gate + Sync, R: Threads + Wait +
     let (mut shared, mut seats) = Shared::<L>::new(
         alloc, verified, arguments, memory, workers, blank,
     )?;
-    let Ok(places) = places_of(alloc, verified) else {
-        return Err(RunFault::OutOfMemory);
-    };
     let Ok(mut figures) = no_figures(alloc, workers) else {
         return Err(RunFault::OutOfMemory);
     };
     for _ in rt.forever() {
         let own = figures.as_mut_slice();
-        let round = round(rt, alloc, verified, &places, &shared, seats, own, gate);
+        let round = round(rt, alloc, verified, &shared, seats, own, gate);
         let Ok((back, left)) = round else {
             return Err(RunFault::OutOfMemory);
         };
@@ -90,20 +88,18 @@ fn round<L: Bench + Send + Sync, G: Gate + Sync, R: Threads + Wait + Clock + Syn
     rt: &R,
     alloc: Global,
     verified: &Verified,
-    places: &Places,
     shared: &Shared<'_, L>,
     seats: Vec<Seat<L>>,
     figures: &mut [Figures],
     gate: &G,
 ) -> Result<(Vec<Seat<L>>, Vec<Left>), OutOfMemory>
     requires code { verified.now ≡ L.code }
-    requires places { ArePlaces verified.now places.now }
     ensures seats { IfOk result (λ back. vec_len back.0 ≡ vec_len seats) }
     ensures left { IfOk result (λ back. vec_len back.1 ≡ vec_len seats) }
 {
     let room = Vec::with_capacity(alloc, seats.len())?;
     let left = Vec::with_capacity(alloc, seats.len())?;
-    let crew = crew_of(alloc, seats, figures, verified, places)?;
+    let crew = crew_of(alloc, seats, figures, verified, shared.places())?;
     work_together(rt, shared, gate, crew.as_slice());
     Ok(disband(crew, room, left, figures))
 }

@@ -184,10 +184,19 @@ module _ (old : Stage) (k : Run) (many : length k.hands.items ≡ length old.run
 
 -- ---- places
 
+-- a machine's are those of its module
+pub places_kept : (stage : Stage) → ∥ IsMachine stage ∥₁ → ArePlaces (program_of stage) stage.places
+places_kept stage kept = record {
+  globals = ∥∥₁_elim kept (Prim.hlevel (props, ⊎_set, ℕ_set, ℤ_set)) (λ m. m.places.globals);
+  allocas = ∥∥₁_elim kept (Prim.hlevel (props, ⊎_set, ℕ_set, ℤ_set)) (λ m. m.places.allocas);
+  codes = ∥∥₁_elim kept (codes_equal _ _) (λ m. m.places.codes);
+}
+
 -- a module's objects begin at the same places whenever they are laid out
 pub same_places : (stage : Stage) → ∥ IsMachine stage ∥₁ → (places : Places) → ArePlaces (program_of stage) places → places ≡ stage.places
 same_places stage kept places at =
-    let globals : places.globals ≡ stage.places.globals = at.globals ∙ sym (∥∥₁_elim kept (Prim.hlevel (props, ⊎_set, ℕ_set, ℤ_set)) (λ m. m.places.globals)) in
-    let allocas : places.allocas ≡ stage.places.allocas = at.allocas ∙ sym (∥∥₁_elim kept (Prim.hlevel (props, ⊎_set, ℕ_set, ℤ_set)) (λ m. m.places.allocas)) in
-    let codes : places.codes ≡ stage.places.codes = at.codes ∙ sym (∥∥₁_elim kept (codes_equal _ _) (λ m. m.places.codes)) in
+    let own : ArePlaces (program_of stage) stage.places = places_kept stage kept in
+    let globals : places.globals ≡ stage.places.globals = at.globals ∙ sym own.globals in
+    let allocas : places.allocas ≡ stage.places.allocas = at.allocas ∙ sym own.allocas in
+    let codes : places.codes ≡ stage.places.codes = at.codes ∙ sym own.codes in
     λ i. record { globals = globals i; allocas = allocas i; codes = codes i }

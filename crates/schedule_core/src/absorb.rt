@@ -56,7 +56,7 @@ fn absorb_into(stage: &mut Stage<'_>, worker: u8, strand: &Strand<'_>) -> Result
     ensures memory { stage.new.memory ≡ stage.old.memory }
 {
     let program = stage.verified.program();
-    absorb(&mut stage.run, program, &stage.places, worker, strand)
+    absorb(&mut stage.run, program, stage.places.get(), worker, strand)
 }
 
 impl Machine<'_> {

@@ -8,9 +8,10 @@ ghost use Rattle.schedule_core.specs.Replaying.{Replays, ReplaysMore, ReplaysOne
 ghost use Rattle.laws_workers_strands.specs.laws_workers.store.Made.{IsMadeFor};
 ghost use Rattle.schedule_core.specs.Stages.{IsState, program_of};
 
+use crate::shared_places::SharedPlaces;
 use crate::stage::Stage;
 use frame::Event;
-use frame_engine::{Places, most_moves};
+use frame_engine::most_moves;
 use lists::OutOfMemory;
 use outcome::{Memory, RunFault, Verified, unmet_requirement};
 use schedule_workers::Run;
@@ -31,7 +32,7 @@ fn staged<'v>(
     ensures replays { IfOk result (Replays verified.now arguments.now memory workers []) }
 {
     let program = verified.program();
-    let places = Places::of_program(alloc, program)?;
+    let places = SharedPlaces::of_program(alloc, program)?;
     let row = memory.row()?;
     let run = Run::start(alloc, program, arguments, row, workers, most_moves(program))?;
     Ok(Stage {
@@ -76,9 +77,8 @@ pub(crate) fn copied<'v>(stage: &Stage<'v>) -> Result<Stage<'v>, OutOfMemory>
     ensures same { IfOk result (StandsAsWell stage.now) }
     ensures machine { IfOk result (λ other. ∥ IsMachine other ∥₁) }
 {
-    let program = stage.verified.program();
     let run = stage.run.copy()?;
-    let places = Places::of_program(run.alloc, program)?;
+    let places = stage.places.share()?;
     let memory = stage.memory.copy()?;
     Ok(Stage {
         verified: stage.verified,
@@ -102,7 +102,7 @@ pub(crate) fn apply_to(stage: &mut Stage<'_>, event: &Event) -> Result<bool, Out
 {
     let program = stage.verified.program();
     match event {
-        Event::Step(worker) => stage.run.step(program, &stage.places, *worker),
+        Event::Step(worker) => stage.run.step(program, stage.places.get(), *worker),
         Event::Steal(worker, path) => Ok(stage.run.steal(*worker, path)),
     }
 }

@@ -72,13 +72,6 @@ impl Machine<'_> {
         })
     }
 
-    /// Where the module's objects begin: what addresses in words count from.
-    pub fn places(&self) -> &Places
-        ensures { result.now ≡ self.now.stage.places }
-    {
-        &self.stage.places
-    }
-
     /// What stands at an address of a word; none where no cell has it. A cell without a value may hold any.
     pub fn word_at(&self, address: i64) -> Option<i64>
         ensures { (m : running.Machine) → IsState self.now.stage m → IsHeldAt self.now.stage m address result }
@@ -91,7 +84,7 @@ impl Machine<'_> {
         ensures { (m : running.Machine) → IsState self.now.stage m → IsHeldBy self.now.stage m path.now alloca index result }
     {
         let view = self.frame(path)?;
-        let address = address_in(&self.stage.places, view.frame, alloca, index)?;
+        let address = address_in(self.places(), view.frame, alloca, index)?;
         self.word_at(address)
     }
 

@@ -38,9 +38,16 @@ impl Machine<'_> {
         if cells <= index {
             return None;
         }
-        let start = number_in(self.stage.places.globals.as_slice(), global);
+        let start = number_in(self.places().globals.as_slice(), global);
         let address = sum(start, index.cast_signed());
         Some(cell_of(self.stage.run.cells.cells.as_slice(), address))
+    }
+
+    /// The globals as they were handed in.
+    pub fn handed_in(&self) -> &Memory
+        ensures { result.now ≡ self.now.stage.memory }
+    {
+        &self.stage.memory
     }
 
     /// The globals, as the events left them, in memory of their own.

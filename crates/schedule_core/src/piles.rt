@@ -100,7 +100,7 @@ fn take_over(stage: &mut Stage<'_>, worker: u8, pile: &Pile) -> Result<bool, Out
     ensures memory { stage.new.memory ≡ stage.old.memory }
 {
     let program = stage.verified.program();
-    absorb_deep(&mut stage.run, program, &stage.places, worker, pile)
+    absorb_deep(&mut stage.run, program, stage.places.get(), worker, pile)
 }
 
 impl Machine<'_> {

@@ -1,4 +1,4 @@
-use frame_engine::Places;
+use crate::shared_places::SharedPlaces;
 use outcome::{Memory, Verified};
 use schedule_workers::Run;
 
@@ -7,7 +7,7 @@ use schedule_workers::Run;
 pub struct Stage<'v> {
     pub verified: &'v Verified,
     /// Where the module's objects begin.
-    pub places: Places,
+    pub places: SharedPlaces,
     /// The globals as they were handed in: their names and sizes. What they hold now stands in the run's cells.
     pub memory: Memory,
     pub run: Run,

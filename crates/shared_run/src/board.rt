@@ -1,5 +1,5 @@
-ghost use Rattle.std.specs.Prelude.{◌≡◌, ◌≢◌, ◌⊎◌, ◌+◌, ◌*◌, ◌<◌, ◌≤◌, None, Some, is_some, length, vec_len, sum_by, IfOk, IfErr, IfNone};
-ghost use Rattle.std.specs.Prelude.{IfSome, OnErr};
+ghost use Rattle.std.specs.Prelude.{◌≡◌, ◌≢◌, ◌↔◌, ◌⊎◌, ◌+◌, ◌*◌, ◌<◌, ◌≤◌, None, Some, is_some, length, vec_len, sum_by, IfOk, IfErr, IfNone};
+ghost use Rattle.std.specs.Prelude.{IfSome, IsTrue, OnErr};
 ghost use Rattle.schedule_core.specs.Admission.{IsAdmitted};
 ghost use Rattle.schedule_core.specs.store.Made.{IsMadeFor};
 ghost use Rattle.schedule_core.specs.verifier.Budgets.{budget_of};
@@ -27,11 +27,13 @@ use std::alloc::Global;
 use std::marker::Model;
 use std::sync::ledger::{Blank, Book, Share};
 
-/// A machine with the history of its events. Contracts see the start, the events since then, and the stage that they led to.
+/// A machine with the history of its events. Contracts see the start, the events since then, and the stage that they led to. The start is that
+/// of the ledger; of its memory the machine has what was handed in.
 #[derive(Drop)]
 pub struct Board<'a, L: Bench> {
     alloc: Global,
-    start: Start<'a>,
+    arguments: Vec<i64>,
+    workers: usize,
     pub(crate) history: History,
     pub(crate) machine: Machine<'a>,
     pub(crate) book: Book<L>,
@@ -39,14 +41,14 @@ pub struct Board<'a, L: Bench> {
 
 impl<'a, L: Bench> Model for Board<'a, L> {
     ghost use Rattle.std.specs.Prelude.{◌≡◌, length};
-    ghost use Rattle.shared_run.specs.Story.{IsLegal, Story};
+    ghost use Rattle.shared_run.specs.Story.{IsLegal, Story, origin};
 
     ghost Value = { Story };
 
-    ghost view = { λ b. record { start = b.start; events = b.history.events; stage = b.machine.stage } };
+    ghost view = { λ b. record { start = origin L.code L.arguments L.memory L.crew; events = b.history.events; stage = b.machine.stage } };
 
-    ghost invariant = { λ b. IsLegal b.start b.history.events b.machine.stage × (b.book.total ≡ length b.history.events) × (b.start.program ≡ L.code) ×
-        (b.start.workers ≡ L.crew) };
+    ghost invariant = { λ b. IsLegal (origin L.code L.arguments L.memory L.crew) b.history.events b.machine.stage × (b.book.total ≡ length b.history.events) ×
+        (b.arguments.items ≡ L.arguments) × (b.workers ≡ L.crew) };
 }
 
 impl<'a, L: Bench> Board<'a, L> {
@@ -67,6 +69,8 @@ impl<'a, L: Bench> Board<'a, L> {
     ) -> Result<(Board<'a, L>, Vec<Seat<L>>), RunFault>
         requires made { IsMadeFor verified.now memory }
         requires code { verified.now ≡ L.code }
+        requires arguments { arguments.now ≡ L.arguments }
+        requires memory { memory ≡ L.memory }
         requires crew { workers ≡ L.crew }
         requires name { blank.name ≡ L.name }
         requires parts { blank.parts ≡ L.parts }
@@ -78,7 +82,7 @@ impl<'a, L: Bench> Board<'a, L> {
         // for what it says of the module: that it is accepted
         let _accepted = verified.program();
         let memory = admitted(verified, arguments, memory, workers)?;
-        let Ok(start) = Start::new(alloc, verified, arguments, &memory, workers) else {
+        let Ok(own) = Vec::from_slice(alloc, arguments) else {
             return Err(RunFault::OutOfMemory);
         };
         let mut machine = Machine::start(alloc, verified, arguments, memory, workers)?;
@@ -93,7 +97,8 @@ impl<'a, L: Bench> Board<'a, L> {
         Ok((
             Board {
                 alloc,
-                start,
+                arguments: own,
+                workers,
                 history,
                 machine,
                 book,
@@ -324,15 +329,45 @@ impl<'a, L: Bench> Board<'a, L> {
         ensures same { IfErr result (λ back. (back.0 ≡ self.entry) × (back.1 ≡ seats)) }
         ensures refused { OnErr result (((state_of self.entry).core.result ≡ None) ⊎ (self.entry.start ≢ start.now)) }
     {
-        if !self.start.same(start) {
+        if !self.began_at(start) {
             return Err((self, seats));
         }
+        self.answer(seats)
+    }
+
+    /// Whether the board began at this start, which is of the same module.
+    fn began_at(&self, start: &Start<'a>) -> bool
+        requires { start.now.program ≡ L.code }
+        ensures { IsTrue result ↔ (self.now.start ≡ start.now) }
+    {
+        start.has(
+            self.arguments.as_slice(),
+            self.machine.handed_in(),
+            self.workers,
+        )
+    }
+
+    /// The answer of a run that has ended, with its history: [`Board::finish`].
+    pub(crate) fn answer(
+        self,
+        seats: Vec<Seat<L>>,
+    ) -> Result<(Finished, History), (Board<'a, L>, Vec<Seat<L>>)>
+        requires all { (vec_len seats ≡ L.parts) × (0 < L.parts) }
+        ensures start { self.entry.start ≡ origin L.code L.arguments L.memory L.crew }
+        ensures answer { IfOk result (λ done. IsSerialAnswer self.entry.start done.0) }
+        ensures replays { IfOk result (λ done. LeadTo self.entry.start done.1.events done.0) }
+        ensures events { IfOk result (λ done. done.1.events ≡ self.entry.events) }
+        ensures shares { IfOk result (λ done. length done.1.events ≡ sum_by (λ seat. seat.share) seats.items) }
+        ensures same { IfErr result (λ back. (back.0 ≡ self.entry) × (back.1 ≡ seats)) }
+        ensures refused { OnErr result ((state_of self.entry).core.result ≡ None) }
+    {
         let Some(result) = self.machine().result() else {
             return Err((self, seats));
         };
         let Board {
             alloc: _,
-            start: _,
+            arguments: _,
+            workers: _,
             history,
             machine,
             mut book,

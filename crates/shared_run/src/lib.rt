@@ -6,7 +6,8 @@
 //! schedule theorem holds of it (`Board::machine`). Tokens of `std::sync::ledger` count: the board's book counts all events, each
 //! seat's share those that its own calls appended.
 //!
-//! `Shared` is a board in a lock with a copy of its start beside it. No call here waits: a thread locks `Shared::board` itself.
+//! `Shared` is a board in a lock. No call here waits: a thread locks `Shared::board` itself. Where the run begins stands with the ledger, in
+//! contracts alone, so nothing has to be copied or compared to tell what is in the lock.
 #![tactic(auto)]
 
 mod answers;

@@ -1,4 +1,5 @@
 ghost use Rattle.std.specs.Prelude.{◌≡◌, ◌<◌, length, vec_len, sum_by, IfOk, IfErr};
+ghost use Rattle.schedule_workers.specs.Starts.{ArePlaces};
 ghost use Rattle.schedule_core.specs.Admission.{IsAdmitted};
 ghost use Rattle.schedule_core.specs.store.Made.{IsMadeFor};
 ghost use Rattle.shared_run.specs.Answer.{IsSerialAnswer, LeadTo};
@@ -8,29 +9,29 @@ use crate::bench::Bench;
 use crate::board::Board;
 use crate::history::History;
 use crate::seat::Seat;
-use crate::start::{Start, admitted};
-use schedule_core::{Finished, Memory, RunFault, Verified};
+use schedule_core::{Finished, Memory, Places, RunFault, SharedPlaces, Verified};
 use std::alloc::Global;
 use std::marker::Model;
 use std::sync::Mutex;
 use std::sync::ledger::Blank;
 
-/// A board in a lock, with a copy of its start beside it. Contracts see the start.
+/// A board in a lock, with the places of its module beside it. Contracts see the start, which is that of the ledger: no other board of this ledger
+/// begins elsewhere.
 #[derive(Drop)]
 pub struct Shared<'a, L: Bench> {
     pub board: Mutex<Board<'a, L>>,
-    start: Start<'a>,
+    places: SharedPlaces,
 }
 
 impl<'a, L: Bench> Model for Shared<'a, L> {
-    ghost use Rattle.std.specs.Prelude.{◌≡◌};
-    ghost use Rattle.shared_run.specs.Story.{Origin};
+    ghost use Rattle.schedule_workers.specs.Starts.{ArePlaces};
+    ghost use Rattle.shared_run.specs.Story.{Origin, origin};
 
     ghost Value = { Origin };
 
-    ghost view = { λ s. s.start };
+    ghost view = { λ s. origin L.code L.arguments L.memory L.crew };
 
-    ghost invariant = { λ s. s.start.program ≡ L.code };
+    ghost invariant = { λ s. ArePlaces L.code s.places };
 }
 
 impl<'a, L: Bench> Shared<'a, L> {
@@ -50,6 +51,8 @@ impl<'a, L: Bench> Shared<'a, L> {
     ) -> Result<(Shared<'a, L>, Vec<Seat<L>>), RunFault>
         requires made { IsMadeFor verified.now memory }
         requires code { verified.now ≡ L.code }
+        requires arguments { arguments.now ≡ L.arguments }
+        requires memory { memory ≡ L.memory }
         requires crew { workers ≡ L.crew }
         requires name { blank.name ≡ L.name }
         requires parts { blank.parts ≡ L.parts }
@@ -58,22 +61,28 @@ impl<'a, L: Bench> Shared<'a, L> {
         ensures seats { IfOk result (λ made. AreSeats workers made.1.items) }
         ensures admitted { IsAdmitted verified.now arguments.now memory workers result }
     {
-        let memory = admitted(verified, arguments, memory, workers)?;
-        let Ok(start) = Start::new(alloc, verified, arguments, &memory, workers) else {
+        let (board, seats) = Board::new(alloc, verified, arguments, memory, workers, blank)?;
+        let Ok(places) = board.machine().share_places() else {
             return Err(RunFault::OutOfMemory);
         };
-        let (board, seats) = Board::new(alloc, verified, arguments, memory, workers, blank)?;
         Ok((
             Shared {
                 board: Mutex::new(board),
-                start,
+                places,
             },
             seats,
         ))
     }
 
-    /// The answer of the run that has ended, with its history: [`Board::finish`]. It takes all its seats and waits for nobody. Else,
-    /// where the run of the board in the lock has not ended or began at another start, all is given back.
+    /// Where the module's objects begin.
+    pub fn places(&self) -> &Places
+        ensures { ArePlaces L.code result.now }
+    {
+        self.places.get()
+    }
+
+    /// The answer of the run that has ended, with its history: [`Board::finish`]. It takes all its seats and waits for nobody. Else, where
+    /// the run of the board in the lock has not ended, all is given back.
     pub fn finish(
         self,
         seats: Vec<Seat<L>>,
@@ -84,13 +93,13 @@ impl<'a, L: Bench> Shared<'a, L> {
         ensures shares { IfOk result (λ done. length done.1.events ≡ sum_by (λ seat. seat.share) seats.items) }
         ensures same { IfErr result (λ back. (back.0 ≡ self.entry) × (back.1 ≡ seats)) }
     {
-        let Shared { board, start } = self;
-        match board.into_inner().finish(&start, seats) {
+        let Shared { board, places } = self;
+        match board.into_inner().answer(seats) {
             Ok(done) => Ok(done),
             Err((board, seats)) => Err((
                 Shared {
                     board: Mutex::new(board),
-                    start,
+                    places,
                 },
                 seats,
             )),

@@ -43,16 +43,15 @@ impl<'a> Start<'a> {
         })
     }
 
-    /// Whether both are starts of one module, with the same arguments, memory and number of workers.
-    pub fn same(&self, other: &Start<'a>) -> bool
-        requires { self.now.program ≡ other.now.program }
-        ensures { IsTrue result ↔ (self.now ≡ other.now) }
+    /// Whether it has these arguments, this memory and so many workers.
+    pub(crate) fn has(&self, arguments: &[i64], memory: &Memory, workers: usize) -> bool
+        ensures { IsTrue result ↔ (origin self.now.program arguments.now memory.now workers ≡ self.now) }
     {
-        if self.workers != other.workers {
+        if self.workers != workers {
             return false;
         }
-        if same_numbers(self.arguments.as_slice(), other.arguments.as_slice()) {
-            self.memory.same(&other.memory)
+        if same_numbers(self.arguments.as_slice(), arguments) {
+            self.memory.same(memory)
         } else {
             false
         }

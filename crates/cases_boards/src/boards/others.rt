@@ -22,6 +22,8 @@ fn is_stranger_to<L: Bench>(
     requires strand { IsMadeOf L.code strand.now }
     requires made { IsMadeFor verified.now memory }
     requires code { verified.now ≡ L.code }
+    requires arguments { arguments.now ≡ L.arguments }
+    requires memory { memory ≡ L.memory }
     requires crew { 1 ≡ L.crew }
     requires name { blank.name ≡ L.name }
     requires parts { blank.parts ≡ L.parts }

@@ -212,6 +212,8 @@ fn played_shared<'a, L: Bench>(
 ) -> Result<(), OutOfMemory>
     requires made { IsMadeFor run.now.verified.now memory }
     requires code { run.now.verified.now ≡ L.code }
+    requires arguments { run.now.arguments.now ≡ L.arguments }
+    requires memory { memory ≡ L.memory }
     requires crew { run.now.workers ≡ L.crew }
     requires name { blank.name ≡ L.name }
     requires parts { blank.parts ≡ L.parts }
@@ -237,6 +239,8 @@ fn played_alone<'a, L: Bench>(
 ) -> Result<(), OutOfMemory>
     requires made { IsMadeFor run.now.verified.now memory }
     requires code { run.now.verified.now ≡ L.code }
+    requires arguments { run.now.arguments.now ≡ L.arguments }
+    requires memory { memory ≡ L.memory }
     requires crew { run.now.workers ≡ L.crew }
     requires name { blank.name ≡ L.name }
     requires parts { blank.parts ≡ L.parts }

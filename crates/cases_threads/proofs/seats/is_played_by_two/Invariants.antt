@@ -4,4 +4,4 @@ abbrev pub ghosts-two_seats-L-Ledger : goal.ghosts-two_seats-L-Ledger
 ghosts-two_seats-L-Ledger g a = record { name = a.blank.name; parts = a.blank.parts }
 
 abbrev pub ghosts-two_seats-L-Bench : goal.ghosts-two_seats-L-Bench
-ghosts-two_seats-L-Bench g a = record { code = a.verified.now; crew = 2 }
+ghosts-two_seats-L-Bench g a = record { code = a.verified.now; arguments = a.arguments.now; memory = a.memory; crew = 2 }

@@ -29,7 +29,7 @@ returns-clause-replays c =
     let places = c.in_ok-places.places in
     let k = c.in_ok-run.run' in
     let stage : Stage = record { verified = c.args.verified; places = places; memory = c.args.memory; run = k } in
-    let are : ArePlaces program places = subst (λ (q : Program). ArePlaces q places) c.program-program.ensures.value (record { globals = c.in_ok-places.ensures.globals; allocas = c.in_ok-places.ensures.allocas; codes = c.in_ok-places.ensures.codes }) in
+    let are : ArePlaces program places = subst (λ (q : Program). ArePlaces q places) c.program-program.ensures.value c.in_ok-places.ensures in
     let begins : Begins program c.args.arguments.now (row_of c.args.memory) k =
     subst (λ (xs : List ℤ). Begins program c.args.arguments.now xs k) c.in_ok-row.ensures (subst (λ (q : Program). Begins q c.args.arguments.now c.in_ok-row.row.items k) c.program-program.ensures.value c.in_ok-run.ensures.begins) in
     begun_replays stage c.program-program.ensures.accepted c.args.arguments.now c.requires.met c.requires.made c.args.workers c.requires.workers are begins c.in_ok-run.ensures.workers c.in_ok-run.ensures.stalls
@@ -40,7 +40,7 @@ returns-clause-machine c =
     let places = c.in_ok-places.places in
     let k = c.in_ok-run.run' in
     let stage : Stage = record { verified = c.args.verified; places = places; memory = c.args.memory; run = k } in
-    let are : ArePlaces program places = subst (λ (q : Program). ArePlaces q places) c.program-program.ensures.value (record { globals = c.in_ok-places.ensures.globals; allocas = c.in_ok-places.ensures.allocas; codes = c.in_ok-places.ensures.codes }) in
+    let are : ArePlaces program places = subst (λ (q : Program). ArePlaces q places) c.program-program.ensures.value c.in_ok-places.ensures in
     let begins : Begins program c.args.arguments.now (row_of c.args.memory) k =
     subst (λ (xs : List ℤ). Begins program c.args.arguments.now xs k) c.in_ok-row.ensures (subst (λ (q : Program). Begins q c.args.arguments.now c.in_ok-row.row.items k) c.program-program.ensures.value c.in_ok-run.ensures.begins) in
     let moves : HasMoves program (length k.moves.items) =

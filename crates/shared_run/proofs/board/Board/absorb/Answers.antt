@@ -6,17 +6,17 @@ use Rattle.program.specs.declared.function.Program.{Program}
 use Rattle.schedule_core.specs.schedule_commit.Absorbing.{steps_in}
 use Rattle.frame.specs.declared.event.Event.TheVariants.{Step}
 use Rattle.schedule_core.specs.Strands.{FitsStage, IsMadeOf}
-use Rattle.shared_run.specs.Story.{place, story}
+use Rattle.shared_run.specs.Story.{Origin, origin, place, story}
 use Rattle.shared_run.proofs.Calls.{same_story, stays_same}
 use Rattle.shared_run.proofs.Commits.{legal_steps, room_for}
 use Rattle.shared_run.proofs.board.Board.absorb.Goals as goal
 
 pub absorb-requires : goal.absorb-requires
-absorb-requires g c = record { made = subst (λ (q : Program). IsMadeOf q c.args.strand.now) (sym (c.self.invariant.0.replays.program ∙ c.self.invariant.2)) c.requires.made }
+absorb-requires g c = record { made = subst (λ (q : Program). IsMadeOf q c.args.strand.now) (sym c.self.invariant.0.replays.program) c.requires.made }
 
 pub push_steps-requires-clause-count : goal.push_steps-requires-clause-count
 push_steps-requires-clause-count g c =
-    let o = c.self.inside.start in
+    let o : Origin = origin g.L.Bench.code g.L.Bench.arguments g.L.Bench.memory g.L.Bench.crew in
     let events = c.self.inside.history.events in
     let w = c.seat.inside.worker in
     let x = c.args.strand.now in
@@ -27,7 +27,7 @@ push_steps-requires-clause-count g c =
 
 pub invariant_of-self-in-Ok-true : goal.invariant_of-self-in-Ok-true
 invariant_of-self-in-Ok-true g c =
-    let o = c.self.inside.start in
+    let o : Origin = origin g.L.Bench.code g.L.Bench.arguments g.L.Bench.memory g.L.Bench.crew in
     let events = c.self.inside.history.events in
     let w = c.seat.inside.worker in
     let x = c.args.strand.now in
@@ -62,7 +62,7 @@ returns-in-Ok-true-clause-done g c =
 
 pub returns-in-Ok-false-clause-done : goal.returns-in-Ok-false-clause-done
 returns-in-Ok-false-clause-done g c =
-    let o = c.self.inside.start in
+    let o : Origin = origin g.L.Bench.code g.L.Bench.arguments g.L.Bench.memory g.L.Bench.crew in
     let events = c.self.inside.history.events in
     let stage = c.self.inside.machine.stage in
     rw (← c.self.view_is, ← c.seat.view_is) (
@@ -72,7 +72,7 @@ returns-in-Ok-false-clause-done g c =
 
 pub returns-in_err-reserve-clause-refused : goal.returns-in_err-reserve-clause-refused
 returns-in_err-reserve-clause-refused g c =
-    let o = c.self.inside.start in
+    let o : Origin = origin g.L.Bench.code g.L.Bench.arguments g.L.Bench.memory g.L.Bench.crew in
     let stage = c.self.inside.machine.stage in
     let events = c.self.inside.history.events in
     rw (← c.self.view_is)

@@ -2,14 +2,14 @@ use Rattle.std.proofs.Common.{◌≡◌, ◌+◌, refl, ap, ◌∙◌, ◌++◌,
 use Rattle.std.proofs.lemmas.List.{length-replicate}
 use Rattle.std.specs.Prelude.{Ok}
 use Rattle.frame.specs.declared.event.Event.TheVariants.{Step}
-use Rattle.shared_run.specs.Story.{story}
+use Rattle.shared_run.specs.Story.{Origin, origin, story}
 use Rattle.shared_run.proofs.Calls.{same_story, stays_same}
 use Rattle.shared_run.proofs.Commits.{legal_steps, room_for}
 use Rattle.shared_run.proofs.board.Board.publish.Goals as goal
 
 pub returns-in-Err : goal.returns-in-Err
 returns-in-Err g c =
-    let o = c.self.inside.start in
+    let o : Origin = origin g.L.Bench.code g.L.Bench.arguments g.L.Bench.memory g.L.Bench.crew in
     let stage = c.self.inside.machine.stage in
     let events = c.self.inside.history.events in
     rw (← c.self.view_is)
@@ -17,7 +17,7 @@ returns-in-Err g c =
 
 pub push_steps-requires-clause-count : goal.push_steps-requires-clause-count
 push_steps-requires-clause-count g c =
-    let o = c.self.inside.start in
+    let o : Origin = origin g.L.Bench.code g.L.Bench.arguments g.L.Bench.memory g.L.Bench.crew in
     let events = c.self.inside.history.events in
     let small = room_for o events c.self.inside.machine.stage c.self.invariant.0 c.absorb_deep.new.self.stage c.seat.inside.worker c.in-Some.pile.now.done (c.in-Ok-true.ensures.does (ap Ok c.in-Ok-true.field-0-test)) in
     let same = ap length c.reserve.ensures.events in
@@ -25,7 +25,7 @@ push_steps-requires-clause-count g c =
 
 pub invariant_of-self-in-Ok-true : goal.invariant_of-self-in-Ok-true
 invariant_of-self-in-Ok-true g c =
-    let o = c.self.inside.start in
+    let o : Origin = origin g.L.Bench.code g.L.Bench.arguments g.L.Bench.memory g.L.Bench.crew in
     let events = c.self.inside.history.events in
     let w = c.seat.inside.worker in
     let n = c.in-Some.pile.now.done in
@@ -40,7 +40,7 @@ invariant_of-self-in-Ok-true g c =
 
 pub returns-in-Err-absorb_deep : goal.returns-in-Err-absorb_deep
 returns-in-Err-absorb_deep g c =
-    let o = c.self.inside.start in
+    let o : Origin = origin g.L.Bench.code g.L.Bench.arguments g.L.Bench.memory g.L.Bench.crew in
     let stage = c.self.inside.machine.stage in
     let events = c.self.inside.history.events in
     rw (← c.self.view_is)
