@@ -180,20 +180,6 @@ impl<'a> Facts<'a> {
     }
 }
 
-/// That a register is at most a sum, and that it is at least the sum.
-pub fn equation<'a>(
-    alloc: Global,
-    name: &'a str,
-    value: &Sum<'a>,
-) -> Result<(Sum<'a>, Sum<'a>), AllocError> {
-    let mut most = value.copy()?;
-    most.add_term(name, -1)?;
-    let mut least = Sum::number(alloc, 0);
-    least.add_term(name, 1)?;
-    least.add(value, -1)?;
-    Ok((most, least))
-}
-
 /// Whether a function has many instructions.
 fn is_long(function: &Function) -> bool {
     let mut count = 0usize;
@@ -213,18 +199,5 @@ fn order_of(predicate: Predicate, holds: bool, is_turned: bool) -> Option<bool> 
         Predicate::SignedAtLeast if holds == is_turned => Some(!holds),
         Predicate::Equal if holds => Some(false),
         _ => None,
-    }
-}
-
-/// Whether an instruction makes its sum or product as it is, without a remainder by the width.
-pub fn is_exact(instruction: &Instruction) -> bool {
-    match instruction {
-        Instruction::Binary { operator, .. } => matches!(
-            operator,
-            BinaryOperator::AddNoWrap
-                | BinaryOperator::SubtractNoWrap
-                | BinaryOperator::MultiplyNoWrap
-        ),
-        _ => false,
     }
 }

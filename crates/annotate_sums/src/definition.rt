@@ -1,0 +1,89 @@
+//! What instructions and phis make of registers.
+
+use crate::edge::phi_value;
+use crate::sum::Sum;
+use lists::Name;
+use std::alloc::{AllocError, Global};
+use syntax::{BinaryOperator, Instruction, Operand, Phi};
+
+/// How often an operator's left and right operand stand in the sum that it makes, but for what its width cannot hold; none where it makes
+/// no sum.
+fn times_of(operator: BinaryOperator, right: &Operand) -> Option<(i128, i128)> {
+    match operator {
+        BinaryOperator::Add | BinaryOperator::AddNoWrap => Some((1, 1)),
+        BinaryOperator::Subtract | BinaryOperator::SubtractNoWrap => Some((1, -1)),
+        BinaryOperator::Multiply | BinaryOperator::MultiplyNoWrap => match right {
+            Operand::Number(number) => Some((i128::from(*number), 0)),
+            Operand::Register(_) => None,
+        },
+        _ => None,
+    }
+}
+
+/// The sum that an instruction makes; none where it makes no sum.
+pub fn definition_of<'a>(
+    alloc: Global,
+    instruction: &'a Instruction,
+) -> Result<Option<Sum<'a>>, AllocError> {
+    let Instruction::Binary {
+        operator,
+        left,
+        right,
+        ..
+    } = instruction
+    else {
+        return Ok(None);
+    };
+    let Some((of_left, of_right)) = times_of(*operator, right) else {
+        return Ok(None);
+    };
+    let mut sum = Sum::number(alloc, 0);
+    sum.add_operand(left, of_left)?;
+    sum.add_operand(right, of_right)?;
+    Ok(Some(sum))
+}
+
+/// Whether an instruction makes its sum or product as it is, without a remainder by the width.
+pub fn is_exact(instruction: &Instruction) -> bool {
+    match instruction {
+        Instruction::Binary { operator, .. } => matches!(
+            operator,
+            BinaryOperator::AddNoWrap
+                | BinaryOperator::SubtractNoWrap
+                | BinaryOperator::MultiplyNoWrap
+        ),
+        _ => false,
+    }
+}
+
+/// That a register is at most a sum, and that it is at least the sum.
+pub fn equation<'a>(
+    alloc: Global,
+    name: &'a str,
+    value: &Sum<'a>,
+) -> Result<(Sum<'a>, Sum<'a>), AllocError> {
+    let mut most = value.copy()?;
+    most.add_term(name, -1)?;
+    let mut least = Sum::number(alloc, 0);
+    least.add_term(name, 1)?;
+    least.add(value, -1)?;
+    Ok((most, least))
+}
+
+/// Adds the terms of a sum at a block's start, with what its phis take on an edge from a block of this label put in.
+pub fn move_terms<'a>(
+    moved: &mut Sum<'a>,
+    sum: &Sum<'a>,
+    label: &Name,
+    phis: &'a [Phi],
+) -> Result<(), AllocError> {
+    for (name, coefficient) in &sum.terms {
+        if *coefficient != 0 {
+            match phi_value(phis, name, label) {
+                Some(value) => moved.add_operand(value, *coefficient)?,
+                None => moved.add_term(name, *coefficient)?,
+            }
+        }
+    }
+    Ok(())
+}
