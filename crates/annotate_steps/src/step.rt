@@ -1,13 +1,10 @@
 //! Lines within blocks, with which facts show what is asked at an instruction or along an edge: lines to be tried.
 
 use crate::cells::Cells;
-use crate::edge::{Way, block_at, register_of};
-use crate::fact::{equation, is_exact};
 use crate::goal::{Scope, ends_of};
-use crate::keep::Known;
-use crate::left::definition_of;
-use crate::search::lines_between;
-use crate::sum::Sum;
+use annotate_sums::{
+    Edge, Sum, Way, block_at, definition_of, equation, is_exact, lines_between, register_of,
+};
 use std::alloc::AllocError;
 use syntax::{
     BinaryOperator, Block, Conversion, Ending, Inequality, Instruction, Operand, Step, Terminator,
@@ -18,6 +15,26 @@ use syntax::{
 const MOST_FACTS: usize = 1_024;
 
 const MOST_LINES: usize = 32;
+
+/// The edges of a function, and what being taken says of each.
+#[derive(Clone, Copy)]
+pub struct Ways<'w, 'a> {
+    pub edges: &'w [Edge<'a>],
+    /// The facts of the function.
+    pub facts: &'w [Sum<'a>],
+    /// For each edge the numbers of the facts that hold along it.
+    pub added: &'w [Vec<usize>],
+}
+
+impl<'w> Ways<'w, '_> {
+    /// The numbers of the facts that hold along the edge of this number.
+    fn facts_on(self, edge: usize) -> &'w [usize] {
+        match self.added.get(edge) {
+            Some(numbers) => numbers.as_slice(),
+            None => &[],
+        }
+    }
+}
 
 /// What is known in a block as far as one has come.
 #[derive(Drop)]
@@ -348,15 +365,15 @@ impl<'a> Walk<'a> {
     /// Tells how the facts show a sum along an edge, with what being taken says of it, or without.
     fn reach_along(
         &mut self,
-        known: &Known<'a>,
+        ways: Ways<'_, 'a>,
         edge: usize,
         goal: &Sum<'a>,
     ) -> Result<(), AllocError> {
         if self.reach(goal, false)? {
             return Ok(());
         }
-        for number in known.facts_on(edge) {
-            if let Some(fact) = known.facts.sums.get(*number) {
+        for number in ways.facts_on(edge) {
+            if let Some(fact) = ways.facts.get(*number) {
                 let rest = goal.with(fact, -1)?;
                 if self.reach(&rest, true)? {
                     return Ok(());
@@ -368,21 +385,21 @@ impl<'a> Walk<'a> {
 
     fn reach_edge(
         &mut self,
-        known: &Known<'a>,
+        ways: Ways<'_, 'a>,
         edge: usize,
         to: &'a Block,
     ) -> Result<(), AllocError> {
         for goal in self.scope.goals_along(self.block, to)? {
-            self.reach_along(known, edge, &goal)?;
+            self.reach_along(ways, edge, &goal)?;
         }
         Ok(())
     }
 
-    fn reach_edges(&mut self, known: &Known<'a>) -> Result<(), AllocError> {
-        for (number, edge) in known.edges.iter().enumerate() {
+    fn reach_edges(&mut self, ways: Ways<'_, 'a>) -> Result<(), AllocError> {
+        for (number, edge) in ways.edges.iter().enumerate() {
             if edge.from == self.place {
                 if let Some(to) = block_at(self.scope.function, edge.to) {
-                    self.reach_edge(known, number, to)?;
+                    self.reach_edge(ways, number, to)?;
                     if matches!(edge.way, Way::Detached) {
                         self.reach_foot(to)?;
                     }
@@ -393,13 +410,13 @@ impl<'a> Walk<'a> {
     }
 
     /// Goes over the end of the block; the lines that may stand before it.
-    pub fn end(&mut self, known: &Known<'a>, ending: &'a Ending) -> Result<String, AllocError> {
+    pub fn end(&mut self, ways: Ways<'_, 'a>, ending: &'a Ending) -> Result<String, AllocError> {
         self.begin(ending.shows.as_slice())?;
         if let Terminator::Return { value: Some(value) } = &ending.terminator {
             let goals = self.scope.goals_at_return(value)?;
             self.reach_all(goals)?;
         }
-        self.reach_edges(known)?;
+        self.reach_edges(ways)?;
         self.spell_told()
     }
 }

@@ -1,9 +1,8 @@
 //! What is known wherever a block begins, because all ways to it bring it along.
 
-use crate::edge::{Edge, defines, edges_of};
 use crate::fact::Facts;
 use crate::guess::{Place, dominators_of};
-use crate::sum::Sum;
+use annotate_sums::{Edge, Sum, defines, edges_of};
 use std::alloc::{AllocError, Global};
 use syntax::{Block, Function};
 

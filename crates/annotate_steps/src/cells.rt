@@ -1,8 +1,7 @@
 //! The cells that instructions touch, and the zones that may cover them.
 
-use crate::edge::{Edge, Way, block_at};
 use crate::goal::{Call, Scope};
-use crate::sum::Sum;
+use annotate_sums::{Edge, Sum, Way, block_at};
 use lists::Name;
 use std::alloc::{AllocError, Global};
 use syntax::{Address, Argument, Function, Instruction, Mode, Parameter, Step, Zone};

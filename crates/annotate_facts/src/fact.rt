@@ -1,11 +1,11 @@
 //! What inequalities, and the conditions of branches, say.
 
-use crate::edge::{Edge, Way, block_at, is_used_beside, register_of};
-use crate::left::definition_of;
-use crate::sum::Sum;
+use annotate_sums::{
+    Edge, Sum, Way, block_at, definition_of, equation, is_exact, is_used_beside, register_of,
+};
 use std::alloc::{AllocError, Global};
 use std::mem::replace;
-use syntax::{BinaryOperator, Function, Inequality, Instruction, Operand, Predicate, Step};
+use syntax::{Function, Inequality, Instruction, Operand, Predicate, Step};
 
 /// The most facts of a function that are kept, and the most instructions of one whose sums are facts.
 const MOST_FACTS: usize = 512;

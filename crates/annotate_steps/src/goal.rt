@@ -1,8 +1,6 @@
 //! What a text asks of numbers before its instructions and along its edges.
 
-use crate::edge::block_at;
-use crate::left::{definition_of, move_terms};
-use crate::sum::Sum;
+use annotate_sums::{Sum, block_at, definition_of, move_terms};
 use lists::Name;
 use std::alloc::{AllocError, Global};
 use syntax::{
