@@ -1,7 +1,7 @@
 //! What inequalities, and the conditions of branches, say.
 
 use annotate_sums::{
-    Edge, Sum, Way, block_at, definition_of, equation, is_exact, is_used_beside, register_of,
+    Edge, Equation, Sum, Way, block_at, definition_of, is_exact, is_used_beside, register_of,
 };
 use std::alloc::{AllocError, Global};
 use std::mem::replace;
@@ -60,6 +60,14 @@ impl<'a> Facts<'a> {
         Ok(())
     }
 
+    /// States that these sums are at least 0.
+    pub fn add_all(&mut self, sums: Vec<Sum<'a>>) -> Result<(), AllocError> {
+        for sum in sums {
+            self.add(sum)?;
+        }
+        Ok(())
+    }
+
     /// States what these inequalities say.
     pub fn state(&mut self, inequalities: &'a [Inequality]) -> Result<(), AllocError> {
         for inequality in inequalities {
@@ -76,9 +84,9 @@ impl<'a> Facts<'a> {
         high: &'a Operand,
         is_strict: bool,
     ) -> Result<(), AllocError> {
-        let mut sum = Sum::number(self.alloc, if is_strict { -1 } else { 0 });
-        sum.add_operand(high, 1)?;
+        let mut sum = Sum::of_operand(self.alloc, high, 1)?;
         sum.add_operand(low, -1)?;
+        sum.add_number(if is_strict { -1 } else { 0 });
         self.add(sum)
     }
 
@@ -125,9 +133,9 @@ impl<'a> Facts<'a> {
 
     /// States that a register is this sum.
     fn equate(&mut self, name: &'a str, value: &Sum<'a>) -> Result<(), AllocError> {
-        let (most, least) = equation(self.alloc, name, value)?;
-        self.add(most)?;
-        self.add(least)
+        let equation = Equation::of(self.alloc, name, value)?;
+        self.add(equation.most)?;
+        self.add(equation.least)
     }
 
     /// States what an instruction says of a register that blocks beside its own take.

@@ -1,13 +1,11 @@
 //! What a block needs, from its own instructions and from what is left behind it.
 
-use crate::budget::greatest;
-use crate::edge::{Edge, Way, block_at, phi_value, register_of};
-use crate::keep::{Known, MOST_BLOCKS};
 use crate::ring::{Ring, names_inner, ring_of};
-use crate::sum::Sum;
+use annotate_facts::{Known, MOST_BLOCKS};
+use annotate_sums::{Edge, Sum, Way, block_at, definition_of, greatest, moved, register_of};
 use lists::Name;
 use std::alloc::{AllocError, Global};
-use syntax::{BinaryOperator, Block, Instruction, Operand, Phi, Step};
+use syntax::{Block, Instruction, Phi, Step};
 
 /// Self calls and instructions.
 #[derive(Drop)]
@@ -98,24 +96,22 @@ fn put_in<'a>(
     }
 }
 
-/// Adds to nothing a sum at a block's start, as it is at the start of another from which an edge leads there: what that block's
-/// instructions define is replaced by what it is made of. Whether it is still a sum.
-fn add_along<'a>(
+/// A sum at a block's start, as it is at the start of another from which an edge leads there: what that block's instructions define is replaced by what it
+/// is made of. None where it is no sum.
+fn sum_along<'a>(
     alloc: Global,
-    moved: &mut Sum<'a>,
     sum: &Sum<'a>,
     from: &'a Block,
     phis: &'a [Phi],
-) -> Result<bool, AllocError> {
-    moved.add_number(sum.constant);
-    move_terms(moved, sum, &from.label, phis)?;
+) -> Result<Option<Sum<'a>>, AllocError> {
+    let mut sum = moved(alloc, sum, &from.label, phis)?;
     let steps = from.steps.as_slice();
     for index in (0..steps.len()).rev() {
-        if !put_in(alloc, moved, &steps[index].instruction)? {
-            return Ok(false);
+        if !put_in(alloc, &mut sum, &steps[index].instruction)? {
+            return Ok(None);
         }
     }
-    Ok(true)
+    Ok(Some(sum))
 }
 
 /// What a block needs that has these phis, at the start of another from which an edge leads there.
@@ -125,16 +121,16 @@ fn need_along<'a>(
     from: &'a Block,
     phis: &'a [Phi],
 ) -> Result<Option<Need<'a>>, AllocError> {
-    let mut need = Need::none(alloc);
-    let is_known = add_along(alloc, &mut need.calls, &left.calls, from, phis)?
-        && add_along(
-            alloc,
-            &mut need.instructions,
-            &left.instructions,
-            from,
-            phis,
-        )?;
-    Ok(if is_known { Some(need) } else { None })
+    let Some(calls) = sum_along(alloc, &left.calls, from, phis)? else {
+        return Ok(None);
+    };
+    match sum_along(alloc, &left.instructions, from, phis)? {
+        Some(instructions) => Ok(Some(Need {
+            calls,
+            instructions,
+        })),
+        None => Ok(None),
+    }
 }
 
 impl<'a> Finder<'_, 'a> {
@@ -393,10 +389,10 @@ fn given<'a>(alloc: Global, block: &'a Block) -> Result<Option<Need<'a>>, AllocE
     if left.line == block.line {
         return Ok(None);
     }
-    let mut need = Need::none(alloc);
-    need.calls.add_form(&left.self_calls, 1)?;
-    need.instructions.add_form(&left.instructions, 1)?;
-    Ok(Some(need))
+    Ok(Some(Need {
+        calls: Sum::of_form(alloc, &left.self_calls)?,
+        instructions: Sum::of_form(alloc, &left.instructions)?,
+    }))
 }
 
 /// The same, where the rounds of loops are counted.

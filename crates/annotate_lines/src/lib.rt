@@ -6,19 +6,10 @@
 #![tactic(auto)]
 
 mod budget;
-mod cells;
-mod edge;
-mod fact;
-mod goal;
-mod guess;
 mod hull;
-mod keep;
 mod left;
 mod pending;
 mod proposal;
 mod ring;
-mod search;
-mod step;
-mod sum;
 
 pub use proposal::{Kind, proposed};

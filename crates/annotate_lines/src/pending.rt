@@ -1,11 +1,9 @@
 //! The zones that children may still touch where a block begins, because they are handed on to it.
 
-use crate::cells::is_same_object;
-use crate::edge::{Edge, Way, block_at, edges_of};
-use crate::guess::{Place, dominators_of};
 use crate::hull::Hull;
-use crate::keep::names_own;
-use crate::sum::Sum;
+use annotate_facts::{Place, dominators_of, names_own};
+use annotate_steps::is_same_object;
+use annotate_sums::{Edge, Sum, Way, block_at, edges_of};
 use std::alloc::{AllocError, Global};
 use syntax::{Block, Form, Function, Pending, Zone};
 

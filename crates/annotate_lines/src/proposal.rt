@@ -1,14 +1,12 @@
 //! The lines that are put in.
 
 use crate::budget::{Total, cost_of, given, total_of};
-use crate::cells::firsts_of;
-use crate::goal::Scope;
 use crate::hull::hulls_of;
-use crate::keep::{Known, known_of};
 use crate::left::{Need, needs_of};
 use crate::pending::{Handed, waiting_of};
-use crate::step::Walk;
-use crate::sum::Sum;
+use annotate_facts::{Known, known_of};
+use annotate_steps::{Scope, Walk, Ways, firsts_of};
+use annotate_sums::Sum;
 use ir_annotation::push_zone;
 use ir_reader::read;
 use refusal::Refused;
@@ -224,7 +222,12 @@ impl<'a> Draft<'a> {
             self.propose(step.line.saturating_sub(1), lines)?;
         }
         if let Some(ending) = &block.ending {
-            let lines = walk.end(known, ending)?;
+            let ways = Ways {
+                edges: known.edges.as_slice(),
+                facts: known.facts.sums.as_slice(),
+                added: known.added.as_slice(),
+            };
+            let lines = walk.end(ways, ending)?;
             self.propose(ending.line.saturating_sub(1), lines)?;
         }
         self.effort = walk.effort;

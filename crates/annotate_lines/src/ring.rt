@@ -1,10 +1,7 @@
 //! Loops that a counter leads round: what falls each time, and what a round needs.
 
-use crate::budget::greatest_apart;
-use crate::edge::{Edge, block_at, definition_in, phi_value};
-use crate::keep::{Known, names_own};
-use crate::left::definition_of;
-use crate::sum::Sum;
+use annotate_facts::{Known, names_own};
+use annotate_sums::{Edge, Sum, block_at, definition_in, definition_of, greatest_apart, phi_value};
 use std::alloc::AllocError;
 use syntax::{Block, Operand};
 
@@ -101,8 +98,7 @@ fn least_of<'a>(
     block: usize,
     sum: &Sum<'a>,
 ) -> Result<Option<i128>, AllocError> {
-    let mut opposite = Sum::number(known.alloc, 0);
-    opposite.add(sum, -1)?;
+    let opposite = sum.times(-1)?;
     let facts = known.facts_at(block)?;
     Ok(match greatest_apart(facts.as_slice(), &opposite) {
         Some(most) => Some(0i128.saturating_sub(most)),
@@ -155,9 +151,7 @@ fn at_head<'a>(known: &Known<'a>, edge: Edge<'a>, fact: &Sum<'a>) -> Result<Sum<
     for phi in head.phis.as_slice() {
         let name = phi.register.as_str();
         if let Some(Operand::Register(next)) = phi_value(head.phis.as_slice(), name, &from.label) {
-            let mut own = Sum::number(known.alloc, 0);
-            own.add_term(name, 1)?;
-            rank.put(next.as_str(), &own)?;
+            rank = rank.renamed(next.as_str(), name)?;
         }
     }
     Ok(rank)

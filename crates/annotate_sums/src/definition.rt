@@ -37,8 +37,7 @@ pub fn definition_of<'a>(
     let Some((of_left, of_right)) = times_of(*operator, right) else {
         return Ok(None);
     };
-    let mut sum = Sum::number(alloc, 0);
-    sum.add_operand(left, of_left)?;
+    let mut sum = Sum::of_operand(alloc, left, of_left)?;
     sum.add_operand(right, of_right)?;
     Ok(Some(sum))
 }
@@ -57,26 +56,31 @@ pub fn is_exact(instruction: &Instruction) -> bool {
 }
 
 /// That a register is at most a sum, and that it is at least the sum.
-pub fn equation<'a>(
-    alloc: Global,
-    name: &'a str,
-    value: &Sum<'a>,
-) -> Result<(Sum<'a>, Sum<'a>), AllocError> {
-    let mut most = value.copy()?;
-    most.add_term(name, -1)?;
-    let mut least = Sum::number(alloc, 0);
-    least.add_term(name, 1)?;
-    least.add(value, -1)?;
-    Ok((most, least))
+#[derive(Drop)]
+pub struct Equation<'a> {
+    pub most: Sum<'a>,
+    pub least: Sum<'a>,
 }
 
-/// Adds the terms of a sum at a block's start, with what its phis take on an edge from a block of this label put in.
-pub fn move_terms<'a>(
-    moved: &mut Sum<'a>,
+impl<'a> Equation<'a> {
+    /// That a register is this sum.
+    pub fn of(alloc: Global, name: &'a str, value: &Sum<'a>) -> Result<Equation<'a>, AllocError> {
+        let own = Sum::of_register(alloc, name, 1)?;
+        Ok(Equation {
+            most: value.with(&own, -1)?,
+            least: own.with(value, -1)?,
+        })
+    }
+}
+
+/// A sum at a block's start, with what its phis take on an edge from a block of this label put in.
+pub fn moved<'a>(
+    alloc: Global,
     sum: &Sum<'a>,
     label: &Name,
     phis: &'a [Phi],
-) -> Result<(), AllocError> {
+) -> Result<Sum<'a>, AllocError> {
+    let mut moved = Sum::number(alloc, sum.constant);
     for (name, coefficient) in &sum.terms {
         if *coefficient != 0 {
             match phi_value(phis, name, label) {
@@ -85,5 +89,5 @@ pub fn move_terms<'a>(
             }
         }
     }
-    Ok(())
+    Ok(moved)
 }

@@ -9,7 +9,7 @@ mod search;
 mod sum;
 
 pub use bound::{greatest, greatest_apart};
-pub use definition::{definition_of, equation, is_exact, move_terms};
+pub use definition::{Equation, definition_of, is_exact, moved};
 pub use edge::{
     Edge, Way, block_at, defines, definition_in, edges_of, is_used_beside, phi_value, register_of,
 };
