@@ -10,7 +10,6 @@ use syntax::{Block, Function};
 pub const MOST_BLOCKS: usize = 256;
 
 /// The facts of a function, and which of them hold where.
-#[derive(Drop)]
 pub struct Known<'a> {
     pub alloc: Global,
     pub function: &'a Function,
@@ -28,6 +27,24 @@ pub struct Known<'a> {
     made: Vec<Vec<usize>>,
     /// For each block whether each fact is brought along to it; no fact that is not is marked.
     marks: Vec<Vec<bool>>,
+}
+
+/// Written out, so that no crate above proves it anew.
+impl Drop for Known<'_> {
+    fn drop(self) {
+        let Known {
+            alloc: _,
+            function: _,
+            edges: _,
+            into: _,
+            facts: _,
+            given: _,
+            guessed: _,
+            added: _,
+            made: _,
+            marks: _,
+        } = self;
+    }
 }
 
 /// A row of numbers; one that is not there has none.

@@ -8,10 +8,19 @@ use std::alloc::{AllocError, Global};
 use syntax::{Block, Instruction, Phi, Step};
 
 /// Self calls and instructions.
-#[derive(Drop)]
 pub struct Need<'a> {
     pub calls: Sum<'a>,
     pub instructions: Sum<'a>,
+}
+
+/// Written out, so that each path that lets go of a need is short.
+impl Drop for Need<'_> {
+    fn drop(self) {
+        let Need {
+            calls: _,
+            instructions: _,
+        } = self;
+    }
 }
 
 /// The needs of a function's blocks, while they are found.

@@ -88,7 +88,6 @@ fn goes_on(way: Way<'_>, region: &str) -> bool {
 }
 
 /// What is handed on to each block beside what it says itself.
-#[derive(Drop)]
 pub struct Waiting<'a> {
     alloc: Global,
     function: &'a Function,
@@ -96,6 +95,19 @@ pub struct Waiting<'a> {
     /// For each block one that is on all ways to it.
     above: Vec<usize>,
     pub handed: Vec<Vec<Handed<'a>>>,
+}
+
+/// Written out, so that each path that lets go of it is short.
+impl Drop for Waiting<'_> {
+    fn drop(self) {
+        let Waiting {
+            alloc: _,
+            function: _,
+            edges: _,
+            above: _,
+            handed: _,
+        } = self;
+    }
 }
 
 impl<'a> Waiting<'a> {

@@ -12,7 +12,7 @@ use ir_reader::read;
 use refusal::Refused;
 use std::alloc::{AllocError, Global};
 use std::hash::RandomState;
-use syntax::{Block, Function, Module};
+use syntax::{Block, Ending, Function, Module, Step};
 
 /// The lines of one word that may stand at one place.
 const MOST_LINES: usize = 32;
@@ -191,19 +191,54 @@ impl<'a> Draft<'a> {
         Ok(())
     }
 
-    /// Proposes what follows of facts at the heads of the blocks; what an entry knows stands at the function's head already.
+    /// Proposes what follows of facts at the head of a block.
+    fn propose_keeps(
+        &mut self,
+        known: &Known<'a>,
+        index: usize,
+        block: &Block,
+    ) -> Result<(), AllocError> {
+        let mut lines = String::new(self.alloc);
+        push_keeps(&mut lines, known, index, block)?;
+        self.propose(block.line, lines)
+    }
+
+    /// The same of all blocks; what an entry knows stands at the function's head already.
     fn add_facts(&mut self, function: &'a Function) -> Result<(), AllocError> {
         let known = known_of(self.alloc, function, self.kind == Kind::Guesses)?;
         let blocks = function.blocks.as_slice();
         for index in 1..blocks.len() {
-            let mut lines = String::new(self.alloc);
-            push_keeps(&mut lines, &known, index, &blocks[index])?;
-            self.propose(blocks[index].line, lines)?;
+            self.propose_keeps(&known, index, &blocks[index])?;
         }
         Ok(())
     }
 
-    /// Proposes how the facts show what the steps of a block ask, and its end.
+    /// Proposes how facts show what the steps of a block ask.
+    fn propose_steps(&mut self, walk: &mut Walk<'a>, steps: &'a [Step]) -> Result<(), AllocError> {
+        for step in steps {
+            let lines = walk.pass(step)?;
+            self.propose(step.line.saturating_sub(1), lines)?;
+        }
+        Ok(())
+    }
+
+    /// The same of its end.
+    fn propose_end(
+        &mut self,
+        walk: &mut Walk<'a>,
+        known: &Known<'a>,
+        ending: &'a Ending,
+    ) -> Result<(), AllocError> {
+        let ways = Ways {
+            edges: known.edges.as_slice(),
+            facts: known.facts.sums.as_slice(),
+            added: known.added.as_slice(),
+        };
+        let lines = walk.end(ways, ending)?;
+        self.propose(ending.line.saturating_sub(1), lines)
+    }
+
+    /// The same of a whole block.
     fn add_steps_of(
         &mut self,
         known: &Known<'a>,
@@ -217,18 +252,9 @@ impl<'a> Draft<'a> {
             function: known.function,
         };
         let mut walk = Walk::new(scope, index, block, first, self.effort)?;
-        for step in block.steps.as_slice() {
-            let lines = walk.pass(step)?;
-            self.propose(step.line.saturating_sub(1), lines)?;
-        }
+        self.propose_steps(&mut walk, block.steps.as_slice())?;
         if let Some(ending) = &block.ending {
-            let ways = Ways {
-                edges: known.edges.as_slice(),
-                facts: known.facts.sums.as_slice(),
-                added: known.added.as_slice(),
-            };
-            let lines = walk.end(ways, ending)?;
-            self.propose(ending.line.saturating_sub(1), lines)?;
+            self.propose_end(&mut walk, known, ending)?;
         }
         self.effort = walk.effort;
         Ok(())
@@ -246,18 +272,20 @@ impl<'a> Draft<'a> {
         Ok(())
     }
 
-    /// Proposes what is handed on to the heads of the blocks.
+    /// Proposes what is handed on to the head of a block.
+    fn propose_pending(&mut self, block: &Block, handed: &[Handed<'_>]) -> Result<(), AllocError> {
+        let mut lines = String::new(self.alloc);
+        push_pending(&mut lines, handed, block)?;
+        self.propose(end_of_keeps(block), lines)
+    }
+
+    /// The same of all blocks.
     fn add_zones(&mut self, function: &'a Function) -> Result<(), AllocError> {
         let hulls = hulls_of(self.alloc, function)?;
         let waiting = waiting_of(self.alloc, function, hulls.as_slice())?;
         let blocks = function.blocks.as_slice();
-        for index in 0..blocks.len() {
-            if index < waiting.handed.len() {
-                let mut lines = String::new(self.alloc);
-                let handed = waiting.handed[index].as_slice();
-                push_pending(&mut lines, handed, &blocks[index])?;
-                self.propose(end_of_keeps(&blocks[index]), lines)?;
-            }
+        for (block, handed) in blocks.iter().zip(&waiting.handed) {
+            self.propose_pending(block, handed.as_slice())?;
         }
         Ok(())
     }
@@ -282,23 +310,35 @@ impl<'a> Draft<'a> {
         self.propose(end_of_pending(block), lines)
     }
 
-    /// Proposes what is left at the heads of the blocks, and the budget.
-    fn add_costs(&mut self, function: &'a Function) -> Result<(), AllocError> {
-        let known = known_of(self.alloc, function, false)?;
-        let needs = needs_of(&known, self.costs.as_slice())?;
-        if let [entry, ..] = needs.as_slice() {
-            self.add_budget(function, entry)?;
-        }
-        let blocks = function.blocks.as_slice();
-        for index in 0..blocks.len() {
-            let block = &blocks[index];
-            match given(function) {
-                Some(total) if index == 0 => self.propose_whole(block, total)?,
-                _ if index < needs.len() => self.propose_left(block, &needs[index])?,
+    /// The same of all blocks; of the entry the budget, where the function has one.
+    fn propose_lefts(
+        &mut self,
+        function: &Function,
+        needs: &[Option<Need<'a>>],
+    ) -> Result<(), AllocError> {
+        for (index, block) in function.blocks.as_slice().iter().enumerate() {
+            match (given(function), needs.get(index)) {
+                (Some(total), _) if index == 0 => self.propose_whole(block, total)?,
+                (_, Some(need)) => self.propose_left(block, need)?,
                 _ => {}
             }
         }
         Ok(())
+    }
+
+    /// What the blocks of a function need, by what calls of those before it cost.
+    fn needs(&self, function: &'a Function) -> Result<Vec<Option<Need<'a>>>, AllocError> {
+        let known = known_of(self.alloc, function, false)?;
+        needs_of(&known, self.costs.as_slice())
+    }
+
+    /// Proposes what is left at the heads of the blocks, and the budget.
+    fn add_costs(&mut self, function: &'a Function) -> Result<(), AllocError> {
+        let needs = self.needs(function)?;
+        if let [entry, ..] = needs.as_slice() {
+            self.add_budget(function, entry)?;
+        }
+        self.propose_lefts(function, needs.as_slice())
     }
 
     fn add_functions(&mut self, functions: &'a [Function]) -> Result<(), AllocError> {

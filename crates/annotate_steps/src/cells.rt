@@ -10,12 +10,23 @@ use syntax::{Address, Argument, Function, Instruction, Mode, Operand, Parameter,
 const MOST_ROUNDS: usize = 16;
 
 /// Cells of an object, and how they are touched.
-#[derive(Drop)]
 pub struct Cells<'a> {
     mode: Mode,
     object: &'a Address,
     pub low: Sum<'a>,
     pub high: Sum<'a>,
+}
+
+/// Written out, so that each path that lets go of cells is short.
+impl Drop for Cells<'_> {
+    fn drop(self) {
+        let Cells {
+            mode: _,
+            object: _,
+            low: _,
+            high: _,
+        } = self;
+    }
 }
 
 /// Whether both are one global or one register.

@@ -37,7 +37,6 @@ impl<'w> Ways<'w, '_> {
 }
 
 /// What is known in a block as far as one has come.
-#[derive(Drop)]
 pub struct Walk<'a> {
     scope: Scope<'a>,
     place: usize,
@@ -52,6 +51,23 @@ pub struct Walk<'a> {
     /// What is told before an instruction, beside so many lines of the text.
     told: Vec<Sum<'a>>,
     stated: usize,
+}
+
+/// Written out, so that no crate above proves it anew.
+impl Drop for Walk<'_> {
+    fn drop(self) {
+        let Walk {
+            scope: _,
+            place: _,
+            block: _,
+            is_function: _,
+            facts: _,
+            effort: _,
+            covering: _,
+            told: _,
+            stated: _,
+        } = self;
+    }
 }
 
 impl<'a> Walk<'a> {
