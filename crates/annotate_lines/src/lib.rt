@@ -5,11 +5,8 @@
 //! left at its entry. It proposes and judges nothing: whether the lines are right is for the verifier to say.
 #![tactic(auto)]
 
-mod budget;
 mod hull;
-mod left;
 mod pending;
 mod proposal;
-mod ring;
 
 pub use proposal::{Kind, proposed};

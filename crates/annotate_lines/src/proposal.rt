@@ -1,9 +1,8 @@
 //! The lines that are put in.
 
-use crate::budget::{Total, cost_of, given, total_of};
 use crate::hull::hulls_of;
-use crate::left::{Need, needs_of};
 use crate::pending::{Handed, waiting_of};
+use annotate_costs::{Need, Total, needs_of};
 use annotate_facts::{Known, known_of};
 use annotate_steps::{Scope, Walk, Ways, firsts_of};
 use annotate_sums::Sum;
@@ -167,7 +166,7 @@ impl<'a> Draft<'a> {
     ) -> Result<Option<Total>, AllocError> {
         let mut facts = Vec::new(self.alloc);
         push_requirements(&mut facts, self.alloc, function)?;
-        let total = total_of(facts.as_slice(), entry)?;
+        let total = Total::of_need(facts.as_slice(), entry)?;
         if let Some(new) = total {
             self.propose_total(function.line, new)?;
         }
@@ -180,12 +179,12 @@ impl<'a> Draft<'a> {
         function: &'a Function,
         entry: &Option<Need<'a>>,
     ) -> Result<(), AllocError> {
-        let total = match (given(function), entry) {
+        let total = match (Total::given(function), entry) {
             (None, Some(entry)) => self.propose_budget(function, entry)?,
             (total, _) => total,
         };
         if let Some(total) = total {
-            let cost = cost_of(total, function.notes.measure.bound);
+            let cost = total.cost(function.notes.measure.bound);
             self.costs.push((function.name.as_str(), cost))?;
         }
         Ok(())
@@ -317,7 +316,7 @@ impl<'a> Draft<'a> {
         needs: &[Option<Need<'a>>],
     ) -> Result<(), AllocError> {
         for (index, block) in function.blocks.as_slice().iter().enumerate() {
-            match (given(function), needs.get(index)) {
+            match (Total::given(function), needs.get(index)) {
                 (Some(total), _) if index == 0 => self.propose_whole(block, total)?,
                 (_, Some(need)) => self.propose_left(block, need)?,
                 _ => {}

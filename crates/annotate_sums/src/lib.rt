@@ -11,7 +11,8 @@ mod sum;
 pub use bound::{greatest, greatest_apart};
 pub use definition::{Equation, definition_of, is_exact, moved};
 pub use edge::{
-    Edge, Way, block_at, defines, definition_in, edges_of, is_used_beside, phi_value, register_of,
+    Edge, Way, block_at, defines, definition_in, edges_of, is_used_beside, last_of, phi_value,
+    register_of,
 };
 pub use search::lines_between;
 pub use sum::Sum;

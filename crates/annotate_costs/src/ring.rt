@@ -1,7 +1,9 @@
 //! Loops that a counter leads round: what falls each time, and what a round needs.
 
 use annotate_facts::{Known, names_own};
-use annotate_sums::{Edge, Sum, block_at, definition_in, definition_of, greatest_apart, phi_value};
+use annotate_sums::{
+    Edge, Sum, block_at, definition_in, definition_of, greatest_apart, last_of, phi_value,
+};
 use std::alloc::AllocError;
 use syntax::{Block, Function, Operand};
 
@@ -33,17 +35,6 @@ impl<'a> Ring<'a> {
         sum.add_number(0i128.saturating_sub(times.saturating_mul(self.least)));
         Ok(())
     }
-}
-
-/// The last block from which an edge leads back to this one.
-pub fn last_of(edges: &[Edge<'_>], head: usize) -> Option<usize> {
-    let mut last = None;
-    for edge in edges {
-        if edge.to == head && edge.from >= head {
-            last = Some(edge.from);
-        }
-    }
-    last
 }
 
 /// Whether a sum names a register that a block of the loop defines, but for its head's phis.
