@@ -5,20 +5,8 @@
 //! left at its entry. It proposes and judges nothing: whether the lines are right is for the verifier to say.
 #![tactic(auto)]
 
-mod budget;
-mod cells;
-mod edge;
-mod fact;
-mod goal;
-mod guess;
 mod hull;
-mod keep;
-mod left;
 mod pending;
 mod proposal;
-mod ring;
-mod search;
-mod step;
-mod sum;
 
 pub use proposal::{Kind, proposed};

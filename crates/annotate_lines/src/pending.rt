@@ -1,11 +1,9 @@
 //! The zones that children may still touch where a block begins, because they are handed on to it.
 
-use crate::cells::is_same_object;
-use crate::edge::{Edge, Way, block_at, edges_of};
-use crate::guess::{Place, dominators_of};
 use crate::hull::Hull;
-use crate::keep::names_own;
-use crate::sum::Sum;
+use annotate_facts::{Place, dominators_of, names_own};
+use annotate_steps::is_same_object;
+use annotate_sums::{Edge, Sum, Way, block_at, edges_of};
 use std::alloc::{AllocError, Global};
 use syntax::{Block, Form, Function, Pending, Zone};
 
@@ -90,7 +88,6 @@ fn goes_on(way: Way<'_>, region: &str) -> bool {
 }
 
 /// What is handed on to each block beside what it says itself.
-#[derive(Drop)]
 pub struct Waiting<'a> {
     alloc: Global,
     function: &'a Function,
@@ -98,6 +95,19 @@ pub struct Waiting<'a> {
     /// For each block one that is on all ways to it.
     above: Vec<usize>,
     pub handed: Vec<Vec<Handed<'a>>>,
+}
+
+/// Written out, so that each path that lets go of it is short.
+impl Drop for Waiting<'_> {
+    fn drop(self) {
+        let Waiting {
+            alloc: _,
+            function: _,
+            edges: _,
+            above: _,
+            handed: _,
+        } = self;
+    }
 }
 
 impl<'a> Waiting<'a> {

@@ -1,20 +1,17 @@
 //! The lines that are put in.
 
-use crate::budget::{Total, cost_of, given, total_of};
-use crate::cells::firsts_of;
-use crate::goal::Scope;
 use crate::hull::hulls_of;
-use crate::keep::{Known, known_of};
-use crate::left::{Need, needs_of};
 use crate::pending::{Handed, waiting_of};
-use crate::step::Walk;
-use crate::sum::Sum;
+use annotate_costs::{Need, Total, needs_of};
+use annotate_facts::{Known, known_of};
+use annotate_steps::{Scope, Walk, Ways, firsts_of};
+use annotate_sums::Sum;
 use ir_annotation::push_zone;
 use ir_reader::read;
 use refusal::Refused;
 use std::alloc::{AllocError, Global};
 use std::hash::RandomState;
-use syntax::{Block, Function, Module};
+use syntax::{Block, Ending, Function, Module, Step};
 
 /// The lines of one word that may stand at one place.
 const MOST_LINES: usize = 32;
@@ -169,7 +166,7 @@ impl<'a> Draft<'a> {
     ) -> Result<Option<Total>, AllocError> {
         let mut facts = Vec::new(self.alloc);
         push_requirements(&mut facts, self.alloc, function)?;
-        let total = total_of(facts.as_slice(), entry)?;
+        let total = Total::of_need(facts.as_slice(), entry)?;
         if let Some(new) = total {
             self.propose_total(function.line, new)?;
         }
@@ -182,30 +179,65 @@ impl<'a> Draft<'a> {
         function: &'a Function,
         entry: &Option<Need<'a>>,
     ) -> Result<(), AllocError> {
-        let total = match (given(function), entry) {
+        let total = match (Total::given(function), entry) {
             (None, Some(entry)) => self.propose_budget(function, entry)?,
             (total, _) => total,
         };
         if let Some(total) = total {
-            let cost = cost_of(total, function.notes.measure.bound);
+            let cost = total.cost(function.notes.measure.bound);
             self.costs.push((function.name.as_str(), cost))?;
         }
         Ok(())
     }
 
-    /// Proposes what follows of facts at the heads of the blocks; what an entry knows stands at the function's head already.
+    /// Proposes what follows of facts at the head of a block.
+    fn propose_keeps(
+        &mut self,
+        known: &Known<'a>,
+        index: usize,
+        block: &Block,
+    ) -> Result<(), AllocError> {
+        let mut lines = String::new(self.alloc);
+        push_keeps(&mut lines, known, index, block)?;
+        self.propose(block.line, lines)
+    }
+
+    /// The same of all blocks; what an entry knows stands at the function's head already.
     fn add_facts(&mut self, function: &'a Function) -> Result<(), AllocError> {
         let known = known_of(self.alloc, function, self.kind == Kind::Guesses)?;
         let blocks = function.blocks.as_slice();
         for index in 1..blocks.len() {
-            let mut lines = String::new(self.alloc);
-            push_keeps(&mut lines, &known, index, &blocks[index])?;
-            self.propose(blocks[index].line, lines)?;
+            self.propose_keeps(&known, index, &blocks[index])?;
         }
         Ok(())
     }
 
-    /// Proposes how the facts show what the steps of a block ask, and its end.
+    /// Proposes how facts show what the steps of a block ask.
+    fn propose_steps(&mut self, walk: &mut Walk<'a>, steps: &'a [Step]) -> Result<(), AllocError> {
+        for step in steps {
+            let lines = walk.pass(step)?;
+            self.propose(step.line.saturating_sub(1), lines)?;
+        }
+        Ok(())
+    }
+
+    /// The same of its end.
+    fn propose_end(
+        &mut self,
+        walk: &mut Walk<'a>,
+        known: &Known<'a>,
+        ending: &'a Ending,
+    ) -> Result<(), AllocError> {
+        let ways = Ways {
+            edges: known.edges.as_slice(),
+            facts: known.facts.sums.as_slice(),
+            added: known.added.as_slice(),
+        };
+        let lines = walk.end(ways, ending)?;
+        self.propose(ending.line.saturating_sub(1), lines)
+    }
+
+    /// The same of a whole block.
     fn add_steps_of(
         &mut self,
         known: &Known<'a>,
@@ -219,13 +251,9 @@ impl<'a> Draft<'a> {
             function: known.function,
         };
         let mut walk = Walk::new(scope, index, block, first, self.effort)?;
-        for step in block.steps.as_slice() {
-            let lines = walk.pass(step)?;
-            self.propose(step.line.saturating_sub(1), lines)?;
-        }
+        self.propose_steps(&mut walk, block.steps.as_slice())?;
         if let Some(ending) = &block.ending {
-            let lines = walk.end(known, ending)?;
-            self.propose(ending.line.saturating_sub(1), lines)?;
+            self.propose_end(&mut walk, known, ending)?;
         }
         self.effort = walk.effort;
         Ok(())
@@ -243,18 +271,20 @@ impl<'a> Draft<'a> {
         Ok(())
     }
 
-    /// Proposes what is handed on to the heads of the blocks.
+    /// Proposes what is handed on to the head of a block.
+    fn propose_pending(&mut self, block: &Block, handed: &[Handed<'_>]) -> Result<(), AllocError> {
+        let mut lines = String::new(self.alloc);
+        push_pending(&mut lines, handed, block)?;
+        self.propose(end_of_keeps(block), lines)
+    }
+
+    /// The same of all blocks.
     fn add_zones(&mut self, function: &'a Function) -> Result<(), AllocError> {
         let hulls = hulls_of(self.alloc, function)?;
         let waiting = waiting_of(self.alloc, function, hulls.as_slice())?;
         let blocks = function.blocks.as_slice();
-        for index in 0..blocks.len() {
-            if index < waiting.handed.len() {
-                let mut lines = String::new(self.alloc);
-                let handed = waiting.handed[index].as_slice();
-                push_pending(&mut lines, handed, &blocks[index])?;
-                self.propose(end_of_keeps(&blocks[index]), lines)?;
-            }
+        for (block, handed) in blocks.iter().zip(&waiting.handed) {
+            self.propose_pending(block, handed.as_slice())?;
         }
         Ok(())
     }
@@ -279,23 +309,35 @@ impl<'a> Draft<'a> {
         self.propose(end_of_pending(block), lines)
     }
 
-    /// Proposes what is left at the heads of the blocks, and the budget.
-    fn add_costs(&mut self, function: &'a Function) -> Result<(), AllocError> {
-        let known = known_of(self.alloc, function, false)?;
-        let needs = needs_of(&known, self.costs.as_slice())?;
-        if let [entry, ..] = needs.as_slice() {
-            self.add_budget(function, entry)?;
-        }
-        let blocks = function.blocks.as_slice();
-        for index in 0..blocks.len() {
-            let block = &blocks[index];
-            match given(function) {
-                Some(total) if index == 0 => self.propose_whole(block, total)?,
-                _ if index < needs.len() => self.propose_left(block, &needs[index])?,
+    /// The same of all blocks; of the entry the budget, where the function has one.
+    fn propose_lefts(
+        &mut self,
+        function: &Function,
+        needs: &[Option<Need<'a>>],
+    ) -> Result<(), AllocError> {
+        for (index, block) in function.blocks.as_slice().iter().enumerate() {
+            match (Total::given(function), needs.get(index)) {
+                (Some(total), _) if index == 0 => self.propose_whole(block, total)?,
+                (_, Some(need)) => self.propose_left(block, need)?,
                 _ => {}
             }
         }
         Ok(())
+    }
+
+    /// What the blocks of a function need, by what calls of those before it cost.
+    fn needs(&self, function: &'a Function) -> Result<Vec<Option<Need<'a>>>, AllocError> {
+        let known = known_of(self.alloc, function, false)?;
+        needs_of(&known, self.costs.as_slice())
+    }
+
+    /// Proposes what is left at the heads of the blocks, and the budget.
+    fn add_costs(&mut self, function: &'a Function) -> Result<(), AllocError> {
+        let needs = self.needs(function)?;
+        if let [entry, ..] = needs.as_slice() {
+            self.add_budget(function, entry)?;
+        }
+        self.propose_lefts(function, needs.as_slice())
     }
 
     fn add_functions(&mut self, functions: &'a [Function]) -> Result<(), AllocError> {

@@ -1,12 +1,11 @@
 //! Loops that a counter leads round: what falls each time, and what a round needs.
 
-use crate::budget::greatest_apart;
-use crate::edge::{Edge, block_at, definition_in, phi_value};
-use crate::keep::{Known, names_own};
-use crate::left::definition_of;
-use crate::sum::Sum;
+use annotate_facts::{Known, names_own};
+use annotate_sums::{
+    Edge, Sum, block_at, definition_in, definition_of, greatest_apart, last_of, phi_value,
+};
 use std::alloc::AllocError;
-use syntax::{Block, Operand};
+use syntax::{Block, Function, Operand};
 
 /// A loop, from the block at its head to the last one in the text from which an edge leads back.
 #[derive(Drop)]
@@ -36,17 +35,6 @@ impl<'a> Ring<'a> {
         sum.add_number(0i128.saturating_sub(times.saturating_mul(self.least)));
         Ok(())
     }
-}
-
-/// The last block from which an edge leads back to this one.
-pub fn last_of(edges: &[Edge<'_>], head: usize) -> Option<usize> {
-    let mut last = None;
-    for edge in edges {
-        if edge.to == head && edge.from >= head {
-            last = Some(edge.from);
-        }
-    }
-    last
 }
 
 /// Whether a sum names a register that a block of the loop defines, but for its head's phis.
@@ -101,8 +89,7 @@ fn least_of<'a>(
     block: usize,
     sum: &Sum<'a>,
 ) -> Result<Option<i128>, AllocError> {
-    let mut opposite = Sum::number(known.alloc, 0);
-    opposite.add(sum, -1)?;
+    let opposite = sum.times(-1)?;
     let facts = known.facts_at(block)?;
     Ok(match greatest_apart(facts.as_slice(), &opposite) {
         Some(most) => Some(0i128.saturating_sub(most)),
@@ -143,24 +130,41 @@ fn fall_by<'a>(
     })
 }
 
-/// What is at least 0 at the head, if this is so on an edge that leads back to it: each phi in place of what it takes there.
-fn at_head<'a>(known: &Known<'a>, edge: Edge<'a>, fact: &Sum<'a>) -> Result<Sum<'a>, AllocError> {
+/// What is at least 0 at the head, if this is so on an edge that leads back to it from this block: each phi in place of what it takes there.
+fn at_head<'a>(head: &'a Block, from: &Block, fact: &Sum<'a>) -> Result<Sum<'a>, AllocError> {
     let mut rank = fact.copy()?;
-    let (Some(head), Some(from)) = (
-        block_at(known.function, edge.to),
-        block_at(known.function, edge.from),
-    ) else {
-        return Ok(rank);
-    };
     for phi in head.phis.as_slice() {
         let name = phi.register.as_str();
         if let Some(Operand::Register(next)) = phi_value(head.phis.as_slice(), name, &from.label) {
-            let mut own = Sum::number(known.alloc, 0);
-            own.add_term(name, 1)?;
-            rank.put(next.as_str(), &own)?;
+            rank = rank.renamed(next.as_str(), name)?;
         }
     }
     Ok(rank)
+}
+
+/// The same of an edge within the loop; where it does not lead back to the head, the fact itself.
+fn rank_by<'a>(
+    function: &'a Function,
+    head: usize,
+    edge: Edge<'a>,
+    fact: &Sum<'a>,
+) -> Result<Sum<'a>, AllocError> {
+    match (block_at(function, edge.to), block_at(function, edge.from)) {
+        (Some(to), Some(from)) if edge.to == head => at_head(to, from, fact),
+        _ => fact.copy(),
+    }
+}
+
+/// The least number that a rank has at the head where it falls by `step`.
+fn least_at<'a>(
+    known: &Known<'a>,
+    head: usize,
+    rank: &Sum<'a>,
+    step: i128,
+) -> Result<i128, AllocError> {
+    let nothing = Sum::number(known.alloc, 0);
+    let lack = known.lack_of(head, rank, &nothing)?;
+    Ok(0i128.saturating_sub(lack.unwrap_or(step)))
 }
 
 /// What falls each time round a loop, by this fact on this edge within it.
@@ -171,29 +175,23 @@ fn ring_by<'a>(
     edge: Edge<'a>,
     fact: &Sum<'a>,
 ) -> Result<Option<Ring<'a>>, AllocError> {
-    let leads_back = edge.to == head;
-    let rank = if leads_back {
-        at_head(known, edge, fact)?
-    } else {
-        fact.copy()?
-    };
+    let rank = rank_by(known.function, head, edge, fact)?;
     if names_inner(known, head, last, &rank) {
         return Ok(None);
     }
-    let nothing = Sum::number(known.alloc, 0);
-    let lack = known.lack_of(head, &rank, &nothing)?;
-    Ok(match fall_of(known, head, &rank)? {
-        Some(step) => Some(Ring {
-            head,
-            last,
-            rank,
-            step,
-            least: 0i128.saturating_sub(lack.unwrap_or(step)),
-            calls: 0,
-            instructions: 0,
-        }),
-        None => None,
-    })
+    let Some(step) = fall_of(known, head, &rank)? else {
+        return Ok(None);
+    };
+    let least = least_at(known, head, &rank, step)?;
+    Ok(Some(Ring {
+        head,
+        last,
+        rank,
+        step,
+        least,
+        calls: 0,
+        instructions: 0,
+    }))
 }
 
 /// What falls each time round a loop by a fact on this edge.

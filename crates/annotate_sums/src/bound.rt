@@ -1,19 +1,10 @@
-//! What a function may use in all, by what is left at its entry.
+//! Bounds of registers by facts about them alone, and of sums by those.
 
-use crate::left::Need;
 use crate::sum::Sum;
 use std::alloc::AllocError;
-use syntax::Function;
 
 /// The greatest number of a budget.
 const MOST: i128 = 1_000_000_000_000;
-
-/// Self calls and instructions, as numbers.
-#[derive(Clone, Copy)]
-pub struct Total {
-    pub self_calls: u64,
-    pub instructions: u64,
-}
 
 /// The greatest or least number that a register may hold by a fact about it alone: of `coefficient * x + constant >= 0`.
 fn bound_by(fact: &Sum<'_>, name: &str, is_greatest: bool) -> Option<i128> {
@@ -106,40 +97,4 @@ pub fn greatest<'a>(facts: &[Sum<'a>], sum: &Sum<'a>) -> Result<Option<u64>, All
         Some(most) if most <= MOST => Ok(u64::try_from(most).ok()),
         _ => Ok(None),
     }
-}
-
-/// The budget that covers what is left at the entry, whatever the arguments are by these facts; none where there is none.
-pub fn total_of<'a>(facts: &[Sum<'a>], need: &Need<'a>) -> Result<Option<Total>, AllocError> {
-    let self_calls = greatest(facts, &need.calls)?;
-    let instructions = greatest(facts, &need.instructions)?;
-    match (self_calls, instructions) {
-        (Some(self_calls), Some(instructions)) => Ok(Some(Total {
-            self_calls,
-            instructions,
-        })),
-        _ => Ok(None),
-    }
-}
-
-/// The total that a function's text gives, where it has a line for it.
-pub fn given(function: &Function) -> Option<Total> {
-    let budget = &function.notes.budget;
-    if budget.line == function.line {
-        return None;
-    }
-    Some(Total {
-        self_calls: budget.self_calls,
-        instructions: budget.instructions,
-    })
-}
-
-/// What any call of a function costs at most, by its budget and the bound of its measure.
-pub fn cost_of(total: Total, bound: u64) -> u128 {
-    let calls = u128::from(total.self_calls);
-    let instructions = u128::from(total.instructions);
-    let mut cost = instructions;
-    for _step in 0..bound {
-        cost = instructions.saturating_add(calls.saturating_mul(cost));
-    }
-    cost
 }

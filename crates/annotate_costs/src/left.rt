@@ -1,19 +1,26 @@
 //! What a block needs, from its own instructions and from what is left behind it.
 
-use crate::budget::greatest;
-use crate::edge::{Edge, Way, block_at, phi_value, register_of};
-use crate::keep::{Known, MOST_BLOCKS};
 use crate::ring::{Ring, names_inner, ring_of};
-use crate::sum::Sum;
+use annotate_facts::{Known, MOST_BLOCKS};
+use annotate_sums::{Edge, Sum, Way, block_at, definition_of, greatest, moved, register_of};
 use lists::Name;
 use std::alloc::{AllocError, Global};
-use syntax::{BinaryOperator, Block, Instruction, Operand, Phi, Step};
+use syntax::{Block, Instruction, Phi, Step};
 
 /// Self calls and instructions.
-#[derive(Drop)]
 pub struct Need<'a> {
     pub calls: Sum<'a>,
     pub instructions: Sum<'a>,
+}
+
+/// Written out, so that each path that lets go of a need is short.
+impl Drop for Need<'_> {
+    fn drop(self) {
+        let Need {
+            calls: _,
+            instructions: _,
+        } = self;
+    }
 }
 
 /// The needs of a function's blocks, while they are found.
@@ -80,24 +87,6 @@ impl<'a> Need<'a> {
     }
 }
 
-/// Adds the terms of a sum at a block's start, with what its phis take on an edge from a block of this label put in.
-pub fn move_terms<'a>(
-    moved: &mut Sum<'a>,
-    sum: &Sum<'a>,
-    label: &Name,
-    phis: &'a [Phi],
-) -> Result<(), AllocError> {
-    for (name, coefficient) in &sum.terms {
-        if *coefficient != 0 {
-            match phi_value(phis, name, label) {
-                Some(value) => moved.add_operand(value, *coefficient)?,
-                None => moved.add_term(name, *coefficient)?,
-            }
-        }
-    }
-    Ok(())
-}
-
 /// Puts in what an instruction's register is made of, if the sum has it; whether the sum is still one.
 fn put_in<'a>(
     alloc: Global,
@@ -116,24 +105,22 @@ fn put_in<'a>(
     }
 }
 
-/// Adds to nothing a sum at a block's start, as it is at the start of another from which an edge leads there: what that block's
-/// instructions define is replaced by what it is made of. Whether it is still a sum.
-fn add_along<'a>(
+/// A sum at a block's start, as it is at the start of another from which an edge leads there: what that block's instructions define is replaced by what it
+/// is made of. None where it is no sum.
+fn sum_along<'a>(
     alloc: Global,
-    moved: &mut Sum<'a>,
     sum: &Sum<'a>,
     from: &'a Block,
     phis: &'a [Phi],
-) -> Result<bool, AllocError> {
-    moved.add_number(sum.constant);
-    move_terms(moved, sum, &from.label, phis)?;
+) -> Result<Option<Sum<'a>>, AllocError> {
+    let mut sum = moved(alloc, sum, &from.label, phis)?;
     let steps = from.steps.as_slice();
     for index in (0..steps.len()).rev() {
-        if !put_in(alloc, moved, &steps[index].instruction)? {
-            return Ok(false);
+        if !put_in(alloc, &mut sum, &steps[index].instruction)? {
+            return Ok(None);
         }
     }
-    Ok(true)
+    Ok(Some(sum))
 }
 
 /// What a block needs that has these phis, at the start of another from which an edge leads there.
@@ -143,16 +130,16 @@ fn need_along<'a>(
     from: &'a Block,
     phis: &'a [Phi],
 ) -> Result<Option<Need<'a>>, AllocError> {
-    let mut need = Need::none(alloc);
-    let is_known = add_along(alloc, &mut need.calls, &left.calls, from, phis)?
-        && add_along(
-            alloc,
-            &mut need.instructions,
-            &left.instructions,
-            from,
-            phis,
-        )?;
-    Ok(if is_known { Some(need) } else { None })
+    let Some(calls) = sum_along(alloc, &left.calls, from, phis)? else {
+        return Ok(None);
+    };
+    match sum_along(alloc, &left.instructions, from, phis)? {
+        Some(instructions) => Ok(Some(Need {
+            calls,
+            instructions,
+        })),
+        None => Ok(None),
+    }
 }
 
 impl<'a> Finder<'_, 'a> {
@@ -405,53 +392,16 @@ fn rings_of<'a>(known: &Known<'a>, costs: &[(&'a str, u128)]) -> Result<Vec<Ring
     Ok(rings)
 }
 
-/// How often an operator's left and right operand stand in the sum that it makes, but for what its width cannot hold; none where it makes
-/// no sum.
-fn times_of(operator: BinaryOperator, right: &Operand) -> Option<(i128, i128)> {
-    match operator {
-        BinaryOperator::Add | BinaryOperator::AddNoWrap => Some((1, 1)),
-        BinaryOperator::Subtract | BinaryOperator::SubtractNoWrap => Some((1, -1)),
-        BinaryOperator::Multiply | BinaryOperator::MultiplyNoWrap => match right {
-            Operand::Number(number) => Some((i128::from(*number), 0)),
-            Operand::Register(_) => None,
-        },
-        _ => None,
-    }
-}
-
-/// The sum that an instruction makes; none where it makes no sum.
-pub fn definition_of<'a>(
-    alloc: Global,
-    instruction: &'a Instruction,
-) -> Result<Option<Sum<'a>>, AllocError> {
-    let Instruction::Binary {
-        operator,
-        left,
-        right,
-        ..
-    } = instruction
-    else {
-        return Ok(None);
-    };
-    let Some((of_left, of_right)) = times_of(*operator, right) else {
-        return Ok(None);
-    };
-    let mut sum = Sum::number(alloc, 0);
-    sum.add_operand(left, of_left)?;
-    sum.add_operand(right, of_right)?;
-    Ok(Some(sum))
-}
-
 /// The `left` line of a block, where it has one.
 fn given<'a>(alloc: Global, block: &'a Block) -> Result<Option<Need<'a>>, AllocError> {
     let left = &block.notes.left;
     if left.line == block.line {
         return Ok(None);
     }
-    let mut need = Need::none(alloc);
-    need.calls.add_form(&left.self_calls, 1)?;
-    need.instructions.add_form(&left.instructions, 1)?;
-    Ok(Some(need))
+    Ok(Some(Need {
+        calls: Sum::of_form(alloc, &left.self_calls)?,
+        instructions: Sum::of_form(alloc, &left.instructions)?,
+    }))
 }
 
 /// The same, where the rounds of loops are counted.

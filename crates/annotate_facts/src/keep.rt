@@ -1,9 +1,8 @@
 //! What is known wherever a block begins, because all ways to it bring it along.
 
-use crate::edge::{Edge, defines, edges_of};
 use crate::fact::Facts;
 use crate::guess::{Place, dominators_of};
-use crate::sum::Sum;
+use annotate_sums::{Edge, Sum, defines, edges_of};
 use std::alloc::{AllocError, Global};
 use syntax::{Block, Function};
 
@@ -11,7 +10,6 @@ use syntax::{Block, Function};
 pub const MOST_BLOCKS: usize = 256;
 
 /// The facts of a function, and which of them hold where.
-#[derive(Drop)]
 pub struct Known<'a> {
     pub alloc: Global,
     pub function: &'a Function,
@@ -24,11 +22,29 @@ pub struct Known<'a> {
     /// For each block the numbers of the facts that may be so at it, and are to be tried.
     guessed: Vec<Vec<usize>>,
     /// For each edge the numbers of the facts that its source adds.
-    added: Vec<Vec<usize>>,
+    pub added: Vec<Vec<usize>>,
     /// For each block the numbers of the facts that its own instructions make.
     made: Vec<Vec<usize>>,
     /// For each block whether each fact is brought along to it; no fact that is not is marked.
     marks: Vec<Vec<bool>>,
+}
+
+/// Written out, so that no crate above proves it anew.
+impl Drop for Known<'_> {
+    fn drop(self) {
+        let Known {
+            alloc: _,
+            function: _,
+            edges: _,
+            into: _,
+            facts: _,
+            given: _,
+            guessed: _,
+            added: _,
+            made: _,
+            marks: _,
+        } = self;
+    }
 }
 
 /// A row of numbers; one that is not there has none.
@@ -68,6 +84,27 @@ fn into_blocks(
 }
 
 impl<'a> Known<'a> {
+    /// Nothing, of these edges.
+    fn new(
+        alloc: Global,
+        function: &'a Function,
+        edges: Vec<Edge<'a>>,
+        into: Vec<Vec<usize>>,
+    ) -> Known<'a> {
+        Known {
+            alloc,
+            function,
+            edges,
+            into,
+            facts: Facts::new(alloc, function),
+            given: Vec::new(alloc),
+            guessed: Vec::new(alloc),
+            added: Vec::new(alloc),
+            made: Vec::new(alloc),
+            marks: Vec::new(alloc),
+        }
+    }
+
     /// States what the blocks' heads say; at the entry what the function asks of its parameters too.
     fn give_all(&mut self) -> Result<(), AllocError> {
         let function = self.function;
@@ -110,9 +147,8 @@ impl<'a> Known<'a> {
         };
         let sums = self.facts.sums.as_slice();
         let from = first.min(sums.len());
-        for sum in place.guesses(&sums[from..])? {
-            self.facts.add(sum)?;
-        }
+        let guesses = place.guesses(&sums[from..])?;
+        self.facts.add_all(guesses)?;
         let stated = self.facts.take();
         if block < self.guessed.len() {
             self.guessed[block].extend_from_slice(stated.as_slice())?;
@@ -240,7 +276,7 @@ impl<'a> Known<'a> {
         match self.lack_of(block, one, other)? {
             Some(first) => raised_less(one, first, other, second),
             None => match second {
-                Some(second) => raised(other, second),
+                Some(second) => other.raised(second),
                 None => one.with(other, 1),
             },
         }
@@ -372,16 +408,9 @@ fn raised_less<'a>(
     second: Option<i128>,
 ) -> Result<Sum<'a>, AllocError> {
     match second {
-        Some(second) if second < first => raised(other, second),
-        _ => raised(one, first),
+        Some(second) if second < first => other.raised(second),
+        _ => one.raised(first),
     }
-}
-
-/// A sum and so many more.
-fn raised<'a>(sum: &Sum<'a>, more: i128) -> Result<Sum<'a>, AllocError> {
-    let mut raised = sum.copy()?;
-    raised.add_number(more);
-    Ok(raised)
 }
 
 /// The lesser of two numbers; the one that there is.
@@ -411,18 +440,8 @@ pub fn known_of<'a>(
     has_guesses: bool,
 ) -> Result<Known<'a>, AllocError> {
     let edges = edges_of(alloc, function)?;
-    let mut known = Known {
-        alloc,
-        function,
-        into: into_blocks(alloc, edges.as_slice(), function.blocks.len())?,
-        edges,
-        facts: Facts::new(alloc, function),
-        given: Vec::new(alloc),
-        guessed: Vec::new(alloc),
-        added: Vec::new(alloc),
-        made: Vec::new(alloc),
-        marks: Vec::new(alloc),
-    };
+    let into = into_blocks(alloc, edges.as_slice(), function.blocks.len())?;
+    let mut known = Known::new(alloc, function, edges, into);
     known.find(has_guesses)?;
     Ok(known)
 }

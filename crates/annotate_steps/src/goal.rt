@@ -1,13 +1,11 @@
 //! What a text asks of numbers before its instructions and along its edges.
 
-use crate::edge::block_at;
-use crate::left::{definition_of, move_terms};
-use crate::sum::Sum;
+use annotate_sums::{Sum, block_at, definition_of, moved};
 use lists::Name;
 use std::alloc::{AllocError, Global};
 use syntax::{
-    Address, Argument, BinaryOperator, Block, Function, Inequality, Instruction, Module, Operand,
-    Parameter, Step, Width,
+    Address, Argument, BinaryOperator, Block, Form, Function, Inequality, Instruction, Module,
+    Operand, Parameter, Step, Width,
 };
 
 /// A function of a module.
@@ -64,6 +62,12 @@ impl<'a> Call<'a> {
         Ok(placed)
     }
 
+    /// The same of a form.
+    pub fn put_in_form(self, alloc: Global, form: &'a Form) -> Result<Sum<'a>, AllocError> {
+        let sum = Sum::of_form(alloc, form)?;
+        self.put_in(alloc, &sum)
+    }
+
     /// What inequalities of the callee say of the call.
     pub fn push_said(
         self,
@@ -97,6 +101,18 @@ fn alloca_cells(steps: &[Step], name: &Name) -> Option<u64> {
         }
     }
     None
+}
+
+/// Asks that a value lies from one number to another.
+fn push_between<'a>(
+    value: &Sum<'a>,
+    low: i128,
+    high: i128,
+    out: &mut Vec<Sum<'a>>,
+) -> Result<(), AllocError> {
+    out.push(value.raised(0i128.saturating_sub(low))?)?;
+    out.push(value.below(high)?)?;
+    Ok(())
 }
 
 impl<'a> Scope<'a> {
@@ -163,23 +179,6 @@ impl<'a> Scope<'a> {
         }
     }
 
-    /// Asks that a value lies from one number to another.
-    fn push_between(
-        self,
-        value: &Sum<'a>,
-        low: i128,
-        high: i128,
-        out: &mut Vec<Sum<'a>>,
-    ) -> Result<(), AllocError> {
-        let mut above = value.copy()?;
-        above.add_number(0i128.saturating_sub(low));
-        out.push(above)?;
-        let mut below = Sum::number(self.alloc, high);
-        below.add(value, -1)?;
-        out.push(below)?;
-        Ok(())
-    }
-
     fn push_operand(
         self,
         operand: &'a Operand,
@@ -187,9 +186,8 @@ impl<'a> Scope<'a> {
         high: i128,
         out: &mut Vec<Sum<'a>>,
     ) -> Result<(), AllocError> {
-        let mut value = Sum::number(self.alloc, 0);
-        value.add_operand(operand, 1)?;
-        self.push_between(&value, low, high, out)
+        let value = Sum::of_operand(self.alloc, operand, 1)?;
+        push_between(&value, low, high, out)
     }
 
     /// Asks what the facts that an operation makes, or its result, ask of its operands.
@@ -213,7 +211,7 @@ impl<'a> Scope<'a> {
             BinaryOperator::AddNoWrap
             | BinaryOperator::SubtractNoWrap
             | BinaryOperator::MultiplyNoWrap => match definition_of(self.alloc, instruction)? {
-                Some(sum) => self.push_between(&sum, low, high, out),
+                Some(sum) => push_between(&sum, low, high, out),
                 None => Ok(()),
             },
             BinaryOperator::SignedDivide | BinaryOperator::SignedRemainder => {
@@ -238,36 +236,44 @@ impl<'a> Scope<'a> {
         if !call.callee.name.is_same(&self.function.name) {
             return Ok(());
         }
-        let own = Sum::of_form(self.alloc, &self.function.notes.measure.form)?;
-        let next = call.put_in(self.alloc, &own)?;
-        let mut fallen = own.with(&next, -1)?;
+        let measure = &self.function.notes.measure.form;
+        let next = call.put_in_form(self.alloc, measure)?;
+        let mut fallen = Sum::of_form(self.alloc, measure)?;
+        fallen.add(&next, -1)?;
         fallen.add_number(-1);
         out.push(fallen)?;
         out.push(next)?;
         Ok(())
     }
 
+    /// Asks what an instruction asks of its operands.
+    fn push_own(
+        self,
+        instruction: &'a Instruction,
+        out: &mut Vec<Sum<'a>>,
+    ) -> Result<(), AllocError> {
+        match instruction {
+            Instruction::ElementPointer { base, index, .. } => match self.cells_of(base) {
+                Some(cells) => {
+                    self.push_operand(index, 0, i128::from(cells).saturating_sub(1), out)
+                }
+                None => Ok(()),
+            },
+            Instruction::Convert { value, .. } => {
+                let (low, high) = ends_of(Width::Bits32);
+                self.push_operand(value, low, high, out)
+            }
+            _ => self.push_operation(instruction, out),
+        }
+    }
+
     /// What an instruction asks to be at least 0.
     pub fn goals(self, instruction: &'a Instruction) -> Result<Vec<Sum<'a>>, AllocError> {
         let mut out = Vec::new(self.alloc);
-        match instruction {
-            Instruction::ElementPointer { base, index, .. } => {
-                if let Some(cells) = self.cells_of(base) {
-                    self.push_operand(index, 0, i128::from(cells).saturating_sub(1), &mut out)?;
-                }
-            }
-            Instruction::Convert { value, .. } => {
-                let (low, high) = ends_of(Width::Bits32);
-                self.push_operand(value, low, high, &mut out)?;
-            }
-            _ => self.push_operation(instruction, &mut out)?,
-        }
+        self.push_own(instruction, &mut out)?;
         if let Some(call) = self.call_of(instruction) {
-            call.push_said(
-                self.alloc,
-                call.callee.notes.requirements.as_slice(),
-                &mut out,
-            )?;
+            let asked = call.callee.notes.requirements.as_slice();
+            call.push_said(self.alloc, asked, &mut out)?;
             self.push_measure(call, &mut out)?;
         }
         Ok(out)
@@ -278,17 +284,14 @@ impl<'a> Scope<'a> {
         let mut out = Vec::new(self.alloc);
         for inequality in to.notes.keeps.as_slice() {
             let sum = Sum::of_inequality(self.alloc, inequality)?;
-            let mut moved = Sum::number(self.alloc, sum.constant);
-            move_terms(&mut moved, &sum, &from.label, to.phis.as_slice())?;
-            out.push(moved)?;
+            out.push(moved(self.alloc, &sum, &from.label, to.phis.as_slice())?)?;
         }
         Ok(out)
     }
 
     /// What a return of this value asks.
     pub fn goals_at_return(self, value: &'a Operand) -> Result<Vec<Sum<'a>>, AllocError> {
-        let mut result = Sum::number(self.alloc, 0);
-        result.add_operand(value, 1)?;
+        let result = Sum::of_operand(self.alloc, value, 1)?;
         let mut out = Vec::new(self.alloc);
         for inequality in self.function.notes.guarantees.as_slice() {
             let mut sum = Sum::of_inequality(self.alloc, inequality)?;

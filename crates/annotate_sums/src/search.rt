@@ -82,13 +82,22 @@ impl<'a> Search<'_, 'a> {
         false
     }
 
+    /// What is left of a rest without so many times a fact.
+    fn left_of(&self, of: usize, fact: usize, times: i128) -> Result<Option<Sum<'a>>, AllocError> {
+        match (self.rests.get(of), self.facts.get(fact)) {
+            (Some(rest), Some(fact)) => {
+                let left = rest.sum.with(fact, 0i128.saturating_sub(times))?;
+                Ok(Some(left))
+            }
+            _ => Ok(None),
+        }
+    }
+
     /// Adds what is left of a rest without so many times a fact. Its number, where that shows the rest: it is a number, and not below 0.
     fn push(&mut self, of: usize, fact: usize, times: i128) -> Result<Option<usize>, AllocError> {
-        let facts = self.facts;
-        let (Some(rest), Some(taken)) = (self.rests.get(of), facts.get(fact)) else {
+        let Some(sum) = self.left_of(of, fact, times)? else {
             return Ok(None);
         };
-        let sum = rest.sum.with(taken, 0i128.saturating_sub(times))?;
         let number = self.rests.len();
         let is_shown = matches!(sum.as_number(), Some(left) if left >= 0);
         self.compared = self.compared.saturating_add(number);
@@ -174,8 +183,7 @@ impl<'a> Search<'_, 'a> {
         if is_factor(&whole.sum, rest.times) {
             return Ok(true);
         }
-        let mut multiple = Sum::number(self.alloc, 0);
-        multiple.add(fact, rest.times)?;
+        let multiple = fact.times(rest.times)?;
         let is_line = multiple.is_form() && is_factor(&multiple, rest.times);
         lines.push(multiple)?;
         Ok(is_line)
@@ -188,8 +196,7 @@ impl<'a> Search<'_, 'a> {
         over: i128,
         lines: &mut Vec<Sum<'a>>,
     ) -> Result<bool, AllocError> {
-        let mut line = rest.sum.copy()?;
-        line.add_number(0i128.saturating_sub(over));
+        let line = rest.sum.raised(0i128.saturating_sub(over))?;
         let is_line = line.is_form();
         lines.push(line)?;
         Ok(is_line)
@@ -220,9 +227,18 @@ impl<'a> Search<'_, 'a> {
     }
 
     /// The lines with which the facts show the first rest, by the one that is shown.
-    fn lines_to(&self, end: End) -> Result<Option<Vec<Sum<'a>>>, AllocError> {
+    fn lines_to(&self, last: usize, is_stated: bool) -> Result<Option<Vec<Sum<'a>>>, AllocError> {
+        let over = match self.rests.get(last) {
+            Some(rest) => rest.sum.constant,
+            None => 0,
+        };
+        let end = End {
+            last,
+            over,
+            is_stated,
+        };
         let mut lines = Vec::new(self.alloc);
-        let mut number = end.last;
+        let mut number = last;
         for _step in 0..self.rests.len() {
             if number == 0 {
                 return Ok(Some(lines));
@@ -270,17 +286,7 @@ pub fn lines_between<'a>(
         times: 0,
     })?;
     match search.run(effort)? {
-        Some(last) => {
-            let over = match search.rests.get(last) {
-                Some(rest) => rest.sum.constant,
-                None => 0,
-            };
-            search.lines_to(End {
-                last,
-                over,
-                is_stated,
-            })
-        }
+        Some(last) => search.lines_to(last, is_stated),
         None => Ok(None),
     }
 }

@@ -1,13 +1,10 @@
 //! Lines within blocks, with which facts show what is asked at an instruction or along an edge: lines to be tried.
 
 use crate::cells::Cells;
-use crate::edge::{Way, block_at, register_of};
-use crate::fact::{equation, is_exact};
-use crate::goal::{Scope, ends_of};
-use crate::keep::Known;
-use crate::left::definition_of;
-use crate::search::lines_between;
-use crate::sum::Sum;
+use crate::goal::{Call, Scope, ends_of};
+use annotate_sums::{
+    Edge, Equation, Sum, Way, block_at, definition_of, is_exact, lines_between, register_of,
+};
 use std::alloc::AllocError;
 use syntax::{
     BinaryOperator, Block, Conversion, Ending, Inequality, Instruction, Operand, Step, Terminator,
@@ -19,8 +16,27 @@ const MOST_FACTS: usize = 1_024;
 
 const MOST_LINES: usize = 32;
 
+/// The edges of a function, and what being taken says of each.
+#[derive(Clone, Copy)]
+pub struct Ways<'w, 'a> {
+    pub edges: &'w [Edge<'a>],
+    /// The facts of the function.
+    pub facts: &'w [Sum<'a>],
+    /// For each edge the numbers of the facts that hold along it.
+    pub added: &'w [Vec<usize>],
+}
+
+impl<'w> Ways<'w, '_> {
+    /// The numbers of the facts that hold along the edge of this number.
+    fn facts_on(self, edge: usize) -> &'w [usize] {
+        match self.added.get(edge) {
+            Some(numbers) => numbers.as_slice(),
+            None => &[],
+        }
+    }
+}
+
 /// What is known in a block as far as one has come.
-#[derive(Drop)]
 pub struct Walk<'a> {
     scope: Scope<'a>,
     place: usize,
@@ -35,6 +51,23 @@ pub struct Walk<'a> {
     /// What is told before an instruction, beside so many lines of the text.
     told: Vec<Sum<'a>>,
     stated: usize,
+}
+
+/// Written out, so that no crate above proves it anew.
+impl Drop for Walk<'_> {
+    fn drop(self) {
+        let Walk {
+            scope: _,
+            place: _,
+            block: _,
+            is_function: _,
+            facts: _,
+            effort: _,
+            covering: _,
+            told: _,
+            stated: _,
+        } = self;
+    }
 }
 
 impl<'a> Walk<'a> {
@@ -81,24 +114,23 @@ impl<'a> Walk<'a> {
         Ok(())
     }
 
-    /// States that so many times a register, and a number, is at least 0.
-    fn learn_bound(&mut self, name: &'a str, times: i128, number: i128) -> Result<(), AllocError> {
-        let mut bound = Sum::number(self.scope.alloc, number);
-        bound.add_term(name, times)?;
-        self.learn(bound)
+    /// States that a sum lies from one number to another.
+    fn learn_between(&mut self, value: &Sum<'a>, low: i128, high: i128) -> Result<(), AllocError> {
+        self.learn(value.raised(0i128.saturating_sub(low))?)?;
+        self.learn(value.below(high)?)
     }
 
-    /// States that a register lies from one number to another.
+    /// States that a register does.
     fn learn_bounds(&mut self, name: &'a str, low: i128, high: i128) -> Result<(), AllocError> {
-        self.learn_bound(name, 1, 0i128.saturating_sub(low))?;
-        self.learn_bound(name, -1, high)
+        let own = Sum::of_register(self.scope.alloc, name, 1)?;
+        self.learn_between(&own, low, high)
     }
 
     /// States that a register is this sum.
     fn learn_equal(&mut self, name: &'a str, value: &Sum<'a>) -> Result<(), AllocError> {
-        let (most, least) = equation(self.scope.alloc, name, value)?;
-        self.learn(most)?;
-        self.learn(least)
+        let equation = Equation::of(self.scope.alloc, name, value)?;
+        self.learn(equation.most)?;
+        self.learn(equation.least)
     }
 
     /// Says in lines that sums are at least 0, and states them, if there is room for the lines.
@@ -138,14 +170,14 @@ impl<'a> Walk<'a> {
 
     /// Whether it is known that an operand is at least a number.
     fn is_at_least(&mut self, operand: &'a Operand, number: i128) -> Result<bool, AllocError> {
-        let mut sum = Sum::number(self.scope.alloc, 0i128.saturating_sub(number));
-        sum.add_operand(operand, 1)?;
+        let mut sum = Sum::of_operand(self.scope.alloc, operand, 1)?;
+        sum.add_number(0i128.saturating_sub(number));
         self.reach(&sum, false)
     }
 
     fn is_at_most(&mut self, operand: &'a Operand, number: i128) -> Result<bool, AllocError> {
-        let mut sum = Sum::number(self.scope.alloc, number);
-        sum.add_operand(operand, -1)?;
+        let mut sum = Sum::of_operand(self.scope.alloc, operand, -1)?;
+        sum.add_number(number);
         self.reach(&sum, false)
     }
 
@@ -160,14 +192,10 @@ impl<'a> Walk<'a> {
         if operator == BinaryOperator::SignedRemainder {
             return self.learn_bounds(name, 0, divisor.saturating_sub(1));
         }
-        let mut rest = Sum::number(self.scope.alloc, 0);
-        rest.add_operand(whole, 1)?;
+        let mut rest = Sum::of_operand(self.scope.alloc, whole, 1)?;
         rest.add_term(name, 0i128.saturating_sub(divisor))?;
-        let mut over = Sum::number(self.scope.alloc, divisor.saturating_sub(1));
-        over.add(&rest, -1)?;
-        self.learn(rest)?;
-        self.learn(over)?;
-        self.learn_bound(name, 1, 0)
+        self.learn_between(&rest, 0, divisor.saturating_sub(1))?;
+        self.learn(Sum::of_register(self.scope.alloc, name, 1)?)
     }
 
     /// States what an operation with a number on its right makes known.
@@ -191,29 +219,37 @@ impl<'a> Walk<'a> {
         }
     }
 
+    /// Whether it is known that a conversion changes no number.
+    fn is_same(
+        &mut self,
+        conversion: Conversion,
+        operand: &'a Operand,
+    ) -> Result<bool, AllocError> {
+        match conversion {
+            Conversion::SignExtend => Ok(true),
+            Conversion::ZeroExtend => self.is_at_least(operand, 0),
+            Conversion::Truncate => {
+                let (low, high) = ends_of(Width::Bits32);
+                Ok(self.is_at_least(operand, low)? && self.is_at_most(operand, high)?)
+            }
+        }
+    }
+
     fn learn_conversion(
         &mut self,
         name: &'a str,
         conversion: Conversion,
         operand: &'a Operand,
     ) -> Result<(), AllocError> {
-        let (low, high) = ends_of(Width::Bits32);
-        let is_same = match conversion {
-            Conversion::SignExtend => true,
-            Conversion::ZeroExtend => self.is_at_least(operand, 0)?,
-            Conversion::Truncate => {
-                self.is_at_least(operand, low)? && self.is_at_most(operand, high)?
-            }
-        };
-        if is_same {
-            let mut value = Sum::number(self.scope.alloc, 0);
-            value.add_operand(operand, 1)?;
+        if self.is_same(conversion, operand)? {
+            let value = Sum::of_operand(self.scope.alloc, operand, 1)?;
             self.learn_equal(name, &value)?;
         }
-        match conversion {
-            Conversion::ZeroExtend => self.learn_bounds(name, 0, 4_294_967_295),
-            _ => self.learn_bounds(name, low, high),
-        }
+        let (low, high) = match conversion {
+            Conversion::ZeroExtend => (0, 4_294_967_295),
+            _ => ends_of(Width::Bits32),
+        };
+        self.learn_bounds(name, low, high)
     }
 
     /// States what an instruction makes known of the register that it defines.
@@ -244,18 +280,21 @@ impl<'a> Walk<'a> {
         }
     }
 
+    /// States what the callee says of a call.
+    fn learn_call(&mut self, call: Call<'a>) -> Result<(), AllocError> {
+        let mut said = Vec::new(self.scope.alloc);
+        let guarantees = call.callee.notes.guarantees.as_slice();
+        call.push_said(self.scope.alloc, guarantees, &mut said)?;
+        for fact in said {
+            self.learn(fact)?;
+        }
+        Ok(())
+    }
+
     /// States what an instruction makes known.
     fn learn_step(&mut self, instruction: &'a Instruction) -> Result<(), AllocError> {
         if let Some(call) = self.scope.call_of(instruction) {
-            let mut said = Vec::new(self.scope.alloc);
-            call.push_said(
-                self.scope.alloc,
-                call.callee.notes.guarantees.as_slice(),
-                &mut said,
-            )?;
-            for fact in said {
-                self.learn(fact)?;
-            }
+            self.learn_call(call)?;
         }
         match register_of(instruction) {
             Some(name) => self.learn_register(name, instruction),
@@ -281,14 +320,20 @@ impl<'a> Walk<'a> {
         Ok(lines)
     }
 
-    /// Tells how the facts show that cells lie in a zone; nothing, where they do not. Whether they do.
+    /// Tells how the facts show that cells lie in a zone. Whether they do.
+    fn reach_ends(&mut self, cells: &Cells<'a>, zone: &'a Zone) -> Result<bool, AllocError> {
+        let mut low = cells.low.copy()?;
+        low.add_form(&zone.low, -1)?;
+        let mut high = Sum::of_form(self.scope.alloc, &zone.high)?;
+        high.add(&cells.high, -1)?;
+        Ok(self.reach(&low, false)? && self.reach(&high, false)?)
+    }
+
+    /// The same; nothing is told where they do not.
     fn reach_zone(&mut self, cells: &Cells<'a>, zone: &'a Zone) -> Result<bool, AllocError> {
-        let wide = Cells::of_zone(self.scope.alloc, zone)?;
         let facts = self.facts.len();
         let told = self.told.len();
-        let low = cells.low.with(&wide.low, -1)?;
-        let high = wide.high.with(&cells.high, -1)?;
-        let is_covered = self.reach(&low, false)? && self.reach(&high, false)?;
+        let is_covered = self.reach_ends(cells, zone)?;
         if !is_covered {
             self.facts.truncate(facts);
             self.told.truncate(told);
@@ -348,15 +393,15 @@ impl<'a> Walk<'a> {
     /// Tells how the facts show a sum along an edge, with what being taken says of it, or without.
     fn reach_along(
         &mut self,
-        known: &Known<'a>,
+        ways: Ways<'_, 'a>,
         edge: usize,
         goal: &Sum<'a>,
     ) -> Result<(), AllocError> {
         if self.reach(goal, false)? {
             return Ok(());
         }
-        for number in known.facts_on(edge) {
-            if let Some(fact) = known.facts.sums.get(*number) {
+        for number in ways.facts_on(edge) {
+            if let Some(fact) = ways.facts.get(*number) {
                 let rest = goal.with(fact, -1)?;
                 if self.reach(&rest, true)? {
                     return Ok(());
@@ -368,21 +413,21 @@ impl<'a> Walk<'a> {
 
     fn reach_edge(
         &mut self,
-        known: &Known<'a>,
+        ways: Ways<'_, 'a>,
         edge: usize,
         to: &'a Block,
     ) -> Result<(), AllocError> {
         for goal in self.scope.goals_along(self.block, to)? {
-            self.reach_along(known, edge, &goal)?;
+            self.reach_along(ways, edge, &goal)?;
         }
         Ok(())
     }
 
-    fn reach_edges(&mut self, known: &Known<'a>) -> Result<(), AllocError> {
-        for (number, edge) in known.edges.iter().enumerate() {
+    fn reach_edges(&mut self, ways: Ways<'_, 'a>) -> Result<(), AllocError> {
+        for (number, edge) in ways.edges.iter().enumerate() {
             if edge.from == self.place {
                 if let Some(to) = block_at(self.scope.function, edge.to) {
-                    self.reach_edge(known, number, to)?;
+                    self.reach_edge(ways, number, to)?;
                     if matches!(edge.way, Way::Detached) {
                         self.reach_foot(to)?;
                     }
@@ -393,13 +438,13 @@ impl<'a> Walk<'a> {
     }
 
     /// Goes over the end of the block; the lines that may stand before it.
-    pub fn end(&mut self, known: &Known<'a>, ending: &'a Ending) -> Result<String, AllocError> {
+    pub fn end(&mut self, ways: Ways<'_, 'a>, ending: &'a Ending) -> Result<String, AllocError> {
         self.begin(ending.shows.as_slice())?;
         if let Terminator::Return { value: Some(value) } = &ending.terminator {
             let goals = self.scope.goals_at_return(value)?;
             self.reach_all(goals)?;
         }
-        self.reach_edges(known)?;
+        self.reach_edges(ways)?;
         self.spell_told()
     }
 }

@@ -133,6 +133,17 @@ pub fn edges_of<'a>(alloc: Global, function: &'a Function) -> Result<Vec<Edge<'a
     Ok(edges)
 }
 
+/// The last block from which an edge leads back to this one.
+pub fn last_of(edges: &[Edge<'_>], head: usize) -> Option<usize> {
+    let mut last = None;
+    for edge in edges {
+        if edge.to == head && edge.from >= head {
+            last = Some(edge.from);
+        }
+    }
+    last
+}
+
 /// The block of this number, where the function has one.
 pub fn block_at(function: &Function, number: usize) -> Option<&Block> {
     let blocks = function.blocks.as_slice();

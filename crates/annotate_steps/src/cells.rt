@@ -1,22 +1,32 @@
 //! The cells that instructions touch, and the zones that may cover them.
 
-use crate::edge::{Edge, Way, block_at};
 use crate::goal::{Call, Scope};
-use crate::sum::Sum;
+use annotate_sums::{Edge, Sum, Way, block_at};
 use lists::Name;
 use std::alloc::{AllocError, Global};
-use syntax::{Address, Argument, Function, Instruction, Mode, Parameter, Step, Zone};
+use syntax::{Address, Argument, Function, Instruction, Mode, Operand, Parameter, Step, Zone};
 
 /// How often the edges are gone along to find the children that blocks belong to.
 const MOST_ROUNDS: usize = 16;
 
 /// Cells of an object, and how they are touched.
-#[derive(Drop)]
 pub struct Cells<'a> {
     mode: Mode,
     object: &'a Address,
     pub low: Sum<'a>,
     pub high: Sum<'a>,
+}
+
+/// Written out, so that each path that lets go of cells is short.
+impl Drop for Cells<'_> {
+    fn drop(self) {
+        let Cells {
+            mode: _,
+            object: _,
+            low: _,
+            high: _,
+        } = self;
+    }
 }
 
 /// Whether both are one global or one register.
@@ -31,14 +41,12 @@ pub fn is_same_object(one: &Address, other: &Address) -> bool {
 impl<'a> Cells<'a> {
     /// Some of an object's cells from the first one on, or of those from a register's or a number's on.
     fn of(
-        alloc: Global,
         mode: Mode,
         object: &'a Address,
         low: Sum<'a>,
         count: i128,
     ) -> Result<Cells<'a>, AllocError> {
-        let mut high = Sum::number(alloc, count);
-        high.add(&low, 1)?;
+        let high = low.raised(count)?;
         Ok(Cells {
             mode,
             object,
@@ -63,19 +71,15 @@ impl<'a> Cells<'a> {
         call: Call<'a>,
         zone: &'a Zone,
     ) -> Result<Option<Cells<'a>>, AllocError> {
-        let object = match &zone.object {
-            Address::Global(_) => &zone.object,
-            Address::Register(name) => match call.argument(name.as_str()) {
-                Some(Argument::Pointer(object)) => object,
-                _ => return Ok(None),
-            },
-        };
-        Ok(Some(Cells {
-            mode: zone.mode,
-            object,
-            low: call.put_in(alloc, &Sum::of_form(alloc, &zone.low)?)?,
-            high: call.put_in(alloc, &Sum::of_form(alloc, &zone.high)?)?,
-        }))
+        match object_of(call, zone) {
+            Some(object) => Ok(Some(Cells {
+                mode: zone.mode,
+                object,
+                low: call.put_in_form(alloc, &zone.low)?,
+                high: call.put_in_form(alloc, &zone.high)?,
+            })),
+            None => Ok(None),
+        }
     }
 
     /// Whether a zone is of the same object, and lets the cells be touched.
@@ -104,12 +108,29 @@ fn is_pointer(parameters: &[Parameter], name: &Name) -> bool {
     false
 }
 
-/// The object and the cell of the `getelementptr` among these that defines a register.
-fn element_of<'a>(
-    alloc: Global,
-    steps: &'a [Step],
-    name: &Name,
-) -> Result<Option<(&'a Address, Sum<'a>)>, AllocError> {
+/// The caller's object that a zone of the callee is of.
+fn object_of<'a>(call: Call<'a>, zone: &'a Zone) -> Option<&'a Address> {
+    match &zone.object {
+        Address::Global(_) => Some(&zone.object),
+        Address::Register(name) => match call.argument(name.as_str()) {
+            Some(Argument::Pointer(object)) => Some(object),
+            _ => None,
+        },
+    }
+}
+
+/// The object that a `getelementptr` leads into, and the operand that says to which cell.
+#[derive(Clone, Copy)]
+struct Element<'a> {
+    object: &'a Address,
+    cell: &'a Operand,
+}
+
+/// What the `getelementptr` among these is that defines an address.
+fn element_of<'a>(steps: &'a [Step], address: &Address) -> Option<Element<'a>> {
+    let Address::Register(name) = address else {
+        return None;
+    };
     for step in steps {
         if let Instruction::ElementPointer {
             register,
@@ -118,26 +139,52 @@ fn element_of<'a>(
         } = &step.instruction
         {
             if register.is_same(name) {
-                let mut cell = Sum::number(alloc, 0);
-                cell.add_operand(index, 1)?;
-                return Ok(Some((base, cell)));
+                return Some(Element {
+                    object: base,
+                    cell: index,
+                });
             }
         }
     }
-    Ok(None)
+    None
 }
 
 /// The address that an instruction touches, how, and how many cells from there on.
-fn access_of(instruction: &Instruction) -> Option<(&Address, Mode, i128)> {
-    match instruction {
-        Instruction::Load { address, .. } => Some((address, Mode::Reads, 1)),
-        Instruction::Store { address, .. } => Some((address, Mode::Writes, 1)),
-        Instruction::AtomicAdd { address, .. } => Some((address, Mode::Adds, 1)),
+#[derive(Clone, Copy)]
+struct Access<'a> {
+    address: &'a Address,
+    mode: Mode,
+    count: i128,
+}
+
+fn access_of(instruction: &Instruction) -> Option<Access<'_>> {
+    let (address, mode, count) = match instruction {
+        Instruction::Load { address, .. } => (address, Mode::Reads, 1),
+        Instruction::Store { address, .. } => (address, Mode::Writes, 1),
+        Instruction::AtomicAdd { address, .. } => (address, Mode::Adds, 1),
         Instruction::StoreZeros { address, cells } => {
-            Some((address, Mode::Writes, i128::from(*cells)))
+            (address, Mode::Writes, i128::from(*cells))
         }
-        _ => None,
-    }
+        _ => return None,
+    };
+    Some(Access {
+        address,
+        mode,
+        count,
+    })
+}
+
+/// The cells that an instruction of a block touches by its address.
+fn accessed<'a>(
+    alloc: Global,
+    steps: &'a [Step],
+    access: Access<'a>,
+) -> Result<Cells<'a>, AllocError> {
+    let (object, low) = match element_of(steps, access.address) {
+        Some(Element { object, cell }) => (object, Sum::of_operand(alloc, cell, 1)?),
+        None => (access.address, Sum::number(alloc, 0)),
+    };
+    Cells::of(access.mode, object, low, access.count)
 }
 
 /// Adds the cells that a call touches by some zones of its callee.
@@ -155,6 +202,18 @@ fn push_called<'a>(
     Ok(())
 }
 
+/// The same by all its zones.
+fn push_call<'a>(
+    alloc: Global,
+    call: Call<'a>,
+    out: &mut Vec<Cells<'a>>,
+) -> Result<(), AllocError> {
+    let notes = &call.callee.notes;
+    push_called(alloc, call, notes.reads.as_slice(), out)?;
+    push_called(alloc, call, notes.writes.as_slice(), out)?;
+    push_called(alloc, call, notes.adds.as_slice(), out)
+}
+
 fn push_zones<'a>(out: &mut Vec<&'a Zone>, zones: &'a [Zone]) -> Result<(), AllocError> {
     for zone in zones {
         out.push(zone)?;
@@ -170,22 +229,11 @@ impl<'a> Scope<'a> {
         instruction: &'a Instruction,
     ) -> Result<Vec<Cells<'a>>, AllocError> {
         let mut out = Vec::new(self.alloc);
-        if let Some((address, mode, count)) = access_of(instruction) {
-            let element = match address {
-                Address::Register(name) => element_of(self.alloc, steps, name)?,
-                Address::Global(_) => None,
-            };
-            let (object, low) = match element {
-                Some(found) => found,
-                None => (address, Sum::number(self.alloc, 0)),
-            };
-            out.push(Cells::of(self.alloc, mode, object, low, count)?)?;
+        if let Some(access) = access_of(instruction) {
+            out.push(accessed(self.alloc, steps, access)?)?;
         }
         if let Some(call) = self.call_of(instruction) {
-            let notes = &call.callee.notes;
-            push_called(self.alloc, call, notes.reads.as_slice(), &mut out)?;
-            push_called(self.alloc, call, notes.writes.as_slice(), &mut out)?;
-            push_called(self.alloc, call, notes.adds.as_slice(), &mut out)?;
+            push_call(self.alloc, call, &mut out)?;
         }
         Ok(out)
     }

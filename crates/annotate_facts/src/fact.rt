@@ -1,11 +1,11 @@
 //! What inequalities, and the conditions of branches, say.
 
-use crate::edge::{Edge, Way, block_at, is_used_beside, register_of};
-use crate::left::definition_of;
-use crate::sum::Sum;
+use annotate_sums::{
+    Edge, Equation, Sum, Way, block_at, definition_of, is_exact, is_used_beside, register_of,
+};
 use std::alloc::{AllocError, Global};
 use std::mem::replace;
-use syntax::{BinaryOperator, Function, Inequality, Instruction, Operand, Predicate, Step};
+use syntax::{Function, Inequality, Instruction, Operand, Predicate, Step};
 
 /// The most facts of a function that are kept, and the most instructions of one whose sums are facts.
 const MOST_FACTS: usize = 512;
@@ -60,6 +60,14 @@ impl<'a> Facts<'a> {
         Ok(())
     }
 
+    /// States that these sums are at least 0.
+    pub fn add_all(&mut self, sums: Vec<Sum<'a>>) -> Result<(), AllocError> {
+        for sum in sums {
+            self.add(sum)?;
+        }
+        Ok(())
+    }
+
     /// States what these inequalities say.
     pub fn state(&mut self, inequalities: &'a [Inequality]) -> Result<(), AllocError> {
         for inequality in inequalities {
@@ -76,9 +84,9 @@ impl<'a> Facts<'a> {
         high: &'a Operand,
         is_strict: bool,
     ) -> Result<(), AllocError> {
-        let mut sum = Sum::number(self.alloc, if is_strict { -1 } else { 0 });
-        sum.add_operand(high, 1)?;
+        let mut sum = Sum::of_operand(self.alloc, high, 1)?;
         sum.add_operand(low, -1)?;
+        sum.add_number(if is_strict { -1 } else { 0 });
         self.add(sum)
     }
 
@@ -125,9 +133,9 @@ impl<'a> Facts<'a> {
 
     /// States that a register is this sum.
     fn equate(&mut self, name: &'a str, value: &Sum<'a>) -> Result<(), AllocError> {
-        let (most, least) = equation(self.alloc, name, value)?;
-        self.add(most)?;
-        self.add(least)
+        let equation = Equation::of(self.alloc, name, value)?;
+        self.add(equation.most)?;
+        self.add(equation.least)
     }
 
     /// States what an instruction says of a register that blocks beside its own take.
@@ -180,20 +188,6 @@ impl<'a> Facts<'a> {
     }
 }
 
-/// That a register is at most a sum, and that it is at least the sum.
-pub fn equation<'a>(
-    alloc: Global,
-    name: &'a str,
-    value: &Sum<'a>,
-) -> Result<(Sum<'a>, Sum<'a>), AllocError> {
-    let mut most = value.copy()?;
-    most.add_term(name, -1)?;
-    let mut least = Sum::number(alloc, 0);
-    least.add_term(name, 1)?;
-    least.add(value, -1)?;
-    Ok((most, least))
-}
-
 /// Whether a function has many instructions.
 fn is_long(function: &Function) -> bool {
     let mut count = 0usize;
@@ -213,18 +207,5 @@ fn order_of(predicate: Predicate, holds: bool, is_turned: bool) -> Option<bool> 
         Predicate::SignedAtLeast if holds == is_turned => Some(!holds),
         Predicate::Equal if holds => Some(false),
         _ => None,
-    }
-}
-
-/// Whether an instruction makes its sum or product as it is, without a remainder by the width.
-pub fn is_exact(instruction: &Instruction) -> bool {
-    match instruction {
-        Instruction::Binary { operator, .. } => matches!(
-            operator,
-            BinaryOperator::AddNoWrap
-                | BinaryOperator::SubtractNoWrap
-                | BinaryOperator::MultiplyNoWrap
-        ),
-        _ => false,
     }
 }

@@ -4,12 +4,22 @@ use std::alloc::{AllocError, Global};
 use syntax::{Form, Inequality, Operand, Relation};
 
 /// Registers times numbers, and a number. A register stands in it once at most; numbers past 128 bits stay at the last one.
-#[derive(Drop)]
 pub struct Sum<'a> {
     alloc: Global,
     /// Some coefficients may be 0.
     pub terms: Vec<(&'a str, i128)>,
     pub constant: i128,
+}
+
+/// Written out, so that no crate above proves it anew.
+impl Drop for Sum<'_> {
+    fn drop(self) {
+        let Sum {
+            alloc: _,
+            terms: _,
+            constant: _,
+        } = self;
+    }
 }
 
 /// The most registers of a form, and the greatest size of its coefficients and of its constant.
@@ -26,6 +36,24 @@ impl<'a> Sum<'a> {
             terms: Vec::new(alloc),
             constant,
         }
+    }
+
+    /// So many times a register.
+    pub fn of_register(alloc: Global, name: &'a str, times: i128) -> Result<Sum<'a>, AllocError> {
+        let mut sum = Sum::number(alloc, 0);
+        sum.add_term(name, times)?;
+        Ok(sum)
+    }
+
+    /// So many times an operand.
+    pub fn of_operand(
+        alloc: Global,
+        operand: &'a Operand,
+        times: i128,
+    ) -> Result<Sum<'a>, AllocError> {
+        let mut sum = Sum::number(alloc, 0);
+        sum.add_operand(operand, times)?;
+        Ok(sum)
     }
 
     pub fn of_form(alloc: Global, form: &'a Form) -> Result<Sum<'a>, AllocError> {
@@ -91,15 +119,34 @@ impl<'a> Sum<'a> {
         }
     }
 
-    pub fn copy(&self) -> Result<Sum<'a>, AllocError> {
+    /// So many times the sum.
+    pub fn times(&self, times: i128) -> Result<Sum<'a>, AllocError> {
         let mut sum = Sum::number(self.alloc, 0);
-        sum.add(self, 1)?;
+        sum.add(self, times)?;
+        Ok(sum)
+    }
+
+    pub fn copy(&self) -> Result<Sum<'a>, AllocError> {
+        self.times(1)
+    }
+
+    /// The sum and a number.
+    pub fn raised(&self, number: i128) -> Result<Sum<'a>, AllocError> {
+        let mut sum = self.times(1)?;
+        sum.add_number(number);
+        Ok(sum)
+    }
+
+    /// The number less the sum.
+    pub fn below(&self, number: i128) -> Result<Sum<'a>, AllocError> {
+        let mut sum = self.times(-1)?;
+        sum.add_number(number);
         Ok(sum)
     }
 
     /// The sum and so many times another one.
     pub fn with(&self, other: &Sum<'a>, times: i128) -> Result<Sum<'a>, AllocError> {
-        let mut sum = self.copy()?;
+        let mut sum = self.times(1)?;
         sum.add(other, times)?;
         Ok(sum)
     }
@@ -188,6 +235,14 @@ impl<'a> Sum<'a> {
             }
         }
         self.add(value, times)
+    }
+
+    /// The sum with another register in the place of this one.
+    pub fn renamed(&self, name: &str, other: &'a str) -> Result<Sum<'a>, AllocError> {
+        let own = Sum::of_register(self.alloc, other, 1)?;
+        let mut sum = self.times(1)?;
+        sum.put(name, &own)?;
+        Ok(sum)
     }
 
     /// Whether a form may name as many registers, with coefficients as great.

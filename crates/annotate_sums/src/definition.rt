@@ -1,0 +1,93 @@
+//! What instructions and phis make of registers.
+
+use crate::edge::phi_value;
+use crate::sum::Sum;
+use lists::Name;
+use std::alloc::{AllocError, Global};
+use syntax::{BinaryOperator, Instruction, Operand, Phi};
+
+/// How often an operator's left and right operand stand in the sum that it makes, but for what its width cannot hold; none where it makes
+/// no sum.
+fn times_of(operator: BinaryOperator, right: &Operand) -> Option<(i128, i128)> {
+    match operator {
+        BinaryOperator::Add | BinaryOperator::AddNoWrap => Some((1, 1)),
+        BinaryOperator::Subtract | BinaryOperator::SubtractNoWrap => Some((1, -1)),
+        BinaryOperator::Multiply | BinaryOperator::MultiplyNoWrap => match right {
+            Operand::Number(number) => Some((i128::from(*number), 0)),
+            Operand::Register(_) => None,
+        },
+        _ => None,
+    }
+}
+
+/// The sum that an instruction makes; none where it makes no sum.
+pub fn definition_of<'a>(
+    alloc: Global,
+    instruction: &'a Instruction,
+) -> Result<Option<Sum<'a>>, AllocError> {
+    let Instruction::Binary {
+        operator,
+        left,
+        right,
+        ..
+    } = instruction
+    else {
+        return Ok(None);
+    };
+    let Some((of_left, of_right)) = times_of(*operator, right) else {
+        return Ok(None);
+    };
+    let mut sum = Sum::of_operand(alloc, left, of_left)?;
+    sum.add_operand(right, of_right)?;
+    Ok(Some(sum))
+}
+
+/// Whether an instruction makes its sum or product as it is, without a remainder by the width.
+pub fn is_exact(instruction: &Instruction) -> bool {
+    match instruction {
+        Instruction::Binary { operator, .. } => matches!(
+            operator,
+            BinaryOperator::AddNoWrap
+                | BinaryOperator::SubtractNoWrap
+                | BinaryOperator::MultiplyNoWrap
+        ),
+        _ => false,
+    }
+}
+
+/// That a register is at most a sum, and that it is at least the sum.
+#[derive(Drop)]
+pub struct Equation<'a> {
+    pub most: Sum<'a>,
+    pub least: Sum<'a>,
+}
+
+impl<'a> Equation<'a> {
+    /// That a register is this sum.
+    pub fn of(alloc: Global, name: &'a str, value: &Sum<'a>) -> Result<Equation<'a>, AllocError> {
+        let own = Sum::of_register(alloc, name, 1)?;
+        Ok(Equation {
+            most: value.with(&own, -1)?,
+            least: own.with(value, -1)?,
+        })
+    }
+}
+
+/// A sum at a block's start, with what its phis take on an edge from a block of this label put in.
+pub fn moved<'a>(
+    alloc: Global,
+    sum: &Sum<'a>,
+    label: &Name,
+    phis: &'a [Phi],
+) -> Result<Sum<'a>, AllocError> {
+    let mut moved = Sum::number(alloc, sum.constant);
+    for (name, coefficient) in &sum.terms {
+        if *coefficient != 0 {
+            match phi_value(phis, name, label) {
+                Some(value) => moved.add_operand(value, *coefficient)?,
+                None => moved.add_term(name, *coefficient)?,
+            }
+        }
+    }
+    Ok(moved)
+}
