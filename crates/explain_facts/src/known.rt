@@ -7,9 +7,10 @@ use crate::gap::{
 };
 use crate::scene::Scene;
 use crate::spelling::{push_excess, push_inequality};
+use crate::unknown::{is_bounded, push_unbounded};
 use linear::{Fact, Form, Term};
 use lists::OutOfMemory;
-use program::{Block, BlockId, Function, Inequality, Instruction, RegisterId, Step};
+use program::{Block, BlockId, Function, Inequality, RegisterId};
 use ranges::{BlockFacts, Effort, Sum, Unanswered, sum_form};
 use std::alloc::{AllocError, Global};
 
@@ -113,28 +114,6 @@ fn share_register(left: &Form, right: &Form) -> bool {
         .as_slice()
         .iter()
         .any(|term| has_register(right, term.register))
-}
-
-/// Whether an instruction loads this register.
-fn is_load(step: &Step, loaded: RegisterId) -> bool {
-    match &step.instruction {
-        Instruction::Load { register, .. } => *register == loaded,
-        _ => false,
-    }
-}
-
-/// Whether a register has what was loaded from a cell.
-fn is_loaded(function: &Function, register: RegisterId) -> bool {
-    function.blocks.as_slice().iter().any(|block| block
-        .steps
-        .as_slice()
-        .iter()
-        .any(|step| is_load(step, register)))
-}
-
-/// Whether a fact is about the register.
-fn is_named(facts: &[Fact], register: RegisterId) -> bool {
-    facts.iter().any(|fact| has_register(&fact.form, register))
 }
 
 impl Known<'_> {
@@ -256,41 +235,22 @@ impl Known<'_> {
         Ok(self.push_short(alloc, form, short, out)?)
     }
 
-    /// That nothing is known of a register, and what to do.
-    fn push_unknown(&self, register: RegisterId, out: &mut String) -> Result<(), AllocError> {
-        let name = self.scene.register(register);
-        if is_loaded(self.scene.function, register) {
-            return writeln!(
-                out,
-                "    nothing is known of %{name}, which is loaded: bound it by an `and` with a mask, or by a signed compare and a branch"
-            );
-        }
-        if self.block.0 == 0 {
-            return writeln!(
-                out,
-                "    nothing is known of %{name}: bound it by `requires`"
-            );
-        }
-        writeln!(
-            out,
-            "    nothing is known of %{name} in this block: a `keeps` line behind its label brings along what is known before it"
-        )
-    }
-
     /// Why no facts come near to a form, and what to do.
     fn push_far(&self, form: &Form, out: &mut String) -> Result<(), AllocError> {
         let mut is_any = false;
         for term in form.terms.as_slice() {
-            if term.coefficient != 0 && !is_named(self.facts, term.register) {
+            if !is_bounded(self.facts, *term) {
                 is_any = true;
-                self.push_unknown(term.register, out)?;
+                push_unbounded(self.scene, self.block, self.facts, *term, out)?;
             }
         }
         if is_any {
             return Ok(());
         }
-        out.push_str(
-            "    no two of these facts add up to it: put `shows` lines before it that go by smaller steps, or a `keeps` line that says more\n",
+        let start = if self.block.0 == 0 { "requires" } else { "keeps" };
+        writeln!(
+            out,
+            "    no two of these facts add up to it: put `shows` lines before it that go by smaller steps, or a `{start}` line that says more"
         )
     }
 

@@ -11,6 +11,7 @@ mod scene;
 mod spelling;
 mod trial;
 mod tries;
+mod unknown;
 mod unmet;
 
 pub use choices::number_findings;
