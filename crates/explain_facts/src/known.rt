@@ -247,7 +247,11 @@ impl Known<'_> {
         if is_any {
             return Ok(());
         }
-        let start = if self.block.0 == 0 { "requires" } else { "keeps" };
+        let start = if self.block.0 == 0 {
+            "requires"
+        } else {
+            "keeps"
+        };
         writeln!(
             out,
             "    no two of these facts add up to it: put `shows` lines before it that go by smaller steps, or a `{start}` line that says more"

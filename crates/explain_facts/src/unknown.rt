@@ -6,7 +6,6 @@ use program::{BlockId, Function, FunctionId, Instruction, Program, RegisterId, S
 use std::alloc::AllocError;
 use syntax::BinaryOperator;
 
-
 /// Whether two coefficients bound a register from the same side.
 fn is_same_side(a: i64, b: i64) -> bool {
     a > 0 && b > 0 || a < 0 && b < 0
@@ -14,12 +13,8 @@ fn is_same_side(a: i64, b: i64) -> bool {
 
 /// Whether a fact bounds the register of a term from the side from which the term does.
 fn is_bounded_by(fact: &Fact, term: Term) -> bool {
-    fact.form
-        .terms
-        .as_slice()
-        .iter()
-        .any(|other| other.register == term.register
-            && is_same_side(other.coefficient, term.coefficient))
+    fact.form.terms.as_slice().iter().any(|other| other.register == term.register
+        && is_same_side(other.coefficient, term.coefficient))
 }
 
 /// Whether one of the facts bounds the register of a term from the side from which the term does. Where none does, no facts add up to a form with it.
@@ -123,7 +118,11 @@ fn push_what(
     if !facts.iter().any(|fact| is_named_by(fact, term.register)) {
         return write!(out, "    nothing is known of %{name}");
     }
-    let side = if term.coefficient > 0 { "below" } else { "above" };
+    let side = if term.coefficient > 0 {
+        "below"
+    } else {
+        "above"
+    };
     write!(out, "    nothing bounds %{name} from {side}")
 }
 
