@@ -4,6 +4,7 @@ use crate::gap::{edge_known, first_facts, spend};
 use crate::known::{Known, fact_lines};
 use crate::missing::Missing;
 use crate::scene::Scene;
+use crate::silent::push_silent_compare;
 use crate::trial::Matched;
 use crate::tries::Trying;
 use crate::unmet::{Unmet, all_unmet};
@@ -127,9 +128,11 @@ fn push_place_notes(
     missing: &mut Missing,
     notes: &mut String,
 ) -> Result<bool, Unanswered> {
-    push_asked(trying.text(), trying.known.scene, unmet, edge, notes)?;
+    let known = trying.known;
+    push_asked(trying.text(), known.scene, unmet, edge, notes)?;
     push_choices(alloc, trying, unmet, notes)?;
-    missing.take(alloc, trying.known, unmet)
+    push_silent_compare(known.scene, known.block, edge, unmet, notes)?;
+    missing.take(alloc, known, unmet)
 }
 
 /// What there is to say of an edge, where this is known at the end of its block.

@@ -8,6 +8,7 @@ mod gap;
 mod known;
 mod missing;
 mod scene;
+mod silent;
 mod spelling;
 mod trial;
 mod tries;
