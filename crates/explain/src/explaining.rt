@@ -4,7 +4,7 @@ ghost use Rattle.explain.specs.Verdict.{IsVerdictOn};
 use crate::accepted::remarks;
 use crate::alloca::alloca_notes;
 use crate::report::Explanation;
-use explain_costs::cost_findings;
+use explain_costs::told_cost_findings;
 use explain_facts::{Matched, match_text, number_findings};
 use explain_findings::{Finding, Source, name_finding, push_finding, word_findings};
 use explain_zones::zone_findings;
@@ -27,7 +27,7 @@ fn matched_findings(
     } else if number < 700 {
         zone_findings(alloc, source, matched, effort)
     } else {
-        cost_findings(alloc, matched, effort)
+        told_cost_findings(alloc, source, matched, effort)
     }
 }
 
@@ -109,7 +109,8 @@ fn findings_within(
     }
 }
 
-/// What is to be told where the verifier names this fault: of it, and of the others of its phase in the order of their lines.
+/// What is to be told where the verifier names this fault: of it, and of the others of its phase in the order of their lines, those last that may
+/// follow from earlier ones.
 fn told_of(
     alloc: Global,
     source: Source<'_>,
@@ -122,11 +123,12 @@ fn told_of(
         number,
         line,
         cause: None,
+        follows: false,
         notes: String::new(alloc),
     };
     let mut others: Vec<Finding> = Vec::new(alloc);
     part(findings, &mut first, &mut others)?;
-    others.sort_by_key(|finding| (finding.line, finding.number))?;
+    others.sort_by_key(|finding| (finding.follows, finding.line, finding.number))?;
     Ok((first, others))
 }
 

@@ -48,12 +48,35 @@ fn push_refused(
     for other in others {
         push_other(out, text, other)?;
     }
-    Ok(())
+    push_following(out, others)
 }
 
+/// A fault that is told in full: one that does not follow from an earlier one.
 fn push_other(out: &mut String, text: &str, other: &Finding) -> Result<(), OutOfMemory> {
+    if other.follows {
+        return Ok(());
+    }
     writeln!(out, "also {} line {}", other.number, other.line)?;
     push_finding_text(out, text, other)
+}
+
+/// The faults that may follow from earlier ones, in a line: mended first, those leave little of these.
+fn push_following(out: &mut String, others: &[Finding]) -> Result<(), OutOfMemory> {
+    let count = others.iter().filter(|other| other.follows).count();
+    if count == 0 {
+        return Ok(());
+    }
+    write!(out, "also {count} that may follow from the above:")?;
+    let mut parting = "";
+    for other in others {
+        if other.follows {
+            let number = other.number;
+            let line = other.line;
+            write!(out, "{parting} {number} line {line}")?;
+            parting = ",";
+        }
+    }
+    Ok(out.push_str("\n")?)
 }
 
 fn push_accepted(out: &mut String, remarks: &str) -> Result<(), OutOfMemory> {

@@ -8,7 +8,7 @@ pub enum Explanation {
     Accepted {
         remarks: String,
     },
-    /// The fault that the verifier names, and others of its phase, in the order of their lines.
+    /// The fault that the verifier names, and others of its phase in the order of their lines, those last that may follow from earlier ones.
     Refused {
         first: Finding,
         others: Seq<Finding>,

@@ -1,6 +1,6 @@
 //! What budgets have left over.
 
-use crate::cost::number_less;
+use crate::sums::number_less;
 use explain_facts::{Scene, push_form};
 use linear::Form;
 use lists::OutOfMemory;

@@ -1,136 +1,52 @@
 //! Faults of costs, each with both sides and the difference.
 
+use crate::left::{Need, push_missing_left};
+use crate::sums::{Counted, Share, amount, less_number, less_sum, number_less, put_in};
 use cost_table::{Table, Work, make_table, work_of};
-use explain_facts::{Known, Matched, Scene, edge_known, fact_lines, push_form, start_lines};
-use explain_findings::{Finding, push_finding};
-use linear::{Fact, Form, side_of};
-use lists::{OutOfMemory, Seq};
+use explain_facts::{
+    Known, Matched, Scene, Trying, edge_known, fact_lines, lack_of, push_form, start_lines,
+};
+use explain_findings::{Finding, Source, push_finding};
+use linear::{Fact, Form};
+use lists::OutOfMemory;
 use program::{
     Argument, Block, BlockId, Budget, Ending, Function, Instruction, Left, Measure, Step,
     Terminator,
 };
 use ranges::{
-    BlockFacts, EdgeFacts, Effort, Move, Sum, Unanswered, argument_moves, block_facts, push_parts,
-    start_facts, stated,
+    BlockFacts, EdgeFacts, Effort, Move, Sum, Unanswered, argument_moves, block_facts, start_facts,
+    stated,
 };
 use std::alloc::Global;
 
 /// The greatest cost that a call may have.
 const GREATEST_COST: u64 = 1_000_000_000_000;
 
-/// What is counted.
-#[derive(Clone, Copy)]
-enum Counted {
-    SelfCalls,
-    Instructions,
-}
-
-/// What is left at a place, with what phis take there put in.
-#[derive(Clone, Copy)]
-struct Share<'a> {
-    to: BlockId,
-    moves: &'a [Move],
-    left: &'a Left,
-}
-
 /// A block beside what it does and what is known at its end.
 #[derive(Clone, Copy)]
-struct Doing<'a> {
-    known: Known<'a>,
-    left: &'a Left,
+struct Doing<'s, 'a> {
+    trying: Trying<'s, 'a>,
+    block: &'a Block,
     work: Work,
 }
 
-impl Counted {
-    fn word(self) -> &'static str {
-        match self {
-            Counted::SelfCalls => "self calls",
-            Counted::Instructions => "instructions",
-        }
-    }
+/// What is told of faults: where there is a text, what is known and lines to try.
+#[derive(Clone, Copy)]
+struct Telling<'s, 'a> {
+    source: Option<Source<'s>>,
+    effort: &'a Effort,
+}
 
-    fn unit(self) -> &'static str {
-        match self {
-            Counted::SelfCalls => "self call",
-            Counted::Instructions => "instruction",
-        }
-    }
-
-    fn of_left(self, left: &Left) -> &Form {
-        match self {
-            Counted::SelfCalls => &left.self_calls,
-            Counted::Instructions => &left.instructions,
-        }
-    }
-
-    fn of_work(self, work: Work) -> u128 {
-        match self {
-            Counted::SelfCalls => work.calls,
-            Counted::Instructions => work.instructions,
+impl<'s> Telling<'s, '_> {
+    fn trying<'k>(&self, known: Known<'k>) -> Trying<'s, 'k> {
+        match self.source {
+            Some(source) => Trying::of(source, known),
+            None => Trying::none(known),
         }
     }
 }
 
-/// A number of what is done; the greatest stands for all beyond.
-fn amount(done: u128) -> i128 {
-    i128::try_from(done).unwrap_or(i128::MAX)
-}
-
-/// A form, less a number.
-fn less_number(alloc: Global, form: &Form, done: i128) -> Result<Sum, OutOfMemory> {
-    let side = side_of(form);
-    let mut parts = Vec::new(alloc);
-    push_parts(&mut parts, &[], 1, side.terms)?;
-    Ok(Sum {
-        constant: side.constant.saturating_sub(done),
-        parts: Seq::from_vec(parts),
-    })
-}
-
-/// A number, less a form with the moves put in.
-pub fn number_less(
-    alloc: Global,
-    number: i128,
-    moves: &[Move],
-    form: &Form,
-) -> Result<Sum, OutOfMemory> {
-    let side = side_of(form);
-    let mut parts = Vec::new(alloc);
-    push_parts(&mut parts, moves, -1, side.terms)?;
-    Ok(Sum {
-        constant: number.saturating_sub(side.constant),
-        parts: Seq::from_vec(parts),
-    })
-}
-
-/// A form with the moves put in.
-fn put_in(alloc: Global, moves: &[Move], form: &Form) -> Result<Sum, OutOfMemory> {
-    let side = side_of(form);
-    let mut parts = Vec::new(alloc);
-    push_parts(&mut parts, moves, 1, side.terms)?;
-    Ok(Sum {
-        constant: side.constant,
-        parts: Seq::from_vec(parts),
-    })
-}
-
-/// A sum, less another.
-fn less_sum(left: Sum, right: &Sum) -> Result<Sum, OutOfMemory> {
-    let Sum { constant, parts } = left;
-    let mut parts = parts.into_vec();
-    for part in right.parts.as_slice() {
-        parts.push(ranges::Part {
-            factor: 0i64.saturating_sub(part.factor),
-            operand: part.operand,
-        })?;
-    }
-    Ok(Sum {
-        constant: constant.saturating_sub(right.constant),
-        parts: Seq::from_vec(parts),
-    })
-}
-
-impl Doing<'_> {
+impl Doing<'_, '_> {
     /// What is left of the block behind what it does and what is left at all of these places.
     fn rest(
         &self,
@@ -139,7 +55,7 @@ impl Doing<'_> {
         shares: &[Share<'_>],
     ) -> Result<Sum, OutOfMemory> {
         let done = amount(counted.of_work(self.work));
-        let mut rest = less_number(alloc, counted.of_left(self.left), done)?;
+        let mut rest = less_number(alloc, counted.of_left(&self.block.left), done)?;
         for share in shares {
             let next = put_in(alloc, share.moves, counted.of_left(share.left))?;
             rest = less_sum(rest, &next)?;
@@ -156,8 +72,9 @@ impl Doing<'_> {
     ) -> Result<(), OutOfMemory> {
         let word = counted.word();
         let done = counted.of_work(self.work);
+        let scene = self.trying.known.scene;
         write!(out, "  {word}: left ")?;
-        push_form(alloc, self.known.scene, counted.of_left(self.left), out)?;
+        push_form(alloc, scene, counted.of_left(&self.block.left), out)?;
         Ok(write!(out, ", the block does {done}")?)
     }
 
@@ -168,18 +85,45 @@ impl Doing<'_> {
         share: &Share<'_>,
         out: &mut String,
     ) -> Result<(), OutOfMemory> {
-        let label = self.known.scene.label(share.to);
+        let scene = self.trying.known.scene;
+        let label = scene.label(share.to);
         write!(out, ", left at %{label} ")?;
-        push_form(alloc, self.known.scene, counted.of_left(share.left), out)
+        push_form(alloc, scene, counted.of_left(share.left), out)
     }
 
     /// The edge, where there is only one.
     fn push_edge_to(&self, shares: &[Share<'_>], out: &mut String) -> Result<(), OutOfMemory> {
         if let [only] = shares {
-            let label = self.known.scene.label(only.to);
+            let label = self.trying.known.scene.label(only.to);
             write!(out, " on the edge to %{label}")?;
         }
         Ok(())
+    }
+
+    /// How much too little is left: a number, or what is to be shown.
+    fn push_too_little(
+        &self,
+        alloc: Global,
+        counted: Counted,
+        shares: &[Share<'_>],
+        rest: &Sum,
+        out: &mut String,
+    ) -> Result<(), Unanswered> {
+        match lack_of(alloc, rest)? {
+            Some(lack) => {
+                let unit = counted.unit();
+                let plural = if lack == 1 { "" } else { "s" };
+                write!(out, "    {lack} {unit}{plural} too few")?;
+                self.push_edge_to(shares, out)?;
+                Ok(out.push_str("\n")?)
+            }
+            None => {
+                out.push_str("    that may be too few")?;
+                self.push_edge_to(shares, out)?;
+                out.push_str("\n")?;
+                self.trying.push_detail(alloc, rest, "    ", out)
+            }
+        }
     }
 
     /// Both sides of what is not covered.
@@ -195,10 +139,8 @@ impl Doing<'_> {
         for share in shares {
             self.push_share(alloc, counted, share, out)?;
         }
-        out.push_str("\n    ")?;
-        self.known.push_gap(alloc, rest, counted.unit(), out)?;
-        self.push_edge_to(shares, out)?;
-        Ok(out.push_str("\n")?)
+        out.push_str("\n")?;
+        self.push_too_little(alloc, counted, shares, rest, out)
     }
 
     fn push_counted(
@@ -209,27 +151,44 @@ impl Doing<'_> {
         out: &mut String,
     ) -> Result<bool, Unanswered> {
         let rest = self.rest(alloc, counted, shares)?;
-        if self.known.shows(alloc, &rest)? {
+        if self.trying.known.shows(alloc, &rest)? {
             return Ok(false);
         }
         self.push_sides(alloc, counted, shares, &rest, out)?;
         Ok(true)
     }
 
-    /// 702, where the block does not leave what is left at all of these places.
-    fn push_fault(
+    /// What there is to say where the block does not leave what is left at all of these places; nothing where it does.
+    fn push_lack(
         &self,
         alloc: Global,
         shares: &[Share<'_>],
+        notes: &mut String,
+    ) -> Result<(), Unanswered> {
+        self.push_counted(alloc, Counted::SelfCalls, shares, notes)?;
+        self.push_counted(alloc, Counted::Instructions, shares, notes)?;
+        Ok(())
+    }
+
+    /// 702 with these notes, if there are any: of a block without a `left` line that it has none, and which would do.
+    fn push_fault(
+        &self,
+        alloc: Global,
+        needs: &[Need<'_>],
+        notes: String,
         findings: &mut Vec<Finding>,
     ) -> Result<(), Unanswered> {
-        let mut notes = String::new(alloc);
-        let calls = self.push_counted(alloc, Counted::SelfCalls, shares, &mut notes)?;
-        let instructions = self.push_counted(alloc, Counted::Instructions, shares, &mut notes)?;
-        if calls || instructions {
-            push_finding(findings, 702, self.known.line, notes)?;
+        if notes.is_empty() {
+            return Ok(());
         }
-        Ok(())
+        let line = self.trying.known.line;
+        let has_left = self.block.left.line != self.block.line;
+        if has_left || !self.trying.is_told() {
+            return Ok(push_finding(findings, 702, line, notes)?);
+        }
+        let mut notes = String::new(alloc);
+        push_missing_left(alloc, self.trying, self.block, self.work, needs, &mut notes)?;
+        Ok(push_finding(findings, 702, line, notes)?)
     }
 }
 
@@ -245,53 +204,80 @@ fn share_of<'a>(function: &'a Function, to: BlockId, moves: &'a [Move]) -> Optio
     }
 }
 
-/// 702 on an edge where this is known.
-fn push_edge<'a>(
+/// What there is to say of an edge where this is known.
+fn push_edge(
     alloc: Global,
-    there: Doing<'a>,
-    edge: &'a EdgeFacts,
-    findings: &mut Vec<Finding>,
+    doing: Doing<'_, '_>,
+    edge: &EdgeFacts,
+    notes: &mut String,
 ) -> Result<(), Unanswered> {
-    let function = there.known.scene.function;
+    let known = doing.trying.known;
+    let facts = edge_known(alloc, known.facts, edge)?;
+    let Some(share) = share_of(known.scene.function, edge.to, edge.moves.as_slice()) else {
+        return Ok(());
+    };
+    let there = Doing {
+        trying: doing.trying.with_known(Known {
+            facts: facts.as_slice(),
+            ..known
+        }),
+        ..doing
+    };
+    there.push_lack(alloc, &[share], notes)
+}
+
+/// What comes next along an edge.
+fn need_of<'a>(function: &'a Function, edge: &'a EdgeFacts) -> Option<Need<'a>> {
     match share_of(function, edge.to, edge.moves.as_slice()) {
-        Some(share) => there.push_fault(alloc, &[share], findings),
-        None => Ok(()),
+        Some(share) => Some(Need::one(share)),
+        None => None,
     }
 }
 
 /// 702 on each edge.
 fn push_edges(
     alloc: Global,
-    doing: Doing<'_>,
+    doing: Doing<'_, '_>,
     edges: &[EdgeFacts],
     findings: &mut Vec<Finding>,
 ) -> Result<(), Unanswered> {
+    let function = doing.trying.known.scene.function;
+    let mut notes = String::new(alloc);
+    let mut needs: Vec<Need<'_>> = Vec::new(alloc);
     for edge in edges {
-        let facts = edge_known(alloc, doing.known.facts, edge)?;
-        let there = Doing {
-            known: Known {
-                facts: facts.as_slice(),
-                ..doing.known
-            },
-            ..doing
-        };
-        push_edge(alloc, there, edge, findings)?;
+        push_edge(alloc, doing, edge, &mut notes)?;
+        if let Some(need) = need_of(function, edge) {
+            needs.push(need)?;
+        }
     }
-    Ok(())
+    doing.push_fault(alloc, needs.as_slice(), notes, findings)
+}
+
+/// 702 where all of this comes next.
+fn push_all(
+    alloc: Global,
+    doing: Doing<'_, '_>,
+    need: Need<'_>,
+    shares: &[Share<'_>],
+    findings: &mut Vec<Finding>,
+) -> Result<(), Unanswered> {
+    let mut notes = String::new(alloc);
+    doing.push_lack(alloc, shares, &mut notes)?;
+    doing.push_fault(alloc, &[need], notes, findings)
 }
 
 /// 702 at a terminator.
 fn push_ending(
     alloc: Global,
-    doing: Doing<'_>,
+    doing: Doing<'_, '_>,
     ending: &Ending,
     edges: &[EdgeFacts],
     findings: &mut Vec<Finding>,
 ) -> Result<(), Unanswered> {
-    let function = doing.known.scene.function;
+    let function = doing.trying.known.scene.function;
     match &ending.terminator {
         Terminator::Return { .. } | Terminator::Reattach { .. } => {
-            doing.push_fault(alloc, &[], findings)
+            push_all(alloc, doing, Need::nothing(), &[], findings)
         }
         Terminator::Detach {
             body,
@@ -301,7 +287,10 @@ fn push_ending(
             let child = share_of(function, *body, &[]);
             let parent = share_of(function, *continuation, &[]);
             match (child, parent) {
-                (Some(child), Some(parent)) => doing.push_fault(alloc, &[child, parent], findings),
+                (Some(child), Some(parent)) => {
+                    let need = Need::two(child, parent);
+                    push_all(alloc, doing, need, &[child, parent], findings)
+                }
                 _ => Ok(()),
             }
         }
@@ -309,56 +298,61 @@ fn push_ending(
     }
 }
 
+/// What is not so, or is not shown.
 fn push_unshown(
     alloc: Global,
-    known: Known<'_>,
+    trying: Trying<'_, '_>,
     what: &str,
     sum: &Sum,
     notes: &mut String,
 ) -> Result<(), Unanswered> {
-    write!(notes, "  {what}: ")?;
-    known.push_gap(alloc, sum, "", notes)?;
-    Ok(notes.push_str("\n")?)
+    match lack_of(alloc, sum)? {
+        Some(lack) => Ok(writeln!(notes, "  not so, by {lack}: {what}")?),
+        None => {
+            writeln!(notes, "  not shown: {what}")?;
+            trying.push_detail(alloc, sum, "  ", notes)
+        }
+    }
 }
 
 /// A sum that is to be at least 0, where it is not shown to be.
 fn push_sum(
     alloc: Global,
-    known: Known<'_>,
+    trying: Trying<'_, '_>,
     what: &str,
     sum: &Sum,
     notes: &mut String,
 ) -> Result<(), Unanswered> {
-    if known.shows(alloc, sum)? {
+    if trying.known.shows(alloc, sum)? {
         Ok(())
     } else {
-        push_unshown(alloc, known, what, sum, notes)
+        push_unshown(alloc, trying, what, sum, notes)
     }
 }
 
 /// A form that is to be at least 0, where it is not shown to be.
 fn push_low(
     alloc: Global,
-    known: Known<'_>,
+    trying: Trying<'_, '_>,
     what: &str,
     form: &Form,
     notes: &mut String,
 ) -> Result<(), Unanswered> {
     let sum = put_in(alloc, &[], form)?;
-    push_sum(alloc, known, what, &sum, notes)
+    push_sum(alloc, trying, what, &sum, notes)
 }
 
 /// A form that is to be at most a number, where it is not shown to be.
 fn push_high(
     alloc: Global,
-    known: Known<'_>,
+    trying: Trying<'_, '_>,
     what: &str,
     number: u64,
     form: &Form,
     notes: &mut String,
 ) -> Result<(), Unanswered> {
     let sum = number_less(alloc, i128::from(number), &[], form)?;
-    push_sum(alloc, known, what, &sum, notes)
+    push_sum(alloc, trying, what, &sum, notes)
 }
 
 fn push_if_any(
@@ -376,29 +370,41 @@ fn push_if_any(
 /// 701 of a block.
 fn push_start(
     alloc: Global,
-    known: Known<'_>,
+    trying: Trying<'_, '_>,
     left: &Left,
     findings: &mut Vec<Finding>,
 ) -> Result<(), Unanswered> {
     let mut notes = String::new(alloc);
-    push_left_notes(alloc, known, left, &mut notes)?;
+    push_left_notes(alloc, trying, left, &mut notes)?;
     push_if_any(findings, 701, left.line, notes)
 }
 
 fn push_left_notes(
     alloc: Global,
-    known: Known<'_>,
+    trying: Trying<'_, '_>,
     left: &Left,
     notes: &mut String,
 ) -> Result<(), Unanswered> {
-    push_low(alloc, known, "self calls left", &left.self_calls, notes)?;
-    push_low(alloc, known, "instructions left", &left.instructions, notes)
+    push_low(
+        alloc,
+        trying,
+        "the self calls left are at least 0",
+        &left.self_calls,
+        notes,
+    )?;
+    push_low(
+        alloc,
+        trying,
+        "the instructions left are at least 0",
+        &left.instructions,
+        notes,
+    )
 }
 
 /// 703 of a self call.
 fn push_call(
     alloc: Global,
-    known: Known<'_>,
+    trying: Trying<'_, '_>,
     step: &Step,
     findings: &mut Vec<Finding>,
 ) -> Result<(), Unanswered> {
@@ -410,10 +416,10 @@ fn push_call(
     else {
         return Ok(());
     };
-    if callee.0 != known.scene.index {
+    if callee.0 != trying.known.scene.index {
         return Ok(());
     }
-    let notes = call_notes(alloc, known, arguments.as_slice())?;
+    let notes = call_notes(alloc, trying, arguments.as_slice())?;
     push_if_any(findings, 703, step.line, notes)
 }
 
@@ -435,55 +441,56 @@ write ;! measure F max N, after line {after}: F is a form of the parameters that
 /// What is not shown of a self call.
 fn call_notes(
     alloc: Global,
-    known: Known<'_>,
+    trying: Trying<'_, '_>,
     arguments: &[Argument],
 ) -> Result<String, Unanswered> {
     let mut notes = String::new(alloc);
-    push_call_notes(alloc, known, arguments, &mut notes)?;
-    if notes.is_empty() || has_measure(known.scene.function) {
+    push_call_notes(alloc, trying, arguments, &mut notes)?;
+    if notes.is_empty() || has_measure(trying.known.scene.function) {
         Ok(notes)
     } else {
-        Ok(without_measure(alloc, known.scene)?)
+        Ok(without_measure(alloc, trying.known.scene)?)
     }
 }
 
 /// What is not shown of the measure that a self call has.
 fn push_call_notes(
     alloc: Global,
-    known: Known<'_>,
+    trying: Trying<'_, '_>,
     arguments: &[Argument],
     notes: &mut String,
 ) -> Result<(), Unanswered> {
-    let form = &known.scene.function.measure.form;
+    let form = &trying.known.scene.function.measure.form;
     let moves = argument_moves(alloc, arguments)?;
     let next = put_in(alloc, moves.as_slice(), form)?;
-    push_next_notes(alloc, known, form, &next, notes)
+    push_next_notes(alloc, trying, form, &next, notes)
 }
 
 /// What is not shown of a measure beside that of the next call.
 fn push_next_notes(
     alloc: Global,
-    known: Known<'_>,
+    trying: Trying<'_, '_>,
     form: &Form,
     next: &Sum,
     notes: &mut String,
 ) -> Result<(), Unanswered> {
     push_sum(
         alloc,
-        known,
+        trying,
         "the call's measure is at least 0",
         next,
         notes,
     )?;
     let falls = less_sum(less_number(alloc, form, 1)?, next)?;
-    push_sum(alloc, known, "it is below the measure here", &falls, notes)
+    let what = "the call's measure is below the one here";
+    push_sum(alloc, trying, what, &falls, notes)
 }
 
 /// 703 and 704 at a function's head.
 fn push_head(
     alloc: Global,
     scene: &Scene<'_>,
-    effort: &Effort,
+    telling: Telling<'_, '_>,
     findings: &mut Vec<Finding>,
 ) -> Result<(), Unanswered> {
     let function = scene.function;
@@ -494,71 +501,73 @@ fn push_head(
     let lines = start_lines(alloc, function, 0, entry)?;
     let known = Known {
         scene,
+        block: BlockId(0),
         facts: facts.as_slice(),
         lines: lines.as_slice(),
-        stated: facts.len(),
+        stated: 0,
         line: function.line,
-        effort,
+        effort: telling.effort,
     };
-    push_measure(alloc, known, findings)?;
-    push_budget(alloc, known, &entry.left, findings)
+    let trying = telling.trying(known);
+    push_measure(alloc, trying, findings)?;
+    push_budget(alloc, trying, &entry.left, findings)
 }
 
 fn push_measure(
     alloc: Global,
-    known: Known<'_>,
+    trying: Trying<'_, '_>,
     findings: &mut Vec<Finding>,
 ) -> Result<(), Unanswered> {
-    let measure = &known.scene.function.measure;
+    let measure = &trying.known.scene.function.measure;
     let mut notes = String::new(alloc);
-    push_measure_notes(alloc, known, measure, &mut notes)?;
+    push_measure_notes(alloc, trying, measure, &mut notes)?;
     push_if_any(findings, 703, measure.line, notes)
 }
 
 fn push_measure_notes(
     alloc: Global,
-    known: Known<'_>,
+    trying: Trying<'_, '_>,
     measure: &Measure,
     notes: &mut String,
 ) -> Result<(), Unanswered> {
     let form = &measure.form;
-    push_low(alloc, known, "the measure is at least 0", form, notes)?;
+    push_low(alloc, trying, "the measure is at least 0", form, notes)?;
     let what = "the measure is at most its bound";
-    push_high(alloc, known, what, measure.bound, form, notes)
+    push_high(alloc, trying, what, measure.bound, form, notes)
 }
 
 fn push_budget(
     alloc: Global,
-    known: Known<'_>,
+    trying: Trying<'_, '_>,
     left: &Left,
     findings: &mut Vec<Finding>,
 ) -> Result<(), Unanswered> {
-    let budget = &known.scene.function.budget;
+    let budget = &trying.known.scene.function.budget;
     let mut notes = String::new(alloc);
-    push_budget_notes(alloc, known, budget, left, &mut notes)?;
+    push_budget_notes(alloc, trying, budget, left, &mut notes)?;
     push_if_any(findings, 704, budget.line, notes)
 }
 
 fn push_budget_notes(
     alloc: Global,
-    known: Known<'_>,
+    trying: Trying<'_, '_>,
     budget: &Budget,
     left: &Left,
     notes: &mut String,
 ) -> Result<(), Unanswered> {
-    let what = "self calls left at the entry";
+    let what = "the self calls left at the entry are within the budget";
     push_high(
         alloc,
-        known,
+        trying,
         what,
         budget.self_calls,
         &left.self_calls,
         notes,
     )?;
-    let what = "instructions left at the entry";
+    let what = "the instructions left at the entry are within the budget";
     push_high(
         alloc,
-        known,
+        trying,
         what,
         budget.instructions,
         &left.instructions,
@@ -593,11 +602,12 @@ fn push_block<'a>(
     scene: &'a Scene<'a>,
     index: usize,
     block: &'a Block,
-    effort: &'a Effort,
+    telling: Telling<'_, 'a>,
     findings: &mut Vec<Finding>,
 ) -> Result<(), Unanswered> {
+    let effort = telling.effort;
     let (table, _) = block_facts(alloc, scene.program, scene.function, index, block, effort)?;
-    push_tabled_block(alloc, &*scene, index, &*block, &table, effort, findings)
+    push_tabled_block(alloc, &*scene, index, &*block, &table, telling, findings)
 }
 
 /// Adds the faults inside a block with this table of facts.
@@ -607,43 +617,46 @@ fn push_tabled_block<'a>(
     index: usize,
     block: &'a Block,
     table: &BlockFacts,
-    effort: &'a Effort,
+    telling: Telling<'_, 'a>,
     findings: &mut Vec<Finding>,
 ) -> Result<(), Unanswered> {
     let lines = fact_lines(alloc, scene.function, index, block, table)?;
     let start = start_facts(alloc, scene.function, index, block)?;
     let known = Known {
         scene: &*scene,
+        block: BlockId(index),
         facts: start.as_slice(),
         lines: lines.as_slice(),
-        stated: start.len(),
+        stated: 0,
         line: block.line,
-        effort,
+        effort: telling.effort,
     };
-    push_known_block(alloc, known, block, table, findings)
+    push_known_block(alloc, telling.trying(known), block, table, findings)
 }
 
-/// Adds the faults inside a block, of which `known` says what is known at its start.
+/// Adds the faults inside a block, of which `trying` says what is known at its start.
 fn push_known_block(
     alloc: Global,
-    known: Known<'_>,
+    trying: Trying<'_, '_>,
     block: &Block,
     table: &BlockFacts,
     findings: &mut Vec<Finding>,
 ) -> Result<(), Unanswered> {
-    push_start(alloc, known, &block.left, findings)?;
-    push_steps(alloc, known, block, table, findings)?;
+    push_start(alloc, trying, &block.left, findings)?;
+    push_steps(alloc, trying, block, table, findings)?;
     let Some(ending) = &block.ending else {
         return Ok(());
     };
+    let known = trying.known;
     let functions = known.scene.program.functions.as_slice();
     let doing = Doing {
-        known: Known {
+        trying: trying.with_known(Known {
             facts: table.facts.as_slice(),
+            stated: table.facts.len(),
             line: ending.line,
             ..known
-        },
-        left: &block.left,
+        }),
+        block,
         work: work_of(functions, known.scene.index, block),
     };
     push_ending(alloc, doing, ending, table.edges.as_slice(), findings)
@@ -651,18 +664,19 @@ fn push_known_block(
 
 fn push_steps(
     alloc: Global,
-    known: Known<'_>,
+    trying: Trying<'_, '_>,
     block: &Block,
     table: &BlockFacts,
     findings: &mut Vec<Finding>,
 ) -> Result<(), Unanswered> {
     for (place, step) in block.steps.as_slice().iter().enumerate() {
         let facts: &[Fact] = table.at_step(place);
-        let there = Known {
+        let there = trying.with_known(Known {
             facts,
+            stated: facts.len(),
             line: step.line,
-            ..known
-        };
+            ..trying.known
+        });
         push_call(alloc, there, step, findings)?;
     }
     Ok(())
@@ -672,30 +686,56 @@ fn push_function(
     alloc: Global,
     scene: &Scene<'_>,
     table: &Table,
-    effort: &Effort,
+    telling: Telling<'_, '_>,
     findings: &mut Vec<Finding>,
 ) -> Result<(), Unanswered> {
     push_whole(alloc, scene, table, findings)?;
-    push_head(alloc, scene, effort, findings)?;
+    push_head(alloc, scene, telling, findings)?;
     for (index, block) in scene.function.blocks.as_slice().iter().enumerate() {
-        push_block(alloc, &*scene, index, &*block, &*effort, findings)?;
+        push_block(alloc, &*scene, index, &*block, telling, findings)?;
     }
     Ok(())
 }
 
-/// All faults of costs of a text whose numbers and zones are right, as far as the effort reaches.
-pub fn cost_findings(
+fn findings_of(
     alloc: Global,
     matched: &Matched,
-    effort: &Effort,
+    telling: Telling<'_, '_>,
 ) -> Result<Vec<Finding>, Unanswered> {
     let program = &matched.graph.program;
     let table = make_table(alloc, program, &matched.regions)?;
     let mut findings: Vec<Finding> = Vec::new(alloc);
     for index in 0..program.functions.len() {
         if let Some(scene) = Scene::of(alloc, program, &matched.whole, index)? {
-            push_function(alloc, &scene, &table, effort, &mut findings)?;
+            push_function(alloc, &scene, &table, telling, &mut findings)?;
         }
     }
     Ok(findings)
+}
+
+/// All faults of costs of a program whose numbers and zones are right, as far as the effort reaches: where they are, and what is not so.
+pub fn cost_findings(
+    alloc: Global,
+    matched: &Matched,
+    effort: &Effort,
+) -> Result<Vec<Finding>, Unanswered> {
+    let telling = Telling {
+        source: None,
+        effort,
+    };
+    findings_of(alloc, matched, telling)
+}
+
+/// The same of a text, each with what is known of it, and lines to try.
+pub fn told_cost_findings(
+    alloc: Global,
+    source: Source<'_>,
+    matched: &Matched,
+    effort: &Effort,
+) -> Result<Vec<Finding>, Unanswered> {
+    let telling = Telling {
+        source: Some(source),
+        effort,
+    };
+    findings_of(alloc, matched, telling)
 }

@@ -3,6 +3,8 @@
 
 mod budgets;
 mod cost;
+mod left;
+mod sums;
 
 pub use budgets::push_budgets;
-pub use cost::cost_findings;
+pub use cost::{cost_findings, told_cost_findings};

@@ -1,112 +1,18 @@
 //! Faults of numbers, each with what was to be shown.
 
-use crate::gap::{edge_known, first_facts, is_against, raised, spend};
+use crate::gap::{edge_known, first_facts, spend};
 use crate::known::{Known, fact_lines};
+use crate::missing::Missing;
 use crate::scene::Scene;
-use crate::spelling::push_inequality;
-use crate::trial::{Matched, match_text};
-use crate::unmet::{Site, Unmet, all_unmet};
-use explain_findings::{Finding, Source, line_at, push_finding, with_line_before};
-use linear::{Form, FormFault, RegisterId};
+use crate::silent::push_silent_compare;
+use crate::trial::Matched;
+use crate::tries::Trying;
+use crate::unmet::{Unmet, all_unmet};
+use explain_findings::{Finding, Source, line_at, push_found};
 use lists::OutOfMemory;
-use program::{Block, BlockId};
-use ranges::{BlockFacts, EdgeFacts, Effort, Sum, Unanswered, block_facts, sum_form};
+use program::{Block, BlockId, Instruction, Width};
+use ranges::{BlockFacts, EdgeFacts, Effort, Unanswered, block_facts};
 use std::alloc::{AllocError, Global};
-
-/// The steps that a byte of a text counts for that is judged as far as its numbers.
-const STEPS_A_BYTE: usize = 30;
-
-/// Whether a fault stands among those of the text, where one line more stands from this one on.
-fn is_old(unmet: &Unmet, old: &[Unmet], added: u32) -> bool {
-    let line = if unmet.site.line > added {
-        unmet.site.line.saturating_sub(1)
-    } else {
-        unmet.site.line
-    };
-    old.iter().any(|other| other.site.line == line && other.number == unmet.number)
-}
-
-/// What another text owes of its numbers, where the phases before take it.
-fn unmet_of(
-    alloc: Global,
-    source: Source<'_>,
-    text: &str,
-    effort: &Effort,
-) -> Result<Option<Vec<Unmet>>, Unanswered> {
-    spend(effort, text.len().saturating_mul(STEPS_A_BYTE))?;
-    match match_text(alloc, source.state, text.as_bytes(), true)? {
-        Some(matched) => Ok(Some(all_unmet(alloc, &matched, effort)?)),
-        None => Ok(None),
-    }
-}
-
-/// Whether the text with this line before that one has no fault of numbers that it did not have, and fewer of them.
-fn is_better(
-    alloc: Global,
-    source: Source<'_>,
-    old: &[Unmet],
-    line: &str,
-    before: u32,
-    effort: &Effort,
-) -> Result<bool, Unanswered> {
-    let changed = with_line_before(alloc, source.text, before, line)?;
-    match unmet_of(alloc, source, changed.as_str(), effort)? {
-        Some(new) => Ok(
-            new.len() < old.len() && new.iter().all(|unmet| is_old(unmet, old, before)),
-        ),
-        None => Ok(false),
-    }
-}
-
-/// The annotation that says what is known at the start of a block, and the line behind which it stands.
-fn start_of(scene: &Scene<'_>, block: BlockId) -> (&'static str, u32) {
-    if block.0 == 0 {
-        ("requires", scene.function.line)
-    } else {
-        ("keeps", scene.label_line(block))
-    }
-}
-
-/// An annotation to try, where the text is better with it behind a line.
-fn push_if_better(
-    alloc: Global,
-    source: Source<'_>,
-    annotation: &str,
-    after: u32,
-    old: &[Unmet],
-    effort: &Effort,
-    notes: &mut String,
-) -> Result<(), Unanswered> {
-    let before = after.saturating_add(1);
-    if is_better(alloc, source, old, annotation, before, effort)? {
-        writeln!(notes, "    try: {annotation}, after line {after}")?;
-    }
-    Ok(())
-}
-
-/// A `keeps` line of the block, or a `requires` line of its function, with which the form is shown and nothing new is owed.
-fn push_start_line(
-    alloc: Global,
-    source: Source<'_>,
-    known: Known<'_>,
-    block: BlockId,
-    form: &Form,
-    old: &[Unmet],
-    notes: &mut String,
-) -> Result<(), Unanswered> {
-    let (word, after) = start_of(known.scene, block);
-    let mut line = format!(in alloc; ";! {word} ")?;
-    push_inequality(alloc, known.scene, form, &mut line)?;
-    push_if_better(
-        alloc,
-        source,
-        line.as_str(),
-        after,
-        old,
-        known.effort,
-        notes,
-    )
-}
 
 fn push_edge_to(
     scene: &Scene<'_>,
@@ -122,7 +28,7 @@ fn push_edge_to(
 
 /// What asks it: an annotation, and where it stands on an edge the edge's target.
 fn push_asked(
-    source: Source<'_>,
+    text: &str,
     scene: &Scene<'_>,
     unmet: &Unmet,
     edge: Option<BlockId>,
@@ -131,7 +37,7 @@ fn push_asked(
     let Some(line) = unmet.asked else {
         return Ok(());
     };
-    let text = line_at(source.text, line).unwrap_or("").trim();
+    let text = line_at(text, line).unwrap_or("").trim();
     write!(notes, "  asked by line {line}: {text}")?;
     push_edge_to(scene, edge, notes)?;
     Ok(notes.push_str("\n")?)
@@ -146,101 +52,63 @@ fn push_choice_head(count: usize, notes: &mut String) -> Result<(), AllocError> 
     }
 }
 
-/// A bound so far below 0 only keeps a register off the least values of its width: of i32 the least is about twice as far.
-const FAR_BELOW: i128 = 1_000_000_000;
-
-/// That a register is not negative.
-fn not_negative(alloc: Global, register: RegisterId) -> Result<Option<Form>, OutOfMemory> {
-    match Form::from_constant(alloc, 0).plus_term(register, 1) {
-        Ok(form) => Ok(Some(form)),
-        Err(FormFault::Bounds) => Ok(None),
-        Err(FormFault::Memory) => Err(OutOfMemory),
-    }
-}
-
-/// What a reader would write in place of a form, where that is another: of a register's bound far below 0 that it is not negative.
-fn plainer(alloc: Global, form: &Form) -> Result<Option<Form>, OutOfMemory> {
-    match form.terms.as_slice() {
-        [only] if only.coefficient == 1 && form.constant >= FAR_BELOW => {
-            not_negative(alloc, only.register)
-        }
-        _ => Ok(None),
-    }
-}
-
-/// A line at the block's start that shows a form, as a reader would write it.
-fn push_mending(
-    alloc: Global,
-    source: Source<'_>,
-    known: Known<'_>,
-    block: BlockId,
-    form: &Form,
-    old: &[Unmet],
-    notes: &mut String,
-) -> Result<(), Unanswered> {
-    match plainer(alloc, form)? {
-        Some(plain) => push_if_possible(alloc, source, known, block, &plain, old, notes),
-        None => push_if_possible(alloc, source, known, block, form, old, notes),
-    }
-}
-
-/// Whether a form is known to be at most 0, so that a line that says it leaves one number at most.
-fn leaves_one(alloc: Global, known: Known<'_>, form: &Form) -> Result<bool, Unanswered> {
-    match raised(alloc, form, -1)? {
-        Some(less) => is_against(alloc, known.facts, &less, known.effort),
-        None => Ok(false),
-    }
-}
-
-/// A line at the block's start that says a form, unless that would leave no number but one.
-fn push_if_possible(
-    alloc: Global,
-    source: Source<'_>,
-    known: Known<'_>,
-    block: BlockId,
-    form: &Form,
-    old: &[Unmet],
-    notes: &mut String,
-) -> Result<(), Unanswered> {
-    if leaves_one(alloc, known, form)? {
-        Ok(())
-    } else {
-        push_start_line(alloc, source, known, block, form, old, notes)
-    }
-}
-
-fn push_choice(
-    alloc: Global,
-    source: Source<'_>,
-    known: Known<'_>,
-    site: Site,
-    sum: &Sum,
-    old: &[Unmet],
-    notes: &mut String,
-) -> Result<(), Unanswered> {
-    known.push_unshown(alloc, sum, site.line, notes)?;
-    let block = BlockId(site.block);
-    match sum_form(alloc, sum)? {
-        Some(form) => push_mending(alloc, source, known, block, &form, old, notes),
-        None => Ok(()),
-    }
-}
-
 /// Each sum of which one is to be shown.
 fn push_choices(
     alloc: Global,
-    source: Source<'_>,
-    known: Known<'_>,
+    trying: Trying<'_, '_>,
     unmet: &Unmet,
-    old: &[Unmet],
     notes: &mut String,
 ) -> Result<(), Unanswered> {
     let choices = unmet.choices.as_slice();
     push_choice_head(choices.len(), notes)?;
     for sum in choices {
-        push_choice(alloc, source, known, unmet.site, sum, old, notes)?;
+        trying.push_unshown(alloc, sum, notes)?;
     }
     Ok(())
+}
+
+/// What an instruction asks for, in words: the range of an index, or of a result that fits its width.
+fn push_range(
+    scene: &Scene<'_>,
+    instruction: &Instruction,
+    notes: &mut String,
+) -> Result<(), AllocError> {
+    match instruction {
+        Instruction::ElementPointer { object, .. } => {
+            let (sigil, name) = scene.object(*object);
+            let cells = scene.cells(*object);
+            let last = cells.saturating_sub(1);
+            writeln!(
+                notes,
+                "  {sigil}{name} has {cells} cells: the index has to be from 0 to {last}"
+            )
+        }
+        Instruction::Binary { width, .. } => {
+            let range = match width {
+                Width::Bits64 => "-9223372036854775808 to 9223372036854775807, the range of an i64",
+                Width::Bits32 => "-2147483648 to 2147483647, the range of an i32",
+            };
+            writeln!(notes, "  the result has to be from {range}")
+        }
+        _ => Ok(()),
+    }
+}
+
+/// The range that a line of the block asks for, where the rule is one of ranges.
+fn push_asked_range(
+    scene: &Scene<'_>,
+    unmet: &Unmet,
+    notes: &mut String,
+) -> Result<(), AllocError> {
+    let is_of_range = matches!(unmet.number, 501 | 503) && !unmet.choices.is_empty();
+    let Some(block) = scene.function.blocks.as_slice().get(unmet.site.block) else {
+        return Ok(());
+    };
+    let steps = block.steps.as_slice();
+    match steps.iter().find(|step| step.line == unmet.site.line) {
+        Some(step) if is_of_range => push_range(scene, &step.instruction, notes),
+        _ => Ok(()),
+    }
 }
 
 /// The edge on which something is not shown.
@@ -251,36 +119,37 @@ fn edge_of<'a>(unmet: &Unmet, table: &'a BlockFacts) -> Option<&'a EdgeFacts> {
     }
 }
 
-/// What there is to say of a place, with the block that its edge leads to.
+/// What there is to say of a place, with the block that its edge leads to; and whether it may follow from what is missing before.
 fn push_place_notes(
     alloc: Global,
-    source: Source<'_>,
-    known: Known<'_>,
+    trying: Trying<'_, '_>,
     edge: Option<BlockId>,
     unmet: &Unmet,
-    old: &[Unmet],
+    missing: &mut Missing,
     notes: &mut String,
-) -> Result<(), Unanswered> {
-    push_asked(source, known.scene, unmet, edge, notes)?;
-    push_choices(alloc, source, known, unmet, old, notes)
+) -> Result<bool, Unanswered> {
+    let known = trying.known;
+    push_asked(trying.text(), known.scene, unmet, edge, notes)?;
+    push_choices(alloc, trying, unmet, notes)?;
+    push_silent_compare(known.scene, known.block, edge, unmet, notes)?;
+    missing.take(alloc, known, unmet)
 }
 
 /// What there is to say of an edge, where this is known at the end of its block.
 fn push_edge_notes(
     alloc: Global,
-    source: Source<'_>,
-    known: Known<'_>,
+    trying: Trying<'_, '_>,
     edge: &EdgeFacts,
     unmet: &Unmet,
-    old: &[Unmet],
+    missing: &mut Missing,
     notes: &mut String,
-) -> Result<(), Unanswered> {
-    let facts = edge_known(alloc, known.facts, edge)?;
-    let there = Known {
+) -> Result<bool, Unanswered> {
+    let facts = edge_known(alloc, trying.known.facts, edge)?;
+    let there = trying.with_known(Known {
         facts: facts.as_slice(),
-        ..known
-    };
-    push_place_notes(alloc, source, there, Some(edge.to), unmet, old, notes)
+        ..trying.known
+    });
+    push_place_notes(alloc, there, Some(edge.to), unmet, missing, notes)
 }
 
 fn push_block_notes(
@@ -291,44 +160,74 @@ fn push_block_notes(
     unmet: &Unmet,
     old: &[Unmet],
     effort: &Effort,
+    missing: &mut Missing,
     notes: &mut String,
-) -> Result<(), Unanswered> {
+) -> Result<bool, Unanswered> {
     let index = unmet.site.block;
     spend(effort, block.steps.len())?;
     let (table, _) = block_facts(alloc, scene.program, scene.function, index, block, effort)?;
     let lines = fact_lines(alloc, scene.function, index, block, &table)?;
-    let known = Known {
-        scene,
-        facts: first_facts(table.facts.as_slice(), unmet.site.count),
-        lines: lines.as_slice(),
-        stated: unmet.site.count,
-        line: unmet.site.line,
-        effort,
-    };
+    let trying = Trying::beside(
+        source,
+        Known {
+            scene,
+            block: BlockId(index),
+            facts: first_facts(table.facts.as_slice(), unmet.site.count),
+            lines: lines.as_slice(),
+            stated: unmet.site.count,
+            line: unmet.site.line,
+            effort,
+        },
+        old,
+    );
     match edge_of(unmet, &table) {
-        Some(edge) => push_edge_notes(alloc, source, known, edge, unmet, old, notes),
-        None => push_place_notes(alloc, source, known, None, unmet, old, notes),
+        Some(edge) => push_edge_notes(alloc, trying, edge, unmet, missing, notes),
+        None => push_place_notes(alloc, trying, None, unmet, missing, notes),
     }
 }
 
-fn notes_of(
+/// A fault with what there is to say of it, as far as that is not said where there is more of the same line.
+fn finding_of(
     alloc: Global,
     source: Source<'_>,
     matched: &Matched,
     unmet: &Unmet,
     old: &[Unmet],
     effort: &Effort,
-) -> Result<String, Unanswered> {
-    let mut notes = String::new(alloc);
+    is_more: bool,
+    missing: &mut Missing,
+) -> Result<Finding, Unanswered> {
+    let mut found = Finding {
+        number: unmet.number,
+        line: unmet.site.line,
+        cause: None,
+        follows: false,
+        notes: String::new(alloc),
+    };
     let program = &matched.graph.program;
-    let found = Scene::of(alloc, program, &matched.whole, unmet.site.function)?;
-    if let Some(scene) = found {
-        let blocks = scene.function.blocks.as_slice();
-        if let Some(block) = blocks.get(unmet.site.block) {
-            push_block_notes(alloc, source, &scene, block, unmet, old, effort, &mut notes)?;
-        }
+    let Some(scene) = Scene::of(alloc, program, &matched.whole, unmet.site.function)? else {
+        return Ok(found);
+    };
+    let mut notes = String::new(alloc);
+    if !is_more {
+        push_asked_range(&scene, unmet, &mut notes)?;
     }
-    Ok(notes)
+    let blocks = scene.function.blocks.as_slice();
+    if let Some(block) = blocks.get(unmet.site.block) {
+        found.follows = push_block_notes(
+            alloc, source, &scene, block, unmet, old, effort, missing, &mut notes,
+        )?;
+    }
+    found.notes = notes;
+    Ok(found)
+}
+
+/// Whether a fault is at the line of the last finding, and breaks the same rule.
+fn is_of_last(findings: &[Finding], unmet: &Unmet) -> bool {
+    match findings.last() {
+        Some(last) => last.number == unmet.number && last.line == unmet.site.line,
+        None => false,
+    }
 }
 
 /// All faults of numbers of a text, as far as the effort reaches.
@@ -339,10 +238,22 @@ pub fn number_findings(
     effort: &Effort,
 ) -> Result<Vec<Finding>, Unanswered> {
     let mut findings: Vec<Finding> = Vec::new(alloc);
+    let mut missing = Missing::none(alloc);
     let all = all_unmet(alloc, matched, effort)?;
     for unmet in all.iter() {
-        let notes = notes_of(alloc, source, matched, unmet, all.as_slice(), effort)?;
-        push_finding(&mut findings, unmet.number, unmet.site.line, notes)?;
+        let old = all.as_slice();
+        let is_more = is_of_last(findings.as_slice(), unmet);
+        let found = finding_of(
+            alloc,
+            source,
+            matched,
+            unmet,
+            old,
+            effort,
+            is_more,
+            &mut missing,
+        )?;
+        push_found(&mut findings, found)?;
     }
     Ok(findings)
 }

@@ -2,7 +2,7 @@
 
 ghost use Rattle.std.specs.Prelude.{◌≡◌, ◌++◌, IfOk};
 
-use linear::{Fact, Form, FormFault};
+use linear::{Fact, Form, FormFault, Term};
 use linear_shown::{FactCursor, Known, push_copies, shown};
 use lists::OutOfMemory;
 use ranges::{EdgeFacts, Effort, Unanswered};
@@ -104,6 +104,27 @@ fn least_amount(alloc: Global, known: &Known<'_>, form: &Form) -> Result<Option<
         step = step / 2;
     }
     Ok(Some(least))
+}
+
+/// How many registers stand in a form and do not fall out of it.
+pub fn number_of_registers(form: &Form) -> usize {
+    form.terms
+        .as_slice()
+        .iter()
+        .filter(|term| term.coefficient != 0)
+        .count()
+}
+
+/// The term of a form of one register.
+pub fn only_term(form: &Form) -> Option<Term> {
+    if number_of_registers(form) != 1 {
+        return None;
+    }
+    form.terms
+        .as_slice()
+        .iter()
+        .find(|term| term.coefficient != 0)
+        .copied()
 }
 
 /// The first facts, so many of them.
@@ -226,6 +247,18 @@ fn facts_and(alloc: Global, facts: &[Fact], form: &Form) -> Result<Vec<Fact>, Ou
     Ok(more)
 }
 
+/// The facts, and others behind them.
+pub fn facts_with(
+    alloc: Global,
+    facts: &[Fact],
+    others: &[Fact],
+) -> Result<Vec<Fact>, OutOfMemory> {
+    let mut more: Vec<Fact> = Vec::new(alloc);
+    push_copies(alloc, &mut more, facts)?;
+    push_copies(alloc, &mut more, others)?;
+    Ok(more)
+}
+
 /// Whether the facts show that a form is below 0: from the two all would follow.
 pub fn is_against(
     alloc: Global,
@@ -265,7 +298,7 @@ fn plainer(alloc: Global, form: &Form) -> Result<Option<Form>, OutOfMemory> {
     }
 }
 
-/// A step from a rest, if it is one: without its number where that does.
+/// A step from a rest, if it is one: without its number where that does, and with it only where that is no bound of a width.
 fn step_of(
     alloc: Global,
     stated: &Known<'_>,
@@ -275,15 +308,15 @@ fn step_of(
     effort: &Effort,
 ) -> Result<Option<Form>, Unanswered> {
     if let Some(plain) = plainer(alloc, &rest)? {
-        if is_step(alloc, stated, facts, &plain, form, effort)? {
-            return Ok(Some(plain));
-        }
+        let is_taken = is_step(alloc, stated, facts, &plain, form, effort)?;
+        return Ok(if is_taken { Some(plain) } else { None });
     }
     let is_taken = is_step(alloc, stated, facts, &rest, form, effort)?;
     Ok(if is_taken { Some(rest) } else { None })
 }
 
-/// What the facts that are `stated` show and what makes all facts show the form: a line to write before it.
+/// What the facts that are `stated` show and what makes all facts show the form: a line to write before it. Of several the first of those with the
+/// fewest registers, 4 at most.
 pub fn step_between(
     alloc: Global,
     stated: &[Fact],
@@ -293,24 +326,52 @@ pub fn step_between(
 ) -> Result<Option<Form>, Unanswered> {
     let mut cursor = FactCursor::new(alloc, stated, effort);
     cursor.index()?;
-    first_step(alloc, &cursor.known(), facts, form, effort)
+    shortest_step(alloc, &cursor.known(), facts, form, effort)
 }
 
-/// The same beside what is stated at a place, by the first fact that serves.
-fn first_step(
+/// How many registers a line may name.
+const MOST_REGISTERS: usize = 4;
+
+/// The registers that a step may have to be shorter than the one that is found.
+fn registers_below(best: &Option<Form>) -> usize {
+    match best {
+        Some(form) => number_of_registers(form),
+        None => MOST_REGISTERS.saturating_add(1),
+    }
+}
+
+/// The same beside what is stated at a place.
+fn shortest_step(
     alloc: Global,
     stated: &Known<'_>,
     facts: &[Fact],
     form: &Form,
     effort: &Effort,
 ) -> Result<Option<Form>, Unanswered> {
+    let mut best: Option<Form> = None;
     for fact in facts {
-        if let Some(rest) = rest_of(alloc, form, fact)? {
-            let step = step_of(alloc, stated, facts, rest, form, effort)?;
-            if step.is_some() {
-                return Ok(step);
-            }
+        let limit = registers_below(&best);
+        if let Some(step) = step_by(alloc, stated, facts, fact, form, limit, effort)? {
+            best = Some(step);
         }
     }
-    Ok(None)
+    Ok(best)
+}
+
+/// The step that this fact leaves, if it has fewer registers than the limit.
+fn step_by(
+    alloc: Global,
+    stated: &Known<'_>,
+    facts: &[Fact],
+    fact: &Fact,
+    form: &Form,
+    limit: usize,
+    effort: &Effort,
+) -> Result<Option<Form>, Unanswered> {
+    match rest_of(alloc, form, fact)? {
+        Some(rest) if number_of_registers(&rest) < limit => {
+            step_of(alloc, stated, facts, rest, form, effort)
+        }
+        _ => Ok(None),
+    }
 }

@@ -1,19 +1,25 @@
 //! Notes on what is known at a place, and on what it does not show.
 
-use crate::gap::{facts_used, first_facts, is_shown, raised, shortfall, step_between};
+use crate::compare::push_test;
+use crate::gap::{
+    facts_used, first_facts, is_shown, number_of_registers, only_term, raised, shortfall,
+    step_between,
+};
 use crate::scene::Scene;
-use crate::spelling::push_inequality;
-use linear::{Fact, Form};
+use crate::spelling::{push_excess, push_inequality};
+use crate::unknown::{is_bounded, push_unbounded};
+use linear::{Fact, Form, Term};
 use lists::OutOfMemory;
-use program::{Block, Function, Inequality, RegisterId};
+use program::{Block, BlockId, Function, Inequality, RegisterId};
 use ranges::{BlockFacts, Effort, Sum, Unanswered, sum_form};
 use std::alloc::{AllocError, Global};
 
-/// The facts at a place with their lines: `line` is that of the facts after those of `lines`. The first `stated` of them are known to a
+/// The facts at a place of a block with their lines: `line` is that of the facts after those of `lines`. The first `stated` of them are known to a
 /// `shows` line at the place. What they show is asked as long as the effort reaches.
 #[derive(Clone, Copy)]
 pub struct Known<'a> {
     pub scene: &'a Scene<'a>,
+    pub block: BlockId,
     pub facts: &'a [Fact],
     pub lines: &'a [u32],
     pub stated: usize,
@@ -95,14 +101,6 @@ pub fn fact_lines(
     Ok(lines)
 }
 
-/// Whether a register stands in a form, and does not fall out of it.
-fn has_registers(form: &Form) -> bool {
-    form.terms
-        .as_slice()
-        .iter()
-        .any(|term| term.coefficient != 0)
-}
-
 fn has_register(form: &Form, register: RegisterId) -> bool {
     form.terms
         .as_slice()
@@ -116,15 +114,6 @@ fn share_register(left: &Form, right: &Form) -> bool {
         .as_slice()
         .iter()
         .any(|term| has_register(right, term.register))
-}
-
-fn push_short(out: &mut String, short: Option<i128>, unit: &str) -> Result<(), AllocError> {
-    match short {
-        Some(1) if !unit.is_empty() => write!(out, "short by 1 {unit}"),
-        Some(short) if !unit.is_empty() => write!(out, "short by {short} {unit}s"),
-        Some(short) => write!(out, "short by {short}"),
-        None => out.push_str("shown by no one or two facts"),
-    }
 }
 
 impl Known<'_> {
@@ -190,17 +179,43 @@ impl Known<'_> {
         }
     }
 
-    /// The facts that show a form, and by how much they are short of the one that it was raised from.
-    fn push_nearest_facts(
+    /// What one register may be, where it is to be bounded by a number, and the test that lets it.
+    fn push_may_be(
         &self,
-        alloc: Global,
-        nearest: &Form,
+        term: Term,
+        form: &Form,
         short: i128,
         out: &mut String,
-    ) -> Result<(), Unanswered> {
-        out.push_str("    nearest: ")?;
-        self.push_used(alloc, nearest, out)?;
-        Ok(writeln!(out, ", short of that by {short}")?)
+    ) -> Result<(), OutOfMemory> {
+        let name = self.scene.register(term.register);
+        if term.coefficient == 1 {
+            let least = 0i128.saturating_sub(form.constant);
+            let may = least.saturating_sub(short);
+            return Ok(writeln!(out, "%{name} may be {may}, and has to be at least {least}")?);
+        }
+        let may = form.constant.saturating_add(short);
+        let most = form.constant;
+        writeln!(out, "%{name} may be {may}, and has to be at most {most}")?;
+        push_test(self.scene, self.block, term.register, most, out)
+    }
+
+    /// By how much what is known is short of a form.
+    fn push_short(
+        &self,
+        alloc: Global,
+        form: &Form,
+        short: i128,
+        out: &mut String,
+    ) -> Result<(), OutOfMemory> {
+        match only_term(form) {
+            Some(term) if term.coefficient == 1 || term.coefficient == -1 => {
+                self.push_may_be(term, form, short, out)
+            }
+            _ => {
+                push_excess(alloc, self.scene, form, short, out)?;
+                Ok(out.push_str("\n")?)
+            }
+        }
     }
 
     /// The facts that come nearest to a form that they are short of by this much.
@@ -211,10 +226,36 @@ impl Known<'_> {
         short: i128,
         out: &mut String,
     ) -> Result<(), Unanswered> {
-        match raised(alloc, form, short)? {
-            Some(nearest) => self.push_nearest_facts(alloc, &nearest, short, out),
-            None => Ok(()),
+        let Some(nearest) = raised(alloc, form, short)? else {
+            return Ok(());
+        };
+        out.push_str("    nearest: ")?;
+        self.push_used(alloc, &nearest, out)?;
+        out.push_str("; ")?;
+        Ok(self.push_short(alloc, form, short, out)?)
+    }
+
+    /// Why no facts come near to a form, and what to do.
+    fn push_far(&self, form: &Form, out: &mut String) -> Result<(), AllocError> {
+        let mut is_any = false;
+        for term in form.terms.as_slice() {
+            if !is_bounded(self.facts, *term) {
+                is_any = true;
+                push_unbounded(self.scene, self.block, self.facts, *term, out)?;
+            }
         }
+        if is_any {
+            return Ok(());
+        }
+        let start = if self.block.0 == 0 {
+            "requires"
+        } else {
+            "keeps"
+        };
+        writeln!(
+            out,
+            "    no two of these facts add up to it: put `shows` lines before it that go by smaller steps, or a `{start}` line that says more"
+        )
     }
 
     /// What of the facts comes nearest to a form that they do not show.
@@ -224,70 +265,19 @@ impl Known<'_> {
         form: &Form,
         out: &mut String,
     ) -> Result<(), Unanswered> {
+        if number_of_registers(form) == 0 {
+            return Ok(out.push_str("    that is never so, whatever is known\n")?);
+        }
         match shortfall(alloc, self.facts, form, self.effort)? {
             Some(short) => self.push_nearest(alloc, form, short, out),
-            None => Ok(out.push_str(
-                "    no one or two facts add up to these registers: bring one along by `keeps`, or go by smaller steps of `shows`\n",
-            )?),
+            None => Ok(self.push_far(form, out)?),
         }
     }
 
-    fn push_try(
-        &self,
-        alloc: Global,
-        step: &Form,
-        before: u32,
-        out: &mut String,
-    ) -> Result<(), OutOfMemory> {
-        out.push_str("    try: ;! shows ")?;
-        push_inequality(alloc, self.scene, step, out)?;
-        Ok(writeln!(out, ", before line {before}")?)
-    }
-
-    /// A `shows` line with which the form is shown, where there is one.
-    fn push_step_between(
-        &self,
-        alloc: Global,
-        form: &Form,
-        before: u32,
-        out: &mut String,
-    ) -> Result<(), Unanswered> {
+    /// What a `shows` line before the place could say with which the form is shown there.
+    pub fn step_to(&self, alloc: Global, form: &Form) -> Result<Option<Form>, Unanswered> {
         let stated = first_facts(self.facts, self.stated);
-        let step = step_between(alloc, stated, self.facts, form, self.effort)?;
-        match &step {
-            Some(step) if step.terms.len() <= 4 => Ok(self.push_try(alloc, step, before, out)?),
-            _ => Ok(()),
-        }
-    }
-
-    /// How far what is known is from showing a form.
-    fn push_form_gap(
-        &self,
-        alloc: Global,
-        form: &Form,
-        unit: &str,
-        out: &mut String,
-    ) -> Result<(), Unanswered> {
-        if has_registers(form) {
-            push_inequality(alloc, self.scene, form, out)?;
-            out.push_str(" is ")?;
-        }
-        let short = shortfall(alloc, self.facts, form, self.effort)?;
-        Ok(push_short(out, short, unit)?)
-    }
-
-    /// How far what is known is from showing a sum of such units, in a few words.
-    pub fn push_gap(
-        &self,
-        alloc: Global,
-        sum: &Sum,
-        unit: &str,
-        out: &mut String,
-    ) -> Result<(), Unanswered> {
-        match sum_form(alloc, sum)? {
-            Some(form) => self.push_form_gap(alloc, &form, unit, out),
-            None => Ok(out.push_str("a number past the bounds of a form")?),
-        }
+        step_between(alloc, stated, self.facts, form, self.effort)
     }
 
     fn push_to_show(
@@ -305,13 +295,11 @@ impl Known<'_> {
         &self,
         alloc: Global,
         form: &Form,
-        before: u32,
         out: &mut String,
     ) -> Result<(), Unanswered> {
         self.push_to_show(alloc, form, out)?;
         self.push_related(alloc, form, out)?;
-        self.push_shortfall(alloc, form, out)?;
-        self.push_step_between(alloc, form, before, out)
+        self.push_shortfall(alloc, form, out)
     }
 
     /// What is to be shown at a line, what is known of it, and how near that comes.
@@ -319,12 +307,21 @@ impl Known<'_> {
         &self,
         alloc: Global,
         sum: &Sum,
-        before: u32,
         out: &mut String,
     ) -> Result<(), Unanswered> {
         match sum_form(alloc, sum)? {
-            Some(form) => self.push_unshown_form(alloc, &form, before, out),
+            Some(form) => self.push_unshown_form(alloc, &form, out),
             None => Ok(out.push_str("  to show: a form past its bounds\n")?),
         }
+    }
+}
+
+/// What is short of 0 in a sum of numbers alone.
+pub fn lack_of(alloc: Global, sum: &Sum) -> Result<Option<i128>, OutOfMemory> {
+    match sum_form(alloc, sum)? {
+        Some(form) if number_of_registers(&form) == 0 => {
+            Ok(Some(0i128.saturating_sub(form.constant)))
+        }
+        _ => Ok(None),
     }
 }

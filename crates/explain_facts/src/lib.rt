@@ -3,16 +3,22 @@
 #![tactic(auto)]
 
 mod choices;
+mod compare;
 mod gap;
 mod known;
+mod missing;
 mod scene;
+mod silent;
 mod spelling;
 mod trial;
+mod tries;
+mod unknown;
 mod unmet;
 
 pub use choices::number_findings;
-pub use gap::{edge_known, first_facts, is_against, raised, spend};
-pub use known::{Known, fact_lines, start_lines};
+pub use gap::{edge_known, first_facts, is_against, raised, shortfall, spend};
+pub use known::{Known, fact_lines, lack_of, start_lines};
 pub use scene::Scene;
 pub use spelling::{push_form, push_inequality};
 pub use trial::{Matched, match_text};
+pub use tries::Trying;

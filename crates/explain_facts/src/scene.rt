@@ -123,6 +123,26 @@ impl<'a> Scene<'a> {
         }
     }
 
+    /// The cells of an object, as the function's text declares it.
+    pub fn cells(&self, object: ObjectName) -> u64 {
+        match object {
+            ObjectName::Global(global) => match self.program.globals.as_slice().get(global.0) {
+                Some(global) => global.cells,
+                None => 0,
+            },
+            ObjectName::Alloca(alloca) => match self.function.allocas.as_slice().get(alloca.0) {
+                Some(alloca) => alloca.cells,
+                None => 0,
+            },
+            ObjectName::Parameter(register) => {
+                match self.function.parameters.as_slice().get(register.0) {
+                    Some(program::Parameter::Pointer { cells }) => *cells,
+                    Some(program::Parameter::Number) | None => 0,
+                }
+            }
+        }
+    }
+
     /// The sigil and the name of an object.
     pub fn object(&self, object: ObjectName) -> (&str, &str) {
         match object {

@@ -6,8 +6,8 @@ use linear::{Form, Term, side_of};
 use lists::OutOfMemory;
 use std::alloc::{AllocError, Global};
 
-/// A bound so far below 0 is that of a width, and stands on the side of its own.
-const FAR_BELOW: i128 = 1_000_000_000;
+/// A number so far from 0 is a bound of a width, and stands on a side of its own.
+const FAR: u128 = 1_000_000_000;
 
 /// Registers times numbers in the order of the registers' names, and a number.
 #[derive(Drop)]
@@ -121,7 +121,7 @@ pub fn push_form(
     Ok(spell(alloc, scene, form, Part::Whole)?.push_to(out)?)
 }
 
-/// That a form is at least 0: what has a minus on the lesser side, the rest on the other.
+/// That a form is at least 0: what has a minus on the lesser side, the rest on the other; a number far from 0 by itself.
 pub fn push_inequality(
     alloc: Global,
     scene: &Scene<'_>,
@@ -129,14 +129,59 @@ pub fn push_inequality(
     out: &mut String,
 ) -> Result<(), OutOfMemory> {
     let low = spell(alloc, scene, form, Part::Negative)?;
-    let mut high = spell(alloc, scene, form, Part::Positive)?;
-    if low.parts.is_empty() && high.constant >= FAR_BELOW {
-        let bound = high.constant;
-        high.constant = 0;
-        high.push_to(out)?;
-        return Ok(write!(out, " >= -{bound}")?);
+    let high = spell(alloc, scene, form, Part::Positive)?;
+    if low.parts.is_empty() && high.parts.is_empty() || form.constant.unsigned_abs() < FAR {
+        return Ok(push_sides(&low, &high, out)?);
     }
-    Ok(push_sides(&low, &high, out)?)
+    if high.parts.is_empty() {
+        return Ok(push_bounded(low, " <= ", form.constant, out)?);
+    }
+    let whole = spell(alloc, scene, form, Part::Whole)?;
+    let bound = 0i128.saturating_sub(form.constant);
+    Ok(push_bounded(whole, " >= ", bound, out)?)
+}
+
+/// Registers beside a number that bounds them.
+fn push_bounded(
+    registers: Spelled<'_>,
+    relation: &str,
+    bound: i128,
+    out: &mut String,
+) -> Result<(), AllocError> {
+    let Spelled { parts, .. } = registers;
+    let registers = Spelled { parts, constant: 0 };
+    registers.push_to(out)?;
+    write!(out, "{relation}{bound}")
+}
+
+/// How far the sides of an inequality may be from where they are to be: by so much.
+pub fn push_excess(
+    alloc: Global,
+    scene: &Scene<'_>,
+    form: &Form,
+    amount: i128,
+    out: &mut String,
+) -> Result<(), OutOfMemory> {
+    let low = spell(alloc, scene, form, Part::Negative)?;
+    let high = spell(alloc, scene, form, Part::Positive)?;
+    if low.parts.is_empty() {
+        push_beside(&high, amount, "less", &low, out)
+    } else {
+        push_beside(&low, amount, "more", &high, out)
+    }
+}
+
+/// That one side may be so much less or more than the other.
+fn push_beside(
+    side: &Spelled<'_>,
+    amount: i128,
+    than: &str,
+    other: &Spelled<'_>,
+    out: &mut String,
+) -> Result<(), OutOfMemory> {
+    side.push_to(out)?;
+    write!(out, " may be {amount} {than} than ")?;
+    Ok(other.push_to(out)?)
 }
 
 fn push_sides(low: &Spelled<'_>, high: &Spelled<'_>, out: &mut String) -> Result<(), AllocError> {

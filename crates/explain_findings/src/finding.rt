@@ -10,6 +10,8 @@ pub struct Finding {
     pub line: u32,
     /// Which of the rule's causes it is, where the rule has several and the line says which.
     pub cause: Option<&'static str>,
+    /// Whether it may follow from an earlier one: without that one's fault it would be none either.
+    pub follows: bool,
     /// Lines that end with LF.
     pub notes: String,
 }
@@ -21,24 +23,34 @@ pub struct Source<'a> {
     pub state: RandomState,
 }
 
-/// Adds a fault, or what there is to say of it to the last one, if that is the same.
+/// Adds a fault that stands for itself, or what there is to say of it to the last one, if that is the same.
 pub fn push_finding(
     findings: &mut Vec<Finding>,
     number: u16,
     line: u32,
     notes: String,
 ) -> Result<(), OutOfMemory> {
+    push_found(
+        findings,
+        Finding {
+            number,
+            line,
+            cause: None,
+            follows: false,
+            notes,
+        },
+    )
+}
+
+/// Adds a fault, or what there is to say of it to the last one, if that is the same. Both together follow from an earlier one only if each does.
+pub fn push_found(findings: &mut Vec<Finding>, found: Finding) -> Result<(), OutOfMemory> {
     if let Some(last) = findings.last_mut() {
-        if last.number == number && last.line == line {
-            last.notes.push_str(notes.as_str())?;
+        if last.number == found.number && last.line == found.line {
+            last.notes.push_str(found.notes.as_str())?;
+            last.follows = last.follows && found.follows;
             return Ok(());
         }
     }
-    findings.push(Finding {
-        number,
-        line,
-        cause: None,
-        notes,
-    })?;
+    findings.push(found)?;
     Ok(())
 }

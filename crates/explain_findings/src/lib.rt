@@ -11,7 +11,7 @@ mod note;
 mod row;
 mod word;
 
-pub use finding::{Finding, Source, push_finding};
-pub use lines::{line_at, lines_before, with_line_at, with_line_before};
+pub use finding::{Finding, Source, push_finding, push_found};
+pub use lines::{line_at, lines_before, push_indented, with_line_at, with_line_before};
 pub use note::name_finding;
 pub use word::word_findings;

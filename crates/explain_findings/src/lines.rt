@@ -8,6 +8,14 @@ fn push_line(out: &mut String, line: &str) -> Result<(), AllocError> {
     out.push_str("\n")
 }
 
+/// Adds lines, each of which begins with this more.
+pub fn push_indented(out: &mut String, lines: &str, indent: &str) -> Result<(), AllocError> {
+    for line in lines.lines() {
+        writeln!(out, "{indent}{line}")?;
+    }
+    Ok(())
+}
+
 /// The line of this number, without its LF.
 pub fn line_at(text: &str, number: u32) -> Option<&str> {
     let mut at: u32 = 0;

@@ -199,6 +199,7 @@ pub fn name_finding(
         number,
         line,
         cause,
+        follows: false,
         notes,
     })
 }

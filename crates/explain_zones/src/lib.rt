@@ -1,7 +1,12 @@
-//! Faults of zones, each with what is touched and the zones that stand beside it.
+//! Faults of zones, each with what is touched, the zones that stand beside it, and lines to try.
 #![tactic(auto)]
 
 mod access;
+mod cover;
+mod found;
+mod passing;
+mod spot;
+mod widen;
 mod zone_text;
 
 pub use access::zone_findings;

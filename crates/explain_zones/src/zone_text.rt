@@ -1,13 +1,13 @@
 //! How zones are spelled where they are judged, and why one covers another not.
 
-use explain_facts::{Known, Scene, push_form};
+use explain_facts::{Scene, Trying, is_against, lack_of, push_form};
 use explain_findings::line_at;
 use footprints::{PlacedZone, mode_covers, same_object};
 use linear::{Form, side_of};
 use lists::{OutOfMemory, Seq};
 use program::{Mode, Zone};
 use ranges::{Move, Sum, Unanswered, push_parts, sum_form};
-use std::alloc::Global;
+use std::alloc::{AllocError, Global};
 
 pub fn mode_word(mode: Mode) -> &'static str {
     match mode {
@@ -27,7 +27,11 @@ pub fn as_written(zone: &Zone) -> PlacedZone<'_> {
 }
 
 /// A form with what phis or arguments put in for its registers.
-fn placed_form(alloc: Global, moves: &[Move], form: &Form) -> Result<Option<Form>, OutOfMemory> {
+pub fn placed_form(
+    alloc: Global,
+    moves: &[Move],
+    form: &Form,
+) -> Result<Option<Form>, OutOfMemory> {
     let side = side_of(form);
     let mut parts = Vec::new(alloc);
     push_parts(&mut parts, moves, 1, side.terms)?;
@@ -91,61 +95,68 @@ fn push_candidate(text: &str, line: u32, out: &mut String) -> Result<(), OutOfMe
     Ok(writeln!(out, "    line {line}, {words}")?)
 }
 
-/// A line on how far what is known is from showing a sum.
-fn push_gap_line(
-    alloc: Global,
-    known: Known<'_>,
-    what: &str,
-    sum: &Sum,
-    out: &mut String,
-) -> Result<(), Unanswered> {
-    out.push_str(what)?;
-    known.push_gap(alloc, sum, "cell", out)?;
-    Ok(out.push_str("\n")?)
+/// So many cells.
+fn push_cells(count: i128, out: &mut String) -> Result<(), AllocError> {
+    let plural = if count == 1 { "" } else { "s" };
+    write!(out, "{count} cell{plural}")
 }
 
-/// An end of a zone, where it is not shown to reach as far.
+/// An end of a zone, where it is not shown to reach as far: by how many cells, or what is to be shown.
 fn push_end(
     alloc: Global,
-    known: Known<'_>,
-    what: &str,
+    trying: Trying<'_, '_>,
+    moves: &str,
+    too: &str,
     sum: &Sum,
     out: &mut String,
 ) -> Result<(), Unanswered> {
-    if known.shows(alloc, sum)? {
-        Ok(())
-    } else {
-        push_gap_line(alloc, known, what, sum, out)
+    if trying.known.shows(alloc, sum)? {
+        return Ok(());
+    }
+    match lack_of(alloc, sum)? {
+        Some(lack) => {
+            write!(out, "      it {moves}s ")?;
+            push_cells(lack, out)?;
+            Ok(writeln!(out, " {too}")?)
+        }
+        None => {
+            writeln!(out, "      it may {moves} {too}")?;
+            trying.push_detail(alloc, sum, "      ", out)
+        }
     }
 }
 
 fn push_low_end(
     alloc: Global,
-    known: Known<'_>,
+    trying: Trying<'_, '_>,
     z: &PlacedZone<'_>,
     y: &PlacedZone<'_>,
     out: &mut String,
 ) -> Result<(), Unanswered> {
     let low = between(alloc, y.moves, &y.zone.low, z.moves, &z.zone.low)?;
-    push_end(alloc, known, "      its low end: ", &low, out)
+    push_end(alloc, trying, "begin", "too late", &low, out)
 }
 
 fn push_high_end(
     alloc: Global,
-    known: Known<'_>,
+    trying: Trying<'_, '_>,
     z: &PlacedZone<'_>,
     y: &PlacedZone<'_>,
     out: &mut String,
 ) -> Result<(), Unanswered> {
     let high = between(alloc, z.moves, &z.zone.high, y.moves, &y.zone.high)?;
-    push_end(alloc, known, "      its high end: ", &high, out)
+    push_end(alloc, trying, "end", "too early", &high, out)
 }
 
 /// A mode that a zone's own does not let.
 fn push_mode(own: Mode, wanted: Mode, out: &mut String) -> Result<(), OutOfMemory> {
     if !mode_covers(own, wanted) {
         let mode = mode_word(wanted);
-        writeln!(out, "      its mode does not let {mode}")?;
+        let own = mode_word(own);
+        writeln!(
+            out,
+            "      it has the cells for `{own}`, and not for `{mode}`"
+        )?;
     }
     Ok(())
 }
@@ -153,8 +164,7 @@ fn push_mode(own: Mode, wanted: Mode, out: &mut String) -> Result<(), OutOfMemor
 /// Why `z`, which stands on a line of the text, does not cover `y`. Says nothing of another object.
 pub fn push_why_not(
     alloc: Global,
-    text: &str,
-    known: Known<'_>,
+    trying: Trying<'_, '_>,
     z: &PlacedZone<'_>,
     y: &PlacedZone<'_>,
     out: &mut String,
@@ -162,42 +172,74 @@ pub fn push_why_not(
     if !same_object(z.object, y.object) {
         return Ok(false);
     }
-    push_candidate(text, z.zone.line, out)?;
+    push_candidate(trying.text(), z.zone.line, out)?;
     push_mode(z.zone.mode, y.zone.mode, out)?;
-    push_low_end(alloc, known, z, y, out)?;
-    push_high_end(alloc, known, z, y, out)?;
+    push_low_end(alloc, trying, z, y, out)?;
+    push_high_end(alloc, trying, z, y, out)?;
     Ok(true)
 }
 
-/// What would have to be shown for one zone to begin behind another.
+/// What would have to be shown for one zone to begin behind another, unless that is known not to be so.
 fn push_behind(
     alloc: Global,
-    known: Known<'_>,
+    trying: Trying<'_, '_>,
     what: &str,
-    later: &PlacedZone<'_>,
-    earlier: &PlacedZone<'_>,
+    room: &Sum,
     out: &mut String,
 ) -> Result<(), Unanswered> {
-    let room = between(
-        alloc,
-        later.moves,
-        &later.zone.low,
-        earlier.moves,
-        &earlier.zone.high,
-    )?;
-    push_gap_line(alloc, known, what, &room, out)
+    let known = trying.known;
+    let is_possible = match sum_form(alloc, room)? {
+        Some(form) => !is_against(alloc, known.facts, &form, known.effort)?,
+        None => false,
+    };
+    if is_possible {
+        writeln!(out, "      apart from it if {what}")?;
+        trying.push_detail(alloc, room, "      ", out)?;
+    }
+    Ok(())
+}
+
+/// By how many cells what is touched is not apart from a zone, where that is a number whatever is known.
+fn push_shared(
+    alloc: Global,
+    room: &Sum,
+    does: &str,
+    place: &str,
+    out: &mut String,
+) -> Result<(), OutOfMemory> {
+    if let Some(lack) = lack_of(alloc, room)? {
+        write!(out, "      what is touched {does} ")?;
+        push_cells(lack, out)?;
+        writeln!(out, " {place}")?;
+    }
+    Ok(())
 }
 
 /// What would have to be shown for two zones to be apart.
 pub fn push_why_beside(
     alloc: Global,
-    text: &str,
-    known: Known<'_>,
+    trying: Trying<'_, '_>,
     z: &PlacedZone<'_>,
     y: &PlacedZone<'_>,
     out: &mut String,
 ) -> Result<(), Unanswered> {
-    push_candidate(text, z.zone.line, out)?;
-    push_behind(alloc, known, "      to end before it: ", z, y, out)?;
-    push_behind(alloc, known, "      to begin after it: ", y, z, out)
+    push_candidate(trying.text(), z.zone.line, out)?;
+    let before = between(alloc, z.moves, &z.zone.low, y.moves, &y.zone.high)?;
+    let after = between(alloc, y.moves, &y.zone.low, z.moves, &z.zone.high)?;
+    push_shared(alloc, &before, "ends", "behind where it begins", out)?;
+    push_shared(alloc, &after, "begins", "before where it ends", out)?;
+    push_behind(
+        alloc,
+        trying,
+        "what is touched ends before it begins",
+        &before,
+        out,
+    )?;
+    push_behind(
+        alloc,
+        trying,
+        "what is touched begins where it ends",
+        &after,
+        out,
+    )
 }

@@ -1,0 +1,371 @@
+//! What is said of a block without a `left` line, and the line that would do.
+
+use crate::sums::{Counted, Share, amount, less_sum, plus_sum, put_in};
+use cost_table::Work;
+use explain_facts::{Scene, Trying, push_form};
+use linear::{Fact, Form, FormFault, RegisterId};
+use lists::{OutOfMemory, Seq};
+use program::{Block, Function, Instruction, Step};
+use ranges::{Sum, Unanswered, sum_form};
+use std::alloc::Global;
+
+/// A number that no coefficient of a form reaches: 2^24.
+const FACTOR_LIMIT: u64 = 16_777_216;
+
+/// What comes next behind a block, on one of its ways: what is left at no place, at one, or at both targets of a detach.
+#[derive(Clone, Copy)]
+pub struct Need<'a> {
+    first: Option<Share<'a>>,
+    second: Option<Share<'a>>,
+}
+
+impl<'a> Need<'a> {
+    pub fn nothing() -> Need<'a> {
+        Need {
+            first: None,
+            second: None,
+        }
+    }
+
+    pub fn one(share: Share<'a>) -> Need<'a> {
+        Need {
+            first: Some(share),
+            second: None,
+        }
+    }
+
+    pub fn two(first: Share<'a>, second: Share<'a>) -> Need<'a> {
+        Need {
+            first: Some(first),
+            second: Some(second),
+        }
+    }
+}
+
+/// A block without a `left` line, with what it does.
+#[derive(Clone, Copy)]
+struct Bare<'s, 'a> {
+    trying: Trying<'s, 'a>,
+    block: &'a Block,
+    work: Work,
+}
+
+/// A form of what is to be left, in words.
+#[derive(Drop)]
+struct Wanted {
+    self_calls: Form,
+    instructions: Form,
+}
+
+/// Whether an instruction defines the register.
+fn defines(step: &Step, defined: RegisterId) -> bool {
+    match &step.instruction {
+        Instruction::Binary { register, .. }
+        | Instruction::Compare { register, .. }
+        | Instruction::Convert { register, .. }
+        | Instruction::Alloca { register, .. }
+        | Instruction::ElementPointer { register, .. }
+        | Instruction::Load { register, .. }
+        | Instruction::StartRegion { register } => *register == defined,
+        Instruction::Call { register, .. } => *register == Some(defined),
+        Instruction::Store { .. }
+        | Instruction::StoreZeros { .. }
+        | Instruction::AtomicAdd { .. } => false,
+    }
+}
+
+/// The number of times that a fact takes a register out of a form, with the coefficients that it has in both; 0 where none does.
+fn cancelling(in_form: i64, in_fact: i64) -> i64 {
+    if in_fact == 1 {
+        0i64.saturating_sub(in_form)
+    } else if in_fact == -1 {
+        in_form
+    } else {
+        0
+    }
+}
+
+/// A form that is at least this one and does not name the register, by a fact about it.
+fn by_fact(
+    alloc: Global,
+    form: &Form,
+    register: RegisterId,
+    fact: &Fact,
+) -> Result<Option<Form>, OutOfMemory> {
+    let in_form = coefficient(form, register);
+    let in_fact = coefficient(&fact.form, register);
+    let factor = cancelling(in_form, in_fact);
+    if factor <= 0 {
+        return Ok(None);
+    }
+    if factor.unsigned_abs() >= FACTOR_LIMIT {
+        return Ok(None);
+    }
+    match form.copy(alloc)?.plus_multiple(factor, &fact.form) {
+        Ok(form) => Ok(Some(form)),
+        Err(FormFault::Bounds) => Ok(None),
+        Err(FormFault::Memory) => Err(OutOfMemory),
+    }
+}
+
+/// The coefficient that a register has in a form.
+fn coefficient(form: &Form, register: RegisterId) -> i64 {
+    let terms = form.terms.as_slice();
+    match terms.iter().find(|term| term.register == register) {
+        Some(term) => term.coefficient,
+        None => 0,
+    }
+}
+
+/// A form that is at least this one and does not name the register, by the first fact that lets it.
+fn without_register(
+    alloc: Global,
+    form: Form,
+    register: RegisterId,
+    facts: &[Fact],
+) -> Result<Form, OutOfMemory> {
+    for fact in facts {
+        if let Some(other) = by_fact(alloc, &form, register, fact)? {
+            return Ok(other);
+        }
+    }
+    Ok(form)
+}
+
+/// The register that a step defines, where a form names it.
+fn named_by(step: &Step, form: &Form) -> Option<RegisterId> {
+    let mut terms = form.terms.as_slice().iter();
+    match terms.find(|term| term.coefficient != 0 && defines(step, term.register)) {
+        Some(term) => Some(term.register),
+        None => None,
+    }
+}
+
+/// A sum and what is left at a place.
+fn plus_share(
+    alloc: Global,
+    sum: Sum,
+    counted: Counted,
+    share: &Share<'_>,
+) -> Result<Sum, OutOfMemory> {
+    let next = put_in(alloc, share.moves, counted.of_left(share.left))?;
+    plus_sum(sum, &next)
+}
+
+/// Whether a block has a `left` line: where it has none, what is left stands on the label's own.
+fn has_left(function: &Function, share: &Share<'_>) -> bool {
+    match function.blocks.as_slice().get(share.to.0) {
+        Some(block) => block.left.line != block.line,
+        None => false,
+    }
+}
+
+/// What is left at a place behind a block, or that the place has no line for that.
+fn push_share(
+    alloc: Global,
+    scene: &Scene<'_>,
+    share: &Share<'_>,
+    out: &mut String,
+) -> Result<(), OutOfMemory> {
+    let label = scene.label(share.to);
+    if !has_left(scene.function, share) {
+        return Ok(writeln!(
+            out,
+            "    behind it comes %{label}, which has no `left` line either"
+        )?);
+    }
+    write!(out, "    behind it comes %{label}, with `left ")?;
+    push_form(alloc, scene, &share.left.self_calls, out)?;
+    out.push_str(" ")?;
+    push_form(alloc, scene, &share.left.instructions, out)?;
+    Ok(out.push_str("`\n")?)
+}
+
+impl Bare<'_, '_> {
+    fn scene(&self) -> &Scene<'_> {
+        self.trying.known.scene
+    }
+
+    /// What is to be left for what the block does and for what comes next.
+    fn needed(
+        &self,
+        alloc: Global,
+        counted: Counted,
+        need: Need<'_>,
+    ) -> Result<Option<Form>, OutOfMemory> {
+        let mut sum = Sum {
+            constant: amount(counted.of_work(self.work)),
+            parts: Seq::new(alloc),
+        };
+        if let Some(share) = &need.first {
+            sum = plus_share(alloc, sum, counted, share)?;
+        }
+        if let Some(share) = &need.second {
+            sum = plus_share(alloc, sum, counted, share)?;
+        }
+        sum_form(alloc, &sum)
+    }
+
+    /// A form at the block's start that is at least this one at its end: without the registers that the block defines.
+    fn at_start(&self, alloc: Global, form: Form) -> Result<Form, OutOfMemory> {
+        let mut form = form;
+        for step in self.block.steps.as_slice().iter().rev() {
+            if let Some(register) = named_by(step, &form) {
+                form = without_register(alloc, form, register, self.trying.known.facts)?;
+            }
+        }
+        Ok(form)
+    }
+
+    /// What is to be left at the block's start for one of the ways behind it.
+    fn wanted(&self, alloc: Global, need: Need<'_>) -> Result<Option<Wanted>, OutOfMemory> {
+        let self_calls = self.needed(alloc, Counted::SelfCalls, need)?;
+        let instructions = self.needed(alloc, Counted::Instructions, need)?;
+        let (Some(self_calls), Some(instructions)) = (self_calls, instructions) else {
+            return Ok(None);
+        };
+        Ok(Some(Wanted {
+            self_calls: self.at_start(alloc, self_calls)?,
+            instructions: self.at_start(alloc, instructions)?,
+        }))
+    }
+
+    /// Whether one form is known to be at least another.
+    fn is_at_least(&self, alloc: Global, high: &Form, low: &Form) -> Result<bool, Unanswered> {
+        let difference = less_sum(put_in(alloc, &[], high)?, &put_in(alloc, &[], low)?)?;
+        self.trying.known.shows(alloc, &difference)
+    }
+
+    /// Whether what one way wants is enough for another one.
+    fn is_enough(&self, alloc: Global, one: &Wanted, other: &Wanted) -> Result<bool, Unanswered> {
+        Ok(
+            self.is_at_least(alloc, &one.self_calls, &other.self_calls)?
+                && self.is_at_least(alloc, &one.instructions, &other.instructions)?,
+        )
+    }
+
+    /// What is enough for all ways behind the block, where one of them wants as much as each.
+    fn most_wanted(&self, alloc: Global, needs: &[Need<'_>]) -> Result<Option<Wanted>, Unanswered> {
+        let mut most: Option<Wanted> = None;
+        for need in needs {
+            let Some(wanted) = self.wanted(alloc, *need)? else {
+                return Ok(None);
+            };
+            most = match most {
+                None => Some(wanted),
+                Some(other) => match self.more_wanted(alloc, other, wanted)? {
+                    Some(more) => Some(more),
+                    None => return Ok(None),
+                },
+            };
+        }
+        Ok(most)
+    }
+
+    /// Of two the one that is enough for both.
+    fn more_wanted(
+        &self,
+        alloc: Global,
+        one: Wanted,
+        other: Wanted,
+    ) -> Result<Option<Wanted>, Unanswered> {
+        if self.is_enough(alloc, &one, &other)? {
+            Ok(Some(one))
+        } else if self.is_enough(alloc, &other, &one)? {
+            Ok(Some(other))
+        } else {
+            Ok(None)
+        }
+    }
+
+    /// A `left` line of the block that is enough, if the text can have it.
+    fn push_line(
+        &self,
+        alloc: Global,
+        wanted: &Wanted,
+        out: &mut String,
+    ) -> Result<(), Unanswered> {
+        let mut line = String::from_str(alloc, ";! left ")?;
+        push_form(alloc, self.scene(), &wanted.self_calls, &mut line)?;
+        line.push_str(" ")?;
+        push_form(alloc, self.scene(), &wanted.instructions, &mut line)?;
+        let after = self.block.line;
+        if self.trying.is_line(alloc, line.as_str(), after)? {
+            writeln!(out, "    try: {line}, after line {after}")?;
+        }
+        Ok(())
+    }
+
+    /// What the block does, for which nothing is left.
+    fn push_head(&self, out: &mut String) -> Result<(), OutOfMemory> {
+        let label = self.scene().label(self.trying.known.block);
+        let instructions = self.work.instructions;
+        let plural = if instructions == 1 { "" } else { "s" };
+        write!(
+            out,
+            "  %{label} has no `left` line, so nothing is left there: it does {instructions} instruction{plural}"
+        )?;
+        if self.work.calls > 0 {
+            let calls = self.work.calls;
+            let plural = if calls == 1 { "" } else { "s" };
+            write!(out, " and {calls} self call{plural}")?;
+        }
+        Ok(out.push_str("\n")?)
+    }
+
+    /// What comes next on each way; false where something of it has no `left` line itself.
+    fn push_shares(
+        &self,
+        alloc: Global,
+        shares: &[Share<'_>],
+        out: &mut String,
+    ) -> Result<bool, OutOfMemory> {
+        let mut is_whole = true;
+        for share in shares {
+            push_share(alloc, self.scene(), share, out)?;
+            is_whole = is_whole && has_left(self.scene().function, share);
+        }
+        Ok(is_whole)
+    }
+}
+
+/// The places behind a block.
+fn shares_of<'a>(alloc: Global, needs: &[Need<'a>]) -> Result<Vec<Share<'a>>, OutOfMemory> {
+    let mut shares: Vec<Share<'a>> = Vec::new(alloc);
+    for need in needs {
+        if let Some(share) = need.first {
+            shares.push(share)?;
+        }
+        if let Some(share) = need.second {
+            shares.push(share)?;
+        }
+    }
+    Ok(shares)
+}
+
+/// Says that the block has no `left` line, what it does and what comes next on each of its ways, and a line that would do.
+pub fn push_missing_left(
+    alloc: Global,
+    trying: Trying<'_, '_>,
+    block: &Block,
+    work: Work,
+    needs: &[Need<'_>],
+    out: &mut String,
+) -> Result<(), Unanswered> {
+    let bare = Bare {
+        trying,
+        block,
+        work,
+    };
+    bare.push_head(out)?;
+    let shares = shares_of(alloc, needs)?;
+    if !bare.push_shares(alloc, shares.as_slice(), out)? {
+        return Ok(out.push_str(
+            "    begin with the last blocks; in a loop `tapirvm annotate` finds the lines where the counter has bounds\n",
+        )?);
+    }
+    match bare.most_wanted(alloc, needs)? {
+        Some(wanted) => bare.push_line(alloc, &wanted, out),
+        None => Ok(()),
+    }
+}

@@ -1,0 +1,116 @@
+//! Compares that give no facts on an edge, as unsigned ones.
+
+use crate::scene::Scene;
+use crate::unmet::Unmet;
+use program::{Block, BlockId, Instruction, Operand, RegisterId, Step, Terminator};
+use ranges::Sum;
+use std::alloc::AllocError;
+use syntax::Predicate;
+
+/// The signed predicate to write for one that gives no facts where it comes out so; none where it gives some.
+fn signed_for(predicate: Predicate, outcome: bool) -> Option<&'static str> {
+    match predicate {
+        Predicate::UnsignedLess | Predicate::NotEqual => Some("slt"),
+        Predicate::UnsignedAtMost => Some("sle"),
+        Predicate::UnsignedGreater => Some("sgt"),
+        Predicate::UnsignedAtLeast => Some("sge"),
+        Predicate::Equal if !outcome => Some("sge"),
+        _ => None,
+    }
+}
+
+/// The condition of the branch by which a block leads to another one, and how it comes out there.
+fn condition_to(block: &Block, to: BlockId) -> Option<(RegisterId, bool)> {
+    match &block.ending {
+        Some(ending) => match &ending.terminator {
+            Terminator::Branch {
+                condition,
+                when_true,
+                ..
+            } => Some((*condition, *when_true == to)),
+            _ => None,
+        },
+        None => None,
+    }
+}
+
+fn is_compare(step: &Step, outcome: RegisterId) -> bool {
+    match &step.instruction {
+        Instruction::Compare { register, .. } => *register == outcome,
+        _ => false,
+    }
+}
+
+/// Whether a sum names the operand, if that is a register.
+fn is_named(sum: &Sum, operand: Operand) -> bool {
+    match operand {
+        Operand::Register(_) => sum
+            .parts
+            .as_slice()
+            .iter()
+            .any(|part| part.operand == operand),
+        Operand::Number(_) => false,
+    }
+}
+
+/// Whether what is not shown is about one of these operands.
+fn is_about(unmet: &Unmet, left: Operand, right: Operand) -> bool {
+    unmet
+        .choices
+        .as_slice()
+        .iter()
+        .any(|sum| is_named(sum, left) || is_named(sum, right))
+}
+
+/// The signed predicate to write for a compare that gives no facts where it comes out so, if it tests what is not shown.
+fn signed_in_place_of(step: &Step, outcome: bool, unmet: &Unmet) -> Option<&'static str> {
+    match &step.instruction {
+        Instruction::Compare {
+            predicate,
+            left,
+            right,
+            ..
+        } if is_about(unmet, *left, *right) => signed_for(*predicate, outcome),
+        _ => None,
+    }
+}
+
+/// Says of the compare by which a block leads to another one that it gives no facts there, if it tests what is not shown.
+fn push_compare(
+    block: &Block,
+    to: BlockId,
+    unmet: &Unmet,
+    out: &mut String,
+) -> Result<(), AllocError> {
+    let Some((condition, outcome)) = condition_to(block, to) else {
+        return Ok(());
+    };
+    let mut steps = block.steps.as_slice().iter();
+    let Some(step) = steps.find(|step| is_compare(step, condition)) else {
+        return Ok(());
+    };
+    match signed_in_place_of(step, outcome, unmet) {
+        Some(word) => {
+            let line = step.line;
+            writeln!(
+                out,
+                "    the compare in line {line} gives no facts on this edge: a signed one does, as `icmp {word}`"
+            )
+        }
+        None => Ok(()),
+    }
+}
+
+/// Says of the compare by which an edge is taken that it gives no facts there, if it tests what is not shown.
+pub fn push_silent_compare(
+    scene: &Scene<'_>,
+    at: BlockId,
+    edge: Option<BlockId>,
+    unmet: &Unmet,
+    out: &mut String,
+) -> Result<(), AllocError> {
+    match (scene.function.blocks.as_slice().get(at.0), edge) {
+        (Some(block), Some(to)) => push_compare(block, to, unmet, out),
+        _ => Ok(()),
+    }
+}

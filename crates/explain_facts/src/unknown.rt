@@ -1,0 +1,147 @@
+//! Registers that no fact bounds from the side that is asked for: why that is, and what to do.
+
+use crate::scene::Scene;
+use linear::{Fact, Term};
+use program::{BlockId, Function, FunctionId, Instruction, Program, RegisterId, Step};
+use std::alloc::AllocError;
+use syntax::BinaryOperator;
+
+/// Whether two coefficients bound a register from the same side.
+fn is_same_side(a: i64, b: i64) -> bool {
+    a > 0 && b > 0 || a < 0 && b < 0
+}
+
+/// Whether a fact bounds the register of a term from the side from which the term does.
+fn is_bounded_by(fact: &Fact, term: Term) -> bool {
+    fact.form.terms.as_slice().iter().any(|other| other.register == term.register
+        && is_same_side(other.coefficient, term.coefficient))
+}
+
+/// Whether one of the facts bounds the register of a term from the side from which the term does. Where none does, no facts add up to a form with it.
+pub fn is_bounded(facts: &[Fact], term: Term) -> bool {
+    term.coefficient == 0 || facts.iter().any(|fact| is_bounded_by(fact, term))
+}
+
+/// Whether a fact names the register.
+fn is_named_by(fact: &Fact, register: RegisterId) -> bool {
+    fact.form
+        .terms
+        .as_slice()
+        .iter()
+        .any(|term| term.register == register && term.coefficient != 0)
+}
+
+/// Whether an instruction makes a number in this register.
+fn makes(step: &Step, made: RegisterId) -> bool {
+    match &step.instruction {
+        Instruction::Binary { register, .. }
+        | Instruction::Convert { register, .. }
+        | Instruction::Load { register, .. } => *register == made,
+        Instruction::Call { register, .. } => *register == Some(made),
+        _ => false,
+    }
+}
+
+/// The instruction that makes a number in this register, and its block.
+fn maker_of(function: &Function, made: RegisterId) -> Option<(BlockId, &Step)> {
+    for (index, block) in function.blocks.as_slice().iter().enumerate() {
+        let mut steps = block.steps.as_slice().iter();
+        if let Some(step) = steps.find(|step| makes(step, made)) {
+            return Some((BlockId(index), step));
+        }
+    }
+    None
+}
+
+/// What an operation makes, as far as that gives no facts.
+fn operation_words(operator: BinaryOperator, is_here: bool) -> Option<&'static str> {
+    match operator {
+        BinaryOperator::Add | BinaryOperator::Subtract | BinaryOperator::Multiply => {
+            Some("made without `nsw`, so that it may wrap: with `nsw` it gives facts")
+        }
+        BinaryOperator::SignedDivide | BinaryOperator::SignedRemainder if is_here => {
+            Some("made by a division: it gives facts where the dividend is shown to be at least 0")
+        }
+        BinaryOperator::UnsignedDivide
+        | BinaryOperator::UnsignedRemainder
+        | BinaryOperator::ShiftLeft
+        | BinaryOperator::LogicalShiftRight
+        | BinaryOperator::ArithmeticShiftRight
+        | BinaryOperator::Or
+        | BinaryOperator::ExclusiveOr => Some(
+            "made by an operation that gives no facts: bound it by an `and` with a mask, or by a signed compare, a branch and a `keeps` line where that leads",
+        ),
+        _ => None,
+    }
+}
+
+/// Whether a function says anything of what it returns.
+fn has_ensures(program: &Program, function: FunctionId) -> bool {
+    match program.functions.as_slice().get(function.0) {
+        Some(function) => !function.guarantees.is_empty(),
+        None => false,
+    }
+}
+
+/// What an instruction makes, as far as that gives no facts; none where it may have given some in another block.
+fn made_words(program: &Program, step: &Step, is_here: bool) -> Option<&'static str> {
+    match &step.instruction {
+        Instruction::Load { .. } => Some(
+            "loaded: bound it by an `and` with a mask, or by a signed compare, a branch and a `keeps` line where that leads",
+        ),
+        Instruction::Binary { operator, .. } => operation_words(*operator, is_here),
+        Instruction::Call { callee, .. } => if is_here || !has_ensures(program, *callee) {
+            Some("the result of a call: an `ensures` line of the callee has to bound it")
+        } else {
+            None
+        },
+        _ => None,
+    }
+}
+
+/// What makes a register that is asked for in a block, as far as that gives no facts.
+fn maker_words(scene: &Scene<'_>, block: BlockId, register: RegisterId) -> Option<&'static str> {
+    match maker_of(scene.function, register) {
+        Some((made_in, step)) => made_words(scene.program, step, made_in == block),
+        None => None,
+    }
+}
+
+/// That nothing bounds the register of a term from its side.
+fn push_what(
+    scene: &Scene<'_>,
+    facts: &[Fact],
+    term: Term,
+    out: &mut String,
+) -> Result<(), AllocError> {
+    let name = scene.register(term.register);
+    if !facts.iter().any(|fact| is_named_by(fact, term.register)) {
+        return write!(out, "    nothing is known of %{name}");
+    }
+    let side = if term.coefficient > 0 {
+        "below"
+    } else {
+        "above"
+    };
+    write!(out, "    nothing bounds %{name} from {side}")
+}
+
+/// That nothing bounds the register of a term from its side, and what to do.
+pub fn push_unbounded(
+    scene: &Scene<'_>,
+    block: BlockId,
+    facts: &[Fact],
+    term: Term,
+    out: &mut String,
+) -> Result<(), AllocError> {
+    push_what(scene, facts, term, out)?;
+    if let Some(words) = maker_words(scene, block, term.register) {
+        return writeln!(out, ", which is {words}");
+    }
+    if block.0 == 0 {
+        return out.push_str(": bound it by `requires`\n");
+    }
+    out.push_str(
+        " in this block: a `keeps` line behind its label brings along what is known before it\n",
+    )
+}
