@@ -164,6 +164,19 @@ impl Gate for Stopping {
     }
 }
 
+/// Would stop a run before its first strand, but is not to be called.
+struct Asleep;
+
+impl Gate for Asleep {
+    fn pass(&self, _worker: u8, _strand: u64) -> Go {
+        Go::Stop
+    }
+
+    fn watches(&self) -> bool {
+        false
+    }
+}
+
 /// Whether a run on so many workers is stopped.
 fn is_stopped<R: Threads + Wait + Clock + Sync>(
     rt: &R,
@@ -228,7 +241,15 @@ fn answer_stop<R: AllocGlobal + Files + Threads + Wait + Clock + Sync>(
     let is_one = is_stopped(rt, rt.alloc(), &long, &[50_000], 1);
     report.holds("a gate stops a run of one worker", is_one)?;
     let is_two = is_stopped(rt, rt.alloc(), &long, &[50_000], 2);
-    report.holds("a gate stops a run of two", is_two)
+    report.holds("a gate stops a run of two", is_two)?;
+    let wanted = (50_000, 200_005, 1);
+    let has_one = comes_to(rt, rt.alloc(), &long, &[50_000], 1, &Asleep, wanted);
+    report.holds(
+        "one that does not watch stops no run of one worker",
+        has_one,
+    )?;
+    let has_two = comes_to(rt, rt.alloc(), &long, &[50_000], 2, &Asleep, wanted);
+    report.holds("nor one of two", has_two)
 }
 
 /// Answers the cases of runs.

@@ -7,13 +7,13 @@ ghost use Rattle.shared_run.specs.Story.{origin};
 ghost use Rattle.deque_pool_alone.specs.UnderWay.{IsRefusal};
 
 use crate::gate::{Gate, Go};
-use deque_pool_alone::LoneRun;
+use deque_pool_alone::{LoneRun, run_unwatched};
 use lists::OutOfMemory;
 use shared_run::{Finished, Memory, RunFault, Verified};
 use std::alloc::Global;
 use std::sync::Wait;
 
-/// Runs a module on one worker, strand by strand, each after its gate.
+/// Runs a module on one worker, strand by strand, each after its gate; as a whole where the gate does not watch.
 ///
 /// # Errors
 ///
@@ -31,6 +31,9 @@ pub(crate) fn run_alone<G: Gate, R: Wait>(
     ensures met { OnOk result (unmet_in verified.now arguments.now ≡ None) }
     ensures refused { IfErr result (IsRefusal verified.now arguments.now memory) }
 {
+    if !gate.watches() {
+        return run_unwatched(alloc, verified, arguments, memory);
+    }
     let mut run = LoneRun::begin(alloc, verified, arguments, memory)?;
     let mut strand: u64 = 0;
     for _ in rt.forever() {

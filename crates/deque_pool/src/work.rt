@@ -2,7 +2,7 @@
 ghost use Rattle.std.specs.Prelude.{◌≡◌, ◌↔◌};
 
 use crate::demand::Demand;
-use crate::gate::{Gate, Go};
+use crate::gate::{Gate, Go, pass};
 use crate::locking::{locked, pause};
 use crate::outlook::Left;
 use crate::turns::{Posted, Turn, go, load, post};
@@ -58,7 +58,7 @@ pub(crate) fn work<L: Bench, G: Gate, R: Wait>(
         match next {
             Next::Strand => {
                 rests = 0;
-                next = match gate.pass(me, worker.figures.count_strand()) {
+                next = match pass(gate, me, worker.figures.count_strand()) {
                     Go::On => do_strand(rt, shared, demand, worker),
                     Go::Stop => Next::Leave(Left::Stopped),
                 };

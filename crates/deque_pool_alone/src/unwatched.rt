@@ -1,0 +1,29 @@
+ghost use Rattle.std.specs.Prelude.{◌≡◌, IfErr, IfOk, None, OnOk};
+ghost use Rattle.outcome.specs.Requirements.{unmet_in};
+ghost use Rattle.outcome.specs.store.Made.{HasGlobalCells};
+ghost use Rattle.serial_machine.specs.Promise.{EndsWithinBudget};
+ghost use Rattle.deque_pool_alone.specs.UnderWay.{IsRefusal};
+
+use outcome::{Finished, Memory, RunFault, Verified};
+use serial_machine::serial_run;
+use std::alloc::Global;
+
+/// The run of one worker alone where nobody sees its strands, which then need not be told apart: it is the serial run.
+///
+/// # Errors
+///
+/// 801 where the arguments are not those of `main`; the memory is handed back. 803 where memory is refused.
+#[tactic(auto, using(crate::proofs::Unwatched::ended, crate::proofs::Unwatched::met, crate::proofs::Unwatched::refusal))]
+pub fn run_unwatched(
+    alloc: Global,
+    verified: &Verified,
+    arguments: &[i64],
+    memory: Memory,
+) -> Result<Finished, RunFault>
+    requires cells { HasGlobalCells verified.now memory }
+    ensures ends { IfOk result (EndsWithinBudget verified.now arguments.now memory) }
+    ensures met { OnOk result (unmet_in verified.now arguments.now ≡ None) }
+    ensures refused { IfErr result (IsRefusal verified.now arguments.now memory) }
+{
+    serial_run(alloc, verified, arguments, memory)
+}
