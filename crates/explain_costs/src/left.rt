@@ -50,7 +50,7 @@ struct Bare<'s, 'a> {
     work: Work,
 }
 
-/// A form of what is to be left, in words.
+/// What is to be left at a place: the two forms of a `left` line.
 #[derive(Drop)]
 struct Wanted {
     self_calls: Form,
