@@ -14,4 +14,4 @@ mod standing;
 pub use cells::{Change, Read, Stop, StrandCells, Written};
 pub use law::accesses_are_strands;
 pub use outside::Strand;
-pub use standing::{Course, MOST, Pause};
+pub use standing::{Course, MOST, Pause, copy_frame};

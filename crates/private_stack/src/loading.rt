@@ -10,9 +10,9 @@ ghost use Rattle.private_stack.specs.OwnCells.{segment_of};
 
 use crate::cells::PileCells;
 use crate::pile::{Base, Pile};
-use frame_engine::{Frame, Place, blank};
+use frame_engine::{Frame, blank};
 use lists::OutOfMemory;
-use private_stack_log::PageLog;
+use private_stack_log::{PageLog, copy_frame};
 use std::alloc::Global;
 
 /// Room for so many phi moves.
@@ -24,24 +24,13 @@ fn spare_words(alloc: Global, count: usize) -> Result<Vec<i64>, OutOfMemory>
     Ok(words)
 }
 
-/// Makes the frame a copy of the other.
-fn copy_frame(target: &mut Frame, source: &Frame) -> Result<(), OutOfMemory>
+/// Makes the frame a copy of the other, with room for it.
+fn become_copy(target: &mut Frame, source: &Frame) -> Result<(), OutOfMemory>
     ensures { OnOk result (IsCopy source.now target.new) }
 {
     target.registers.clear();
-    target
-        .registers
-        .extend_from_slice(source.registers.as_slice())?;
-    target.function = source.function;
-    target.place = Place {
-        block: source.place.block,
-        index: source.place.index,
-    };
-    target.home = source.home;
-    target.made = source.made;
-    target.waits = source.waits;
-    target.role = source.role;
-    target.depth = source.depth;
+    target.registers.reserve(source.registers.len())?;
+    copy_frame(target, source);
     Ok(())
 }
 
@@ -102,8 +91,8 @@ impl Pile {
     {
         self.base.path.clear();
         self.base.path.extend_from_slice(path)?;
-        copy_frame(&mut self.base.frame, frame)?;
-        copy_frame(&mut self.top, frame)?;
+        become_copy(&mut self.base.frame, frame)?;
+        become_copy(&mut self.top, frame)?;
         self.spare.append(&mut self.below)?;
         self.base.childless = childless;
         self.done = 0;
