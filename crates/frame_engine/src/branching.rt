@@ -1,4 +1,4 @@
-ghost use Rattle.std.specs.Prelude.{◌≡◌, ◌<◌, Bool, Some, cond, length, slice_get};
+ghost use Rattle.std.specs.Prelude.{◌≡◌, ◌<◌, Bool, Some, cond, length, slice_get, slice_set};
 ghost use Rattle.semantics.specs.Frames as frames;
 ghost use Rattle.semantics.specs.Effect.{with_phis};
 ghost use Rattle.program.specs.declared.function.Block.{Block};
@@ -9,7 +9,7 @@ ghost use Rattle.frame_engine.specs.Fits.{EdgeFits};
 ghost use Rattle.frame_engine.specs.Shows.{Layout, ShowsRegisters};
 
 use crate::entering::enter_along;
-use crate::words::register;
+use crate::words::{define, register};
 use frame_code::BlockCode;
 use program::{Block, BlockId, RegisterId};
 
@@ -65,6 +65,40 @@ pub fn branch(
         enter_along(regs, moves, blocks, from, &code.first);
         code.first.target
     } else {
+        enter_along(regs, moves, blocks, from, &code.second);
+        code.second.target
+    }
+}
+
+/// Gives the register the truth, and goes along the first edge, or the second. Each side has code of its own, so no word is made of the truth first.
+#[inline(always)]
+pub fn branch_by(
+    regs: &mut [i64],
+    moves: &mut [i64],
+    blocks: &[Block],
+    from: BlockId,
+    code: &BlockCode,
+    test: RegisterId,
+    holds: bool,
+) -> BlockId
+    requires register { test.0 < length regs.old }
+    requires first { EdgeFits (sizes (length regs.old) 0 0) (length moves.old) from.0 blocks.now code.now.first.target.0 }
+    requires second { EdgeFits (sizes (length regs.old) 0 0) (length moves.old) from.0 blocks.now code.now.second.target.0 }
+    requires first_moves { code.now.first.moves ≡ moves_into from.0 (slice_get blocks.now code.now.first.target.0) }
+    requires second_moves { code.now.second.moves ≡ moves_into from.0 (slice_get blocks.now code.now.second.target.0) }
+    ensures length { length regs.new ≡ length regs.old }
+    ensures moves { length moves.new ≡ length moves.old }
+    ensures target { result ≡ cond holds code.now.first.target code.now.second.target }
+    ensures there { result.0 < length blocks.now }
+    ensures entered { (l : Layout) (r s : frames.Registers) (b : Block) → slice_get blocks.now result.0 ≡ Some b
+        → ShowsRegisters l r (slice_set regs.old test.0 (word_of holds)) → with_phis r from.0 b.phis r ≡ Some s → ShowsRegisters l s regs.new }
+{
+    if holds {
+        define(regs, test, 1);
+        enter_along(regs, moves, blocks, from, &code.first);
+        code.first.target
+    } else {
+        define(regs, test, 0);
         enter_along(regs, moves, blocks, from, &code.second);
         code.second.target
     }
