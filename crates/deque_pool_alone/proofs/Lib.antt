@@ -1,3 +1,3 @@
 pub mod OnWay
 pub mod Stopping
-pub mod Unwatched
+pub mod Answering

@@ -13,7 +13,7 @@ use std::alloc::Global;
 /// # Errors
 ///
 /// 801 where the arguments are not those of `main`; the memory is handed back. 803 where memory is refused.
-#[tactic(auto, using(crate::proofs::Unwatched::ended, crate::proofs::Unwatched::met, crate::proofs::Unwatched::refusal))]
+#[tactic(auto, using(crate::proofs::Answering::ended, crate::proofs::Answering::met, crate::proofs::Answering::refusal))]
 pub fn run_unwatched(
     alloc: Global,
     verified: &Verified,
