@@ -1,5 +1,5 @@
 -- What a serial run answers, as an answer of one worker alone: by whether the arguments are taken.
-use Rattle.std.proofs.Common.{◌≡◌, ℕ, List, ℤ, Option, Some, None, refl, sym, subst, ◌∙◌}
+use Rattle.std.proofs.Common.{◌≡◌, ℕ, List, ℤ, Option, Some, None, refl, sym, subst}
 use Rattle.std.specs.Prelude.{Result, Ok, Err, IfOk, IfErr, OnOk}
 use Rattle.program.specs.declared.function.Program.{Program}
 use Rattle.outcome.specs.Requirements.{unmet_in}
@@ -12,7 +12,7 @@ use Rattle.deque_pool_alone.specs.UnderWay.{IsRefusal}
 
 module _ (program : Program) (arguments : List ℤ) (memory : List NamedCells) where
   -- all three clauses
-  Answers : Result Finished RunFault → Type 0
+  abbrev Answers : Result Finished RunFault → Type 0
   Answers r = IfOk r (EndsWithinBudget program arguments memory) × OnOk r (unmet_in program arguments ≡ None) × IfErr r (IsRefusal program arguments memory)
 
   taken : (r : Result Finished RunFault) → unmet_in program arguments ≡ None → EndsOrLacksMemory program arguments memory r → Answers r
