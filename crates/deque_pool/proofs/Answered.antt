@@ -1,6 +1,6 @@
 -- What one worker alone answers, and why it has no answer.
 use Rattle.std.proofs.Common.{◌≡◌, ℕ, List, ℤ, Option, Some, refl, subst, arith}
-use Rattle.std.specs.Prelude.{None, Result, Ok, Err, IfErr, IfSome, OnOk}
+use Rattle.std.specs.Prelude.{None, Result, Ok, Err, IfErr, IfOk, IfSome, OnOk}
 use Rattle.semantics.specs.SerialMeaning.{Gave}
 use Rattle.program.specs.declared.function.Program.{Program}
 use Rattle.shared_run.specs.outcome.Serially.{memory_of_globals}
@@ -34,6 +34,11 @@ answered_by p program a arguments m memory workers same_program same_arguments s
     let f : EndsWithinBudget program a m done = subst (λ (x : Program). EndsWithinBudget x a m done) same_program e in
     let g : EndsWithinBudget program arguments m done = subst (λ (x : List ℤ). EndsWithinBudget program x m done) same_arguments f in
     answered program arguments memory workers done (subst (λ (x : List NamedCells). EndsWithinBudget program arguments x done) same_memory g)
+
+pub answered_whole : (program : Program) (arguments : List ℤ) (memory : List NamedCells) (workers : ℕ) (result : Result Finished RunFault) →
+    IfOk result (EndsWithinBudget program arguments memory) → IfOk result (IsSerialAnswer (origin program arguments memory workers))
+answered_whole program arguments memory workers (Ok done) ends = answered program arguments memory workers done ends
+answered_whole program arguments memory workers (Err fault) ends = tt
 
 -- ---- why it has none
 

@@ -18,6 +18,7 @@ use std::sync::Wait;
 /// # Errors
 ///
 /// 801 where the arguments are not those of `main`; the memory is handed back. 803 where memory is refused. 804 where the gate stops the run.
+#[tactic(auto, using(crate::proofs::Answered::answered_whole))]
 pub(crate) fn run_alone<G: Gate, R: Wait>(
     rt: &R,
     alloc: Global,
