@@ -6,7 +6,7 @@ pub begin-requires-clause-cells : goal.begin-requires-clause-cells
 begin-requires-clause-cells g c = made_cells c.args.verified.now c.args.memory c.requires.made
 
 pub run_unwatched-requires : goal.run_unwatched-requires
-run_unwatched-requires g c = made_cells c.args.verified.now c.args.memory c.requires.made
+run_unwatched-requires g c = record { cells = made_cells c.args.verified.now c.args.memory c.requires.made }
 
 pub returns-in-Ok-Some-clause-answer : goal.returns-in-Ok-Some-clause-answer
 returns-in-Ok-Some-clause-answer g c =
