@@ -41,7 +41,7 @@ unstuck f (Call d g vs) free h = h
 unstuck f (Reattach r) free h = h
 unstuck f (Return v) free h = h
 
-pub placed : (l : Layout) (prog : Program) (places : Places) (s : Segment) (d : DeepStrand) (x : Pile) (i : Item) → ShowsPile l prog places s d x → item_here prog x.top ≡ Some i → item_at prog d.top.frame.function d.top.frame.block d.top.frame.index ≡ Some i
+pub placed : (l : Layout) (prog : Program) (places : Places) (s : Segment) (d : DeepStrand) (x : Pile) (i : Item) → ShowsPile l prog places s d x → item_here prog x.top.value ≡ Some i → item_at prog d.top.frame.function d.top.frame.block d.top.frame.index ≡ Some i
 placed l prog places s d x i h e = let t = h.top.shown in (λ j. item_at prog (t.function j) (t.block j) (t.index j)) ∙ e
 
 module _ (prog : Program) (l : Layout) (s : Segment) (d : DeepStrand) (can : CanGo prog l s d) where

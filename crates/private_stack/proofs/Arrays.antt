@@ -1,5 +1,6 @@
 -- An array store takes a pile on.
 use Rattle.std.proofs.Common.{◌≡◌, ◌≢◌, ◌∙◌, ℕ, ◌+◌, ◌<◌, zero, suc, refl, ap, sym, subst, arith, Bool, true, false, ℤ, pos, ◌+ℤ◌, Option, Some, None}
+use Rattle.std.specs.Box.{with_value}
 use Rattle.std.specs.Prelude.{IsSome}
 use Rattle.std.specs.Option.{option_map}
 use Rattle.std.specs.Ordering.{int_eq}
@@ -7,7 +8,7 @@ use Rattle.std.proofs.lemmas.Bool.Decides.{Decides-int_eq}
 use Rattle.semantics.specs.Arithmetic.{wrapped}
 use Rattle.syntax.specs.declared.operator.Width.TheVariants.{Bits64}
 use Rattle.semantics.specs.Paths.{Path}
-use Rattle.semantics.specs.Cells.{Cell, Memory, Object}
+use Rattle.semantics.specs.Cells.{Memory, Object}
 use Rattle.semantics.specs.Frames.{Does, Frame, first_cell, item_at, object_at}
 use Rattle.semantics.specs.Effect.{Plain, action_of, given, item_action, stores_zeros}
 use Rattle.semantics.specs.State as state
@@ -30,15 +31,15 @@ use Rattle.frame_engine.proofs.Texts.{behind_step, frame_stands, located}
 use Rattle.private_stack_log.proofs.frame_strand.Walking.{one_way}
 use Rattle.private_stack_log.specs.frame_strand.declared.cells.Change.TheVariants.{Stored}
 use Rattle.private_stack_log.specs.frame_strand.declared.cells.Stop.{Stop}
-use Rattle.private_stack_log.specs.Logs.{IsWider, Log, has_place, is_open}
+use Rattle.private_stack_log.specs.Logs.{IsWider, Log, is_open}
 use Rattle.private_stack_log.specs.Tables.{Table, log_of}
 use Rattle.private_stack_log.proofs.Opening.{has_place_open, open_changed}
 use Rattle.serial_stack.specs.Shown.{item_here}
 use Rattle.laws_stacks.specs.Deep.{DeepStrand, IsDeep}
 use Rattle.laws_stacks.specs.Footprint.{Footprint}
-use Rattle.private_stack.specs.Kept.{ShowsKept, ShowsLog, write_of}
+use Rattle.private_stack.specs.Kept.{ShowsLog, write_of}
 use Rattle.private_stack.specs.Layouts.{Segment}
-use Rattle.private_stack.specs.OwnCells.{CanStore, CellsDo, CellsRefuse, DoBy, RefuseBy, any_cell, may_be, own_cell, segment_of}
+use Rattle.private_stack.specs.OwnCells.{CanStore, CellsDo, CellsRefuse, DoBy, RefuseBy, any_cell, may_be, own_cell}
 use Rattle.private_stack.specs.Shown.{CanGo, Deeper, GoesOn, ShowsPile, Stands}
 use Rattle.private_stack.specs.declared.cells.PileCells.{PileCells}
 use Rattle.private_stack.specs.declared.pile.Pile.{Pile}
@@ -128,7 +129,7 @@ never_refused at count x c stop can why =
 -- ---- the array store
 
 module _ (prog : Program) (places : Places) (x : Pile) (l : Layout) (s : Segment) (d : DeepStrand) (is : IsDeep prog d) (h : ShowsPile l prog places s d x) (can : CanGo prog l s d) (name : ObjectName) (count : ℕ)
-    (item : item_here prog x.top ≡ Some (Does (instruction.StoreZeros count name)))
+    (item : item_here prog x.top.value ≡ Some (Does (instruction.StoreZeros count name)))
   where
     abbrev k : Layout
     k = go.k prog places x l s d is h can
@@ -139,18 +140,18 @@ module _ (prog : Program) (places : Places) (x : Pile) (l : Layout) (s : Segment
     pub safe_now : Safe prog (go.k prog places x l s d is h can) d.top.path d.top.frame (go.now prog places x l s d is h can)
     safe_now = go.stays prog places x l s d is h can 0 d.top.frame (go.now prog places x l s d is h can) here
 
-    pub safe_store : SafeSomewhere (bases_in places x.top) (any_cell x.cells) (may_be x.cells) x.top.registers.items (instruction.StoreZeros count name)
+    pub safe_store : SafeSomewhere (bases_in places x.top.value) (any_cell x.cells) (may_be x.cells) x.top.value.registers.items (instruction.StoreZeros count name)
     safe_store = record {
       prog = prog;
       layout = k;
       path = d.top.path;
       frame = d.top.frame;
       memory = go.now prog places x l s d is h can;
-      shown = shows_all k places (bases_in places x.top) d.top.path d.top.frame (go.now prog places x l s d is h can) x.top (any_cell x.cells) (may_be x.cells) x.top.registers.items refl refl h.top.shown (go.cells prog places x l s d is h can);
+      shown = shows_all k places (bases_in places x.top.value) d.top.path d.top.frame (go.now prog places x l s d is h can) x.top.value (any_cell x.cells) (may_be x.cells) x.top.value.registers.items refl refl h.top.shown (go.cells prog places x l s d is h can);
       safe = safe_for prog k d.top.path d.top.frame (go.now prog places x l s d is h can) (instruction.StoreZeros count name) safe_now place;
     }
 
-    module _ (stands : FrameFits prog x.top) (b : PileCells) (f : machine.Frame) (only : f ≡ record x.top { place = record { block = x.top.place.block; index = x.top.place.index + 1 } })
+    module _ (stands : FrameFits prog x.top.value) (b : PileCells) (f : machine.Frame) (only : f ≡ record x.top.value { place = record { block = x.top.value.place.block; index = x.top.value.place.index + 1 } })
         (led : LedFrame prog (go.k prog places x l s d is h can) places d.top.path d.top.frame (go.now prog places x l s d is h can) 0 1 (any_cell b) (may_be b) f)
         (did : ZeroedOf CellsDo (go.k prog places x l s d is h can) d.top.frame name count x.cells b)
       where
@@ -161,10 +162,10 @@ module _ (prog : Program) (places : Places) (x : Pile) (l : Layout) (s : Segment
 
         behind : FrameFits prog f
         behind =
-            let at = located prog x.top.function.0 x.top.place.block.0 x.top.place.index (Does (instruction.StoreZeros count name)) item in
+            let at = located prog x.top.value.function.0 x.top.value.place.block.0 x.top.value.place.index (Does (instruction.StoreZeros count name)) item in
             subst (FrameFits prog) (sym only)
-            (frame_stands prog (record x.top { place = record { block = x.top.place.block; index = x.top.place.index + 1 } }) at.function at.is (stands.registers at.function at.is)
-            (behind_step prog x.top.function.0 x.top.place.block.0 x.top.place.index (instruction.StoreZeros count name) at))
+            (frame_stands prog (record x.top.value { place = record { block = x.top.value.place.block; index = x.top.value.place.index + 1 } }) at.function at.is (stands.registers at.function at.is)
+            (behind_step prog x.top.value.function.0 x.top.value.place.block.0 x.top.value.place.index (instruction.StoreZeros count name) at))
 
         counted : LedFrame prog (go.k prog places x l s d is h can) places d.top.path d.top.frame (go.now prog places x l s d is h can) x.done (x.done + 1) (any_cell b) (may_be b) f
         counted = record {
@@ -188,17 +189,17 @@ module _ (prog : Program) (places : Places) (x : Pile) (l : Layout) (s : Segment
             (subst (λ (g : Frame). go.Went prog places x l s d is h can 1 g led.memory b) same.0
             (subst (λ (y : Memory). go.Went prog places x l s d is h can 1 (state.went d.top.frame e) y b) same.1 (went_zeros prog places x l s d is h can name count b did act)))
 
-        only_place : f ≡ record x.top { place = f.place; registers = f.registers }
-        only_place = only ∙ sym (λ i. record x.top { place = (only i).place; registers = (only i).registers })
+        only_place : f ≡ record x.top.value { place = f.place; registers = f.registers }
+        only_place = only ∙ sym (λ i. record x.top.value { place = (only i).place; registers = (only i).registers })
 
-        pub array_goes : (j : Pile) → j ≡ record x { top = record f { waits = wait.Nothing }; done = x.done + 1; cells = b; moves = j.moves } → Deeper l prog places s d j
+        pub array_goes : (j : Pile) → j ≡ record x { top = with_value x.top (record f { waits = wait.Nothing }); done = x.done + 1; cells = b; moves = j.moves } → Deeper l prog places s d j
         unfolding counted
         array_goes j e =
             (goes_free prog places x l s d is h can engine_pause.Limit f (x.done + 1) b only_place behind tt counted went (λ none. (omega (arith, none))) j e).0
 
 -- ---- after a place was made for each cell
 
-module _ (prog : Program) (places : Places) (x : Pile) (name : ObjectName) (count : ℕ) (item : item_here prog x.top ≡ Some (Does (instruction.StoreZeros count name))) (b : PileCells) (only : b ≡ record x.cells { log = b.log })
+module _ (prog : Program) (places : Places) (x : Pile) (name : ObjectName) (count : ℕ) (item : item_here prog x.top.value ≡ Some (Does (instruction.StoreZeros count name))) (b : PileCells) (only : b ≡ record x.cells { log = b.log })
     (wide : IsWider (log_of x.cells.log) (log_of b.log))
   where
     abbrev y : Pile
@@ -207,19 +208,19 @@ module _ (prog : Program) (places : Places) (x : Pile) (name : ObjectName) (coun
     pub reserved_goes : GoesOn prog places x (record x { cells = b })
     reserved_goes = subst (λ (c : PileCells). GoesOn prog places x (record x { cells = c })) (sym only) (wider_goes prog places x b.log wide)
 
-    pub reserved_safe : Stands prog places x → SafeSomewhere (bases_in places x.top) (any_cell b) (may_be b) x.top.registers.items (instruction.StoreZeros count name)
+    pub reserved_safe : Stands prog places x → SafeSomewhere (bases_in places x.top.value) (any_cell b) (may_be b) x.top.value.registers.items (instruction.StoreZeros count name)
     reserved_safe w =
         let v = wider_stands prog places x b.log wide w in
-        subst (λ (c : PileCells). SafeSomewhere (bases_in places x.top) (any_cell c) (may_be c) x.top.registers.items (instruction.StoreZeros count name)) (sym only)
+        subst (λ (c : PileCells). SafeSomewhere (bases_in places x.top.value) (any_cell c) (may_be c) x.top.value.registers.items (instruction.StoreZeros count name)) (sym only)
         (safe_store prog places y v.layout v.segment v.strand v.is v.shown v.can name count item)
 
     -- what the engine says of an array store from these cells
     abbrev pub Says : (Layout → Path → Frame → Memory → Type 0) → PileCells → Type 0
     Says P c =
-        (l : Layout) (p : Path) (g : Frame) (m : Memory) → ShowsFrame l places p g x.top → ShowsCells l (any_cell c) (may_be c) m → item_at prog g.function g.block g.index ≡ Some (Does (instruction.StoreZeros count name)) →
+        (l : Layout) (p : Path) (g : Frame) (m : Memory) → ShowsFrame l places p g x.top.value → ShowsCells l (any_cell c) (may_be c) m → item_at prog g.function g.block g.index ≡ Some (Does (instruction.StoreZeros count name)) →
         Safe prog l p g m → P l p g m
 
-    pub never_stops : (at : ℤ) → IsFirst (bases_in places x.top) x.top.registers.items name at → ((i : ℕ) → i < count → CanStore b (wrapped Bits64 (at +ℤ pos i))) → (c : PileCells) (stop : Stop) →
+    pub never_stops : (at : ℤ) → IsFirst (bases_in places x.top.value) x.top.value.registers.items name at → ((i : ℕ) → i < count → CanStore b (wrapped Bits64 (at +ℤ pos i))) → (c : PileCells) (stop : Stop) →
         Says (λ l p g m. (o : Object) × (object_at g name ≡ Some o) × ZeroingRefused CellsDo CellsRefuse (address l (first_cell o)) count b c stop) b → Stands prog places x → ⊥
     never_stops at first can c stop says w =
         let v = wider_stands prog places x b.log wide w in
@@ -231,12 +232,12 @@ module _ (prog : Program) (places : Places) (x : Pile) (name : ObjectName) (coun
         let safe = safe_now prog places y v.layout v.segment d v.is v.shown v.can name count item in
         let (o, names, why) = says k d.top.path d.top.frame m v.shown.top.shown cells there safe in
         let sound = safe_for prog k d.top.path d.top.frame m (instruction.StoreZeros count name) safe there in
-        let at_is : at ≡ address k (first_cell o) = first_is k (bases_in places x.top) x.top.registers.items d.top.frame name at o v.shown.top.shown.bases v.shown.top.shown.registers sound.whole first names in
+        let at_is : at ≡ address k (first_cell o) = first_is k (bases_in places x.top.value) x.top.value.registers.items d.top.frame name at o v.shown.top.shown.bases v.shown.top.shown.registers sound.whole first names in
         never_refused at count b c stop can (subst (λ (a : ℤ). ZeroingRefused CellsDo CellsRefuse a count b c stop) (sym at_is) why)
 
-    pub array_done : FrameFits prog x.top → (c : PileCells) (f : machine.Frame) → f ≡ record x.top { place = record { block = x.top.place.block; index = x.top.place.index + 1 } } →
+    pub array_done : FrameFits prog x.top.value → (c : PileCells) (f : machine.Frame) → f ≡ record x.top.value { place = record { block = x.top.value.place.block; index = x.top.value.place.index + 1 } } →
         Says (λ l p g m. LedFrame prog l places p g m 0 1 (any_cell c) (may_be c) f) b → Says (λ l p g m. ZeroedOf CellsDo l g name count b c) b →
-        (j : Pile) → j ≡ record x { top = record f { waits = wait.Nothing }; done = x.done + 1; cells = c; moves = j.moves } → GoesOn prog places x j
+        (j : Pile) → j ≡ record x { top = with_value x.top (record f { waits = wait.Nothing }); done = x.done + 1; cells = c; moves = j.moves } → GoesOn prog places x j
     array_done stands c f only_f leads zeroes j e l s d is h can =
         let shown = wider_shown prog places x b.log wide l s d h in
         let k = go.k prog places y l s d is shown can in

@@ -1,5 +1,5 @@
 -- A base that is loaded is a deep strand that has done nothing yet.
-use Rattle.std.proofs.Common.{◌≡◌, ◌≤◌, ◌+◌, ℕ, ℤ, pos, Bool, List, [], length, reverse, refl, ap, sym, ◌∙◌, subst, arith, Vec, Global}
+use Rattle.std.proofs.Common.{◌≡◌, ◌≤◌, ◌+◌, ℕ, pos, Bool, List, [], length, reverse, refl, ap, sym, ◌∙◌, subst, arith}
 use Rattle.program.specs.declared.function.Program.{Program}
 use Rattle.frame.specs.Reading.{wait_of}
 use Rattle.frame_engine.specs.declared.activation.Frame.{Frame}
@@ -16,6 +16,7 @@ use Rattle.private_stack.specs.Along.{GoesDeep, IsUnderWay, MayBegin}
 use Rattle.private_stack.specs.Layouts.{Segment}
 use Rattle.private_stack.specs.OwnCells.{segment_of}
 use Rattle.private_stack.specs.Kept.{ShowsKept, ShowsLog}
+use Rattle.serial_stack.specs.Shown.{unboxed}
 use Rattle.private_stack.specs.Shown.{ShowsBelow}
 use Rattle.private_stack.specs.declared.cells.PileCells.{PileCells}
 use Rattle.private_stack.specs.declared.pile.Pile.{Pile}
@@ -28,12 +29,12 @@ blank_kept l x pages blank = record {
   gone = λ c out. refl;
 }
 
-module _ (prog : Program) (places : Places) (f : Frame) (path : List ℕ) (childless : Bool) (s : Segment) (x : Pile) (same_path : x.base.path.items ≡ path) (base : IsCopy f x.base.frame) (is_childless : x.base.childless ≡ childless) (top : IsCopy f x.top) (below : x.below.items ≡ []) (done : x.done ≡ 0) (deepest : x.deepest ≡ 0)
+module _ (prog : Program) (places : Places) (f : Frame) (path : List ℕ) (childless : Bool) (s : Segment) (x : Pile) (same_path : x.base.path.items ≡ path) (base : IsCopy f x.base.frame) (is_childless : x.base.childless ≡ childless) (top : IsCopy f x.top.value) (below : unboxed x.below.items ≡ []) (done : x.done ≡ 0) (deepest : x.deepest ≡ 0)
     (same : segment_of x.cells ≡ s) (pages : ℕ) (log : log_of x.cells.log ≡ empty_log pages) (end : x.end ≡ s.start)
   where
     pub begun : FrameFits prog f → MayBegin prog places path f childless s → IsUnderWay prog places x
     begun fits begins =
-        let again : IsCopy x.base.frame x.top = copied_again (copy_back f x.base.frame base) top in
+        let again : IsCopy x.base.frame x.top.value = copied_again (copy_back f x.base.frame base) top in
         record {
           short = omega (arith, done);
           started = record {
@@ -57,7 +58,7 @@ module _ (prog : Program) (places : Places) (f : Frame) (path : List ℕ) (child
                   segment = refl;
                   path = refl;
                   loaded = goes.shown;
-                  top = record { shown = copy_shows x.base.frame x.top again l places (reverse x.base.path.items) g goes.shown; fits = copy_fits f x.top top prog fits; waits = goes.waits ∙ ap wait_of (sym again.waits); home = tt };
+                  top = record { shown = copy_shows x.base.frame x.top.value again l places (reverse x.base.path.items) g goes.shown; fits = copy_fits f x.top.value top prog fits; waits = goes.waits ∙ ap wait_of (sym again.waits); home = tt };
                   below = subst (λ (q : List Frame). ShowsBelow l prog places x.cells.start [] (reverse q)) (sym below) tt;
                   done = sym done;
                   deepest = sym deepest;

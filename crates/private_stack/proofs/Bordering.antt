@@ -1,5 +1,5 @@
 -- Borders among the pile's own frames keep it shown.
-use Rattle.std.proofs.Common.{◌≡◌, ◌≢◌, ℕ, suc, ◌+◌, ◌<◌, max, List, [], ◌∷◌, ◌++◌, length, reverse, refl, ap, sym, ◌∙◌, subst, arith, false, Some, ℤ, ◌≤◌}
+use Rattle.std.proofs.Common.{◌≡◌, ◌≢◌, ℕ, suc, ◌+◌, ◌<◌, max, List, [], ◌∷◌, ◌++◌, length, reverse, refl, ap, sym, ◌∙◌, subst, arith, false, Some, ℤ, ◌≤◌, Box, Global}
 use Rattle.std.specs.Prelude.{sum}
 use Rattle.std.specs.Prelude.{slice_get}
 use Rattle.std.proofs.lemmas.List.{length-reverse, reverse-append}
@@ -24,7 +24,7 @@ use Rattle.frame_engine.specs.Activation.{FrameFits, ShowsFrame}
 use Rattle.frame_engine.specs.Fits.{PlaceFits}
 use Rattle.frame_engine.specs.Shows.{Layout}
 use Rattle.frame_engine.proofs.Texts.{Located, ends_fit, frame_stands, located, starts_block}
-use Rattle.serial_stack.specs.Shown.{HasTaker, TextFits, item_here}
+use Rattle.serial_stack.specs.Shown.{HasTaker, TextFits, item_here, unboxed}
 use Rattle.laws_stacks.specs.Deep.{DeepStrand, IsDeep, Placed, at, entered, is_detached, is_reattached, reattached}
 use Rattle.laws_stacks.proofs.Rising.{deep_ends_match}
 use Rattle.private_stack.specs.Kept.{ShowsKept}
@@ -49,13 +49,13 @@ module _ (l : Layout) (prog : Program) (places : Places) (start : ℕ) where
   first_below [] f fs h = absurd h
   first_below (g ∷ rest) f fs h = (g, rest, refl)
 
-  none_below : (items : List Frame) (fs : List Frame) → reverse items ≡ fs → items ≢ [] → ShowsBelow l prog places start [] fs → ⊥
+  none_below : (items : List (Box Frame Global)) (fs : List Frame) → reverse (unboxed items) ≡ fs → items ≢ [] → ShowsBelow l prog places start [] fs → ⊥
   none_below items (f ∷ fs) e some h = h
   none_below [] [] e some h = some refl
-  none_below (f ∷ items) [] e some h = let long : length (reverse (f ∷ items)) ≡ length (f ∷ items) = length-reverse (f ∷ items) in let none : length (reverse (f ∷ items)) ≡ 0 = ap (λ (xs : List Frame). length xs) e in omega (arith, long, none)
+  none_below (f ∷ items) [] e some h = let long : length (reverse (unboxed (f ∷ items))) ≡ length (unboxed (f ∷ items)) = length-reverse (unboxed (f ∷ items)) in let none : length (reverse (unboxed (f ∷ items))) ≡ 0 = ap (λ (xs : List Frame). length xs) e in omega (arith, long, none)
 
-  pub some_below : (below : List Placed) (items : List Frame) → items ≢ [] → ShowsBelow l prog places start below (reverse items) → (g : Placed) × (rest : List Placed) × (below ≡ g ∷ rest)
-  some_below [] items some h = absurd (none_below items (reverse items) refl some h)
+  pub some_below : (below : List Placed) (items : List (Box Frame Global)) → items ≢ [] → ShowsBelow l prog places start below (reverse (unboxed items)) → (g : Placed) × (rest : List Placed) × (below ≡ g ∷ rest)
+  some_below [] items some h = absurd (none_below items (reverse (unboxed items)) refl some h)
   some_below (g ∷ rest) items some h = (g, rest, refl)
 
 module _ (l : Layout) (prog : Program) (places : Places) (s : Segment) (d : DeepStrand) (x : Pile) (is : IsDeep prog d) (h : ShowsPile l prog places s d x) (can : CanGo prog l s d) where
@@ -70,7 +70,7 @@ module _ (l : Layout) (prog : Program) (places : Places) (s : Segment) (d : Deep
   pub entered_shown : (parent child : frames.Frame) (pf cf : Frame) → IsDeep prog (entered d parent child) → ShowsOn l prog places s.start (at d.top.path parent) d.below pf → HasTaker pf pf.waits →
       ShowsOn l prog places s.start (at (d.top.frame.made ∷ d.top.path) child) (at d.top.path parent ∷ d.below) cf → parent.made ≡ suc d.top.frame.made →
       (first : Cell → ℤ) → ShowsKept l (new_layout parent child) first d.footprint x.cells → new_end parent child ≤ s.start + s.count →
-      (j : Pile) → j.base ≡ x.base → j.top ≡ cf → j.below.items ≡ x.below.items ++ pf ∷ [] → j.done ≡ x.done + 1 → j.deepest ≡ max x.deepest (x.top.depth + 2) → j.cells ≡ x.cells → j.end ≡ new_end parent child → Deeper l prog places s d j
+      (j : Pile) → j.base ≡ x.base → j.top.value ≡ cf → unboxed j.below.items ≡ unboxed x.below.items ++ pf ∷ [] → j.done ≡ x.done + 1 → j.deepest ≡ max x.deepest (x.top.value.depth + 2) → j.cells ≡ x.cells → j.end ≡ new_end parent child → Deeper l prog places s d j
   entered_shown parent child pf cf deeper parent_on takes child_on made first kept room j base top below done deepest cells end =
       let mine = met_top d.footprint d.top d.below h.met in
       record {
@@ -82,7 +82,7 @@ module _ (l : Layout) (prog : Program) (places : Places) (s : Segment) (d : Deep
           path = h.path ∙ sym (ap (λ (y : Base). reverse y.path.items) base);
           loaded = subst (λ (y : Base). ShowsFrame l places d.base.path d.base.frame y.frame) (sym base) h.loaded;
           top = subst (ShowsOn l prog places s.start (at (d.top.frame.made ∷ d.top.path) child) (at d.top.path parent ∷ d.below)) (sym top) child_on;
-          below = subst (ShowsBelow l prog places s.start (at d.top.path parent ∷ d.below)) (sym (popped j.below.items x.below.items pf below)) (parent_on, takes, h.below);
+          below = subst (ShowsBelow l prog places s.start (at d.top.path parent ∷ d.below)) (sym (popped (unboxed j.below.items) (unboxed x.below.items) pf below)) (parent_on, takes, h.below);
           done = let u = h.done in omega (arith, u, done);
           deepest = (λ i. max (h.deepest i) (h.top.shown.depth i + 2)) ∙ sym deepest;
           synced = subst (λ (y : Base). y.childless ≡ false → d.synced ≡ []) (sym base) h.synced;
@@ -98,24 +98,24 @@ module _ (l : Layout) (prog : Program) (places : Places) (s : Segment) (d : Deep
       }
 
   -- the function of the frame on top
-  pub function_of : (f : Function) → slice_get prog.functions d.top.frame.function ≡ Some f → slice_get prog.functions x.top.function.0 ≡ Some f
+  pub function_of : (f : Function) → slice_get prog.functions d.top.frame.function ≡ Some f → slice_get prog.functions x.top.value.function.0 ≡ Some f
   function_of f e = ap (slice_get prog.functions) (sym h.top.shown.function) ∙ e
 
   -- the frame on top as another of its role and function
-  pub on_same : (g : frames.Frame) (f : Frame) → g.role ≡ d.top.frame.role → g.function ≡ d.top.frame.function → ShowsFrame (layout_above l prog s.start d.top d.below) places d.top.path g f → FrameFits prog f → g.waits ≡ wait_of f.waits → f.home ≡ x.top.home → ShowsOn l prog places s.start (at d.top.path g) d.below f
+  pub on_same : (g : frames.Frame) (f : Frame) → g.role ≡ d.top.frame.role → g.function ≡ d.top.frame.function → ShowsFrame (layout_above l prog s.start d.top d.below) places d.top.path g f → FrameFits prog f → g.waits ≡ wait_of f.waits → f.home ≡ x.top.value.home → ShowsOn l prog places s.start (at d.top.path g) d.below f
   on_same g f role function shown fits waits home = record {
     shown = subst (λ (k : Layout). ShowsFrame k places d.top.path g f) (sym (same_layout l prog s.start d.top (at d.top.path g) d.below refl role function)) shown;
     fits = fits;
     waits = waits;
-    home = begins_same prog s.start d.top (at d.top.path g) d.below x.top.home f.home role home h.top.home;
+    home = begins_same prog s.start d.top (at d.top.path g) d.below x.top.value.home f.home role home h.top.home;
   }
 
   module _ (moves : ℕ) (text : TextFits prog places moves) where
-    module _ (r : RegisterId) (b c : BlockId) (item : item_here prog x.top ≡ Some (Ends (terminator.Detach r b c))) (child : Frame)
-        (words : child.registers.items ≡ x.top.registers.items) (same : child.function ≡ x.top.function)
-        (child_shown : (l : Layout) (places : Places) (p : Path) (g : frames.Frame) → ShowsFrame l places p g x.top → ShowsFrame l places (g.made ∷ p) (detached g r.0 b.0 c.0) child)
-        (parent : Frame) (parent_is : parent ≡ record x.top { place = record { block = c; index = 0 }; made = x.top.made + 1; waits = wait.Nothing })
-        (parent_shown : (l : Layout) (places : Places) (p : Path) (g : frames.Frame) → ShowsFrame l places p g x.top → ShowsFrame l places p (continued g c.0) parent)
+    module _ (r : RegisterId) (b c : BlockId) (item : item_here prog x.top.value ≡ Some (Ends (terminator.Detach r b c))) (child : Frame)
+        (words : child.registers.items ≡ x.top.value.registers.items) (same : child.function ≡ x.top.value.function)
+        (child_shown : (l : Layout) (places : Places) (p : Path) (g : frames.Frame) → ShowsFrame l places p g x.top.value → ShowsFrame l places (g.made ∷ p) (detached g r.0 b.0 c.0) child)
+        (parent : Frame) (parent_is : parent ≡ record x.top.value { place = record { block = c; index = 0 }; made = x.top.value.made + 1; waits = wait.Nothing })
+        (parent_shown : (l : Layout) (places : Places) (p : Path) (g : frames.Frame) → ShowsFrame l places p g x.top.value → ShowsFrame l places p (continued g c.0) parent)
       where
         there : Located prog d.top.frame.function d.top.frame.block d.top.frame.index (Ends (terminator.Detach r b c))
         there = located prog d.top.frame.function d.top.frame.block d.top.frame.index (Ends (terminator.Detach r b c)) (placed l prog places s d x _ h item)
@@ -150,7 +150,7 @@ module _ (l : Layout) (prog : Program) (places : Places) (s : Segment) (d : Deep
         child_again : ShowsFrame (new_layout (continued d.top.frame c.0) (detached d.top.frame r.0 b.0 c.0)) places (d.top.frame.made ∷ d.top.path) (detached d.top.frame r.0 b.0 c.0) child
         child_again = subst (λ (y : Layout). ShowsFrame y places (d.top.frame.made ∷ d.top.path) (detached d.top.frame r.0 b.0 c.0) child) (sym layout_same) (child_shown k places d.top.path d.top.frame h.top.shown)
 
-        pub detach_shown : (j : Pile) → j.base ≡ x.base → j.top ≡ record child { waits = wait.Nothing } → j.below.items ≡ x.below.items ++ parent ∷ [] → j.done ≡ x.done + 1 → j.deepest ≡ max x.deepest (x.top.depth + 2) → j.cells ≡ x.cells → j.end ≡ x.end → Deeper l prog places s d j
+        pub detach_shown : (j : Pile) → j.base ≡ x.base → j.top.value ≡ record child { waits = wait.Nothing } → unboxed j.below.items ≡ unboxed x.below.items ++ parent ∷ [] → j.done ≡ x.done + 1 → j.deepest ≡ max x.deepest (x.top.value.depth + 2) → j.cells ≡ x.cells → j.end ≡ x.end → Deeper l prog places s d j
         detach_shown j base top below done deepest cells end =
             entered_shown (continued d.top.frame c.0) (detached d.top.frame r.0 b.0 c.0) parent (record child { waits = wait.Nothing })
             (is_detached d r.0 b.0 c.0 is (detaches prog l s d can r b c (placed l prog places s d x _ h item)))
@@ -170,7 +170,7 @@ module _ (l : Layout) (prog : Program) (places : Places) (s : Segment) (d : Deep
   pub left_shown : (g : Placed) (rest : List Placed) → d.below ≡ g ∷ rest → (now : frames.Frame) (f : Frame) (fs : List Frame) → (e : DeepStrand) → IsDeep prog e → e.base ≡ d.base → e.top ≡ at g.path now → e.below ≡ rest → e.done ≡ suc d.done → e.deepest ≡ d.deepest → e.synced ≡ d.synced →
       ShowsKept l (layout_above l prog s.start g rest) h.first e.footprint x.cells → ShowsFrame (layout_above l prog s.start g rest) places g.path now f → FrameFits prog f → now.waits ≡ wait_of f.waits → BeginsAt prog s.start g rest f.home →
       now.role ≡ g.frame.role → now.function ≡ g.frame.function → now.made ≡ g.frame.made → NoneMet e.footprint g rest → end_above prog s.start g rest ≤ s.start + s.count → ShowsBelow l prog places s.start rest (reverse fs) →
-      (j : Pile) → j.base ≡ x.base → j.top ≡ f → j.below.items ≡ fs → j.done ≡ x.done + 1 → j.deepest ≡ x.deepest → j.cells ≡ x.cells → j.end ≡ end_above prog s.start g rest → Deeper l prog places s d j
+      (j : Pile) → j.base ≡ x.base → j.top.value ≡ f → unboxed j.below.items ≡ fs → j.done ≡ x.done + 1 → j.deepest ≡ x.deepest → j.cells ≡ x.cells → j.end ≡ end_above prog s.start g rest → Deeper l prog places s d j
   left_shown g rest below now f fs e deeper base_is top_is below_is done_is deepest_is synced_is kept shown fits waits home role function made met room under j base top items done deepest cells end =
       let u : Placed = at g.path now in
       let layout_same : layout_above l prog s.start u rest ≡ layout_above l prog s.start g rest = same_layout l prog s.start g u rest refl role function in
@@ -189,8 +189,8 @@ module _ (l : Layout) (prog : Program) (places : Places) (s : Segment) (d : Deep
           segment = ap segment_of cells ∙ h.segment;
           path = ap (λ (q : Placed). q.path) base_is ∙ h.path ∙ sym (ap (λ (y : Base). reverse y.path.items) base);
           loaded = subst (λ (q : Placed). ShowsFrame l places q.path q.frame j.base.frame) (sym base_is) (subst (λ (y : Base). ShowsFrame l places d.base.path d.base.frame y.frame) (sym base) h.loaded);
-          top = subst (λ (q : Placed). ShowsOn l prog places s.start q e.below j.top) (sym top_is) (subst (λ (q : List Placed). ShowsOn l prog places s.start u q j.top) (sym below_is) (subst (ShowsOn l prog places s.start u rest) (sym top) on));
-          below = subst (λ (q : List Placed). ShowsBelow l prog places s.start q (reverse j.below.items)) (sym below_is) (subst (λ (q : List Frame). ShowsBelow l prog places s.start rest (reverse q)) (sym items) under);
+          top = subst (λ (q : Placed). ShowsOn l prog places s.start q e.below j.top.value) (sym top_is) (subst (λ (q : List Placed). ShowsOn l prog places s.start u q j.top.value) (sym below_is) (subst (ShowsOn l prog places s.start u rest) (sym top) on));
+          below = subst (λ (q : List Placed). ShowsBelow l prog places s.start q (reverse (unboxed j.below.items))) (sym below_is) (subst (λ (q : List Frame). ShowsBelow l prog places s.start rest (reverse q)) (sym items) under);
           done = let v = h.done in omega (arith, v, done, done_is);
           deepest = deepest_is ∙ h.deepest ∙ sym deepest;
           synced = subst (λ (y : Base). y.childless ≡ false → e.synced ≡ []) (sym base) (λ some. synced_is ∙ h.synced some);
@@ -205,14 +205,14 @@ module _ (l : Layout) (prog : Program) (places : Places) (s : Segment) (d : Deep
       }
 
   -- the frame that is popped stands below
-  pub under : (fs : List Frame) (f : Frame) → x.below.items ≡ fs ++ f ∷ [] → (g : Placed) (rest : List Placed) → d.below ≡ g ∷ rest → ShowsBelow l prog places s.start (g ∷ rest) (f ∷ reverse fs)
-  under fs f e g rest below = subst (λ (q : List Placed). ShowsBelow l prog places s.start q (f ∷ reverse fs)) below (subst (ShowsBelow l prog places s.start d.below) (popped x.below.items fs f e) h.below)
+  pub under : (fs : List Frame) (f : Frame) → unboxed x.below.items ≡ fs ++ f ∷ [] → (g : Placed) (rest : List Placed) → d.below ≡ g ∷ rest → ShowsBelow l prog places s.start (g ∷ rest) (f ∷ reverse fs)
+  under fs f e g rest below = subst (λ (q : List Placed). ShowsBelow l prog places s.start q (f ∷ reverse fs)) below (subst (ShowsBelow l prog places s.start d.below) (popped (unboxed x.below.items) fs f e) h.below)
 
-  pub who_below : (fs : List Frame) (f : Frame) → x.below.items ≡ fs ++ f ∷ [] → (g : Placed) × (rest : List Placed) × (d.below ≡ g ∷ rest)
-  who_below fs f e = first_below l prog places s.start d.below f (reverse fs) (subst (ShowsBelow l prog places s.start d.below) (popped x.below.items fs f e) h.below)
+  pub who_below : (fs : List Frame) (f : Frame) → unboxed x.below.items ≡ fs ++ f ∷ [] → (g : Placed) × (rest : List Placed) × (d.below ≡ g ∷ rest)
+  who_below fs f e = first_below l prog places s.start d.below f (reverse fs) (subst (ShowsBelow l prog places s.start d.below) (popped (unboxed x.below.items) fs f e) h.below)
 
-  pub reattach_shown : (r : RegisterId) (c : BlockId) → item_here prog x.top ≡ Some (Ends (terminator.Reattach r c)) → (fs : List Frame) (f : Frame) → x.below.items ≡ fs ++ f ∷ [] →
-      (j : Pile) → j.base ≡ x.base → j.top ≡ f → j.below.items ≡ fs → j.done ≡ x.done + 1 → j.deepest ≡ x.deepest → j.cells ≡ x.cells → j.end ≡ x.end → Deeper l prog places s d j
+  pub reattach_shown : (r : RegisterId) (c : BlockId) → item_here prog x.top.value ≡ Some (Ends (terminator.Reattach r c)) → (fs : List Frame) (f : Frame) → unboxed x.below.items ≡ fs ++ f ∷ [] →
+      (j : Pile) → j.base ≡ x.base → j.top.value ≡ f → unboxed j.below.items ≡ fs → j.done ≡ x.done + 1 → j.deepest ≡ x.deepest → j.cells ≡ x.cells → j.end ≡ x.end → Deeper l prog places s d j
   reattach_shown r c item fs f e j base top items done deepest cells end =
       let w = who_below fs f e in
       let g = w.0 in

@@ -25,7 +25,7 @@ use Rattle.frame_engine.specs.Shows.{IsIn, Layout, PointsAlike, ShowsBases, addr
 use Rattle.frame_engine.specs.Words.{bases}
 use Rattle.frame_engine.proofs.Texts.{behind_step, frame_stands, located, starts_block}
 use Rattle.serial_stack.specs.Layouts.{alloca_sizes, with_allocas}
-use Rattle.serial_stack.specs.Shown.{HasTaker, TextFits, item_here}
+use Rattle.serial_stack.specs.Shown.{HasTaker, TextFits, item_here, unboxed}
 use Rattle.serial_stack.proofs.Calling.{call_names}
 use Rattle.serial_stack.proofs.Owners.{address_apart, in_apart, new_bases, old_apart, starts_are}
 use Rattle.serial_stack.proofs.Rows.{either_one}
@@ -91,7 +91,7 @@ end_address end limit low small = let fit : end < 9223372036854775808 = omega (a
 -- ---- the call
 
 module _ (l : Layout) (prog : Program) (places : Places) (s : Segment) (d : DeepStrand) (x : Pile) (is : IsDeep prog d) (h : ShowsPile l prog places s d x) (can : CanGo prog l s d) (moves : ℕ) (text : TextFits prog places moves)
-    (o : Option RegisterId) (callee : FunctionId) (arguments : List Argument) (item : item_here prog x.top ≡ Some (Does (instruction.Call o callee arguments)))
+    (o : Option RegisterId) (callee : FunctionId) (arguments : List Argument) (item : item_here prog x.top.value ≡ Some (Does (instruction.Call o callee arguments)))
     (f : Function) (there : slice_get prog.functions callee.0 ≡ Some f)
   where
     abbrev pub path : Path
@@ -127,11 +127,11 @@ module _ (l : Layout) (prog : Program) (places : Places) (s : Segment) (d : Deep
         let same : here.0 ≡ vs = let both : Some here.0 ≡ Some vs = sym here.1 ∙ e in cc in
         address_apart path own home layout c (old_apart path (length d.top.path) c.object refl (can.old o callee.0 here.0 here.2 n c (ap (λ (ws : List Value). slice_get ws n) same ∙ at)))
 
-    caller_fits : (caller : Frame) → caller ≡ record x.top { place = record { block = x.top.place.block; index = x.top.place.index + 1 }; made = x.top.made + 1; waits = wait.Call x.top.made o } → FrameFits prog caller
+    caller_fits : (caller : Frame) → caller ≡ record x.top.value { place = record { block = x.top.value.place.block; index = x.top.value.place.index + 1 }; made = x.top.value.made + 1; waits = wait.Call x.top.value.made o } → FrameFits prog caller
     caller_fits caller e =
-        let at_place = located prog x.top.function.0 x.top.place.block.0 x.top.place.index (Does (instruction.Call o callee arguments)) item in
-        subst (FrameFits prog) (sym e) (frame_stands prog (record x.top { place = record { block = x.top.place.block; index = x.top.place.index + 1 }; made = x.top.made + 1; waits = wait.Call x.top.made o }) at_place.function at_place.is (h.top.fits.registers at_place.function at_place.is)
-        (behind_step prog x.top.function.0 x.top.place.block.0 x.top.place.index (instruction.Call o callee arguments) at_place))
+        let at_place = located prog x.top.value.function.0 x.top.value.place.block.0 x.top.value.place.index (Does (instruction.Call o callee arguments)) item in
+        subst (FrameFits prog) (sym e) (frame_stands prog (record x.top.value { place = record { block = x.top.value.place.block; index = x.top.value.place.index + 1 }; made = x.top.value.made + 1; waits = wait.Call x.top.value.made o }) at_place.function at_place.is (h.top.fits.registers at_place.function at_place.is)
+        (behind_step prog x.top.value.function.0 x.top.value.place.block.0 x.top.value.place.index (instruction.Call o callee arguments) at_place))
 
     module _ (end : ℕ) (ends : end ≡ x.end + sum own) (low : end ≤ x.cells.start + length x.cells.own.items) where
       room : home + sum own ≤ s.start + s.count
@@ -154,9 +154,9 @@ module _ (l : Layout) (prog : Program) (places : Places) (s : Segment) (d : Deep
 
       pub call_shown : (frame caller : Frame) → length frame.registers.items ≡ length f.registers → frame.function ≡ callee → frame.home ≡ pos home →
           ((vs : List Value) → argument_values d.top.frame arguments ≡ Some vs → ShowsFrame larger places path (called d.top.path d.top.frame callee.0 vs) frame) →
-          caller ≡ record x.top { place = record { block = x.top.place.block; index = x.top.place.index + 1 }; made = x.top.made + 1; waits = wait.Call x.top.made o } →
-          ((l : Layout) (places : Places) (p : Path) (g : frames.Frame) → ShowsFrame l places p g x.top → ShowsFrame l places p (waiting g o) caller) →
-          (j : Pile) → j.base ≡ x.base → j.top ≡ record frame { waits = wait.Nothing } → j.below.items ≡ x.below.items ++ caller ∷ [] → j.done ≡ x.done + 1 → j.deepest ≡ max x.deepest (x.top.depth + 2) → j.cells ≡ x.cells → j.end ≡ end → Deeper l prog places s d j
+          caller ≡ record x.top.value { place = record { block = x.top.value.place.block; index = x.top.value.place.index + 1 }; made = x.top.value.made + 1; waits = wait.Call x.top.value.made o } →
+          ((l : Layout) (places : Places) (p : Path) (g : frames.Frame) → ShowsFrame l places p g x.top.value → ShowsFrame l places p (waiting g o) caller) →
+          (j : Pile) → j.base ≡ x.base → j.top.value ≡ record frame { waits = wait.Nothing } → unboxed j.below.items ≡ unboxed x.below.items ++ caller ∷ [] → j.done ≡ x.done + 1 → j.deepest ≡ max x.deepest (x.top.value.depth + 2) → j.cells ≡ x.cells → j.end ≡ end → Deeper l prog places s d j
       call_shown frame caller words same at_home shows caller_is caller_shown j base top below done deepest cells end_is =
           let here = calls_with prog l s d can o callee arguments (placed l prog places s d x (Does (instruction.Call o callee arguments)) h item) in
           let vs = here.0 in
@@ -172,7 +172,7 @@ module _ (l : Layout) (prog : Program) (places : Places) (s : Segment) (d : Deep
           entered_shown l prog places s d x is h can (waiting d.top.frame o) (called d.top.path d.top.frame callee.0 vs) caller (record frame { waits = wait.Nothing })
           (is_called d o callee.0 vs is here.2)
           (on_same l prog places s d x is h can (waiting d.top.frame o) caller refl refl (caller_shown layout places d.top.path d.top.frame h.top.shown) (caller_fits caller caller_is) ((λ i. OnCall (h.top.shown.made i) o) ∙ sym (ap (λ (z : Frame). wait_of z.waits) caller_is)) (ap (λ (z : Frame). z.home) caller_is))
-          (subst (λ (z : Frame). HasTaker z z.waits) (sym caller_is) (call_names prog places moves x.top o callee arguments text h.top.fits item).0)
+          (subst (λ (z : Frame). HasTaker z z.waits) (sym caller_is) (call_names prog places moves x.top.value o callee arguments text h.top.fits item).0)
           (record {
             shown = free_shown _ places path (called d.top.path d.top.frame callee.0 vs) frame (subst (λ (y : Layout). ShowsFrame y places path (called d.top.path d.top.frame callee.0 vs) frame) (sym larger_same) shown);
             fits = record { there = fits.there; registers = fits.registers; place = fits.place };

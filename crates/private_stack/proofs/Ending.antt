@@ -1,5 +1,5 @@
 -- A sync, and a return to one of the pile's own frames, keep it shown.
-use Rattle.std.proofs.Common.{◌≡◌, ◌≢◌, ℕ, suc, ◌+◌, ◌<◌, ◌≤◌, pos, List, [], ◌∷◌, ◌++◌, length, reverse, refl, ap, sym, ◌∙◌, subst, arith, cond, ℤ, Bool, true, false, Option, Some, None, Vec, Global}
+use Rattle.std.proofs.Common.{◌≡◌, ◌≢◌, ℕ, suc, ◌+◌, ◌<◌, ◌≤◌, pos, List, [], ◌∷◌, ◌++◌, length, reverse, refl, ap, sym, ◌∙◌, subst, arith, cond, ℤ, Bool, true, false, Option, Some, None, Vec, Global, Box}
 use Rattle.std.specs.Prelude.{slice_get}
 use Rattle.linear.specs.declared.form.RegisterId.{RegisterId}
 use Rattle.semantics.specs.Paths.{Path, Under, itself}
@@ -25,7 +25,7 @@ use Rattle.frame_engine.specs.Fits.{PlaceFits}
 use Rattle.frame_engine.specs.Names.{HasResult, taker_of}
 use Rattle.frame_engine.specs.Shows.{IsIn, Layout, address}
 use Rattle.frame_engine.proofs.Texts.{Located, ends_fit, frame_stands, located, starts_block}
-use Rattle.serial_stack.specs.Shown.{HasTaker, TextFits, item_here}
+use Rattle.serial_stack.specs.Shown.{HasTaker, TextFits, item_here, unboxed}
 use Rattle.serial_stack.specs.Layouts.{alloca_sizes, for_body, with_allocas}
 use Rattle.serial_stack.specs.Shown as serial
 use Rattle.serial_stack.proofs.Owners.{address_apart, in_apart, out_apart}
@@ -103,9 +103,9 @@ module _ (l : Layout) (prog : Program) (places : Places) (s : Segment) (d : Deep
           let w = some_below l prog places s.start d.below x.below.items (passes e) h.below in
           absurd (let bad : [] ≡ w.0 ∷ w.1 = sym none ∙ w.2 in cc)
 
-  pub sync_shown : (moves : ℕ) → TextFits prog places moves → (x.base.childless ≡ false → x.below.items ≢ []) → (r : RegisterId) (b : BlockId) → item_here prog x.top ≡ Some (Ends (terminator.Sync r b)) →
-      (j : Pile) → j.base ≡ x.base → j.top ≡ record x.top { place = record { block = b; index = 0 }; registers = j.top.registers; waits = wait.Region r } → length j.top.registers.items ≡ length x.top.registers.items →
-      ((l : Layout) (places : Places) (p : Path) (g : frames.Frame) (rs : Registers) → ShowsFrame l places p g x.top → registers_along prog g b.0 ≡ Some rs → ShowsFrame l places p (synced g r.0 b.0 rs) j.top) →
+  pub sync_shown : (moves : ℕ) → TextFits prog places moves → (x.base.childless ≡ false → x.below.items ≢ []) → (r : RegisterId) (b : BlockId) → item_here prog x.top.value ≡ Some (Ends (terminator.Sync r b)) →
+      (j : Pile) → j.base ≡ x.base → j.top.value ≡ record x.top.value { place = record { block = b; index = 0 }; registers = j.top.value.registers; waits = wait.Region r } → length j.top.value.registers.items ≡ length x.top.value.registers.items →
+      ((l : Layout) (places : Places) (p : Path) (g : frames.Frame) (rs : Registers) → ShowsFrame l places p g x.top.value → registers_along prog g b.0 ≡ Some rs → ShowsFrame l places p (synced g r.0 b.0 rs) j.top.value) →
       j.below ≡ x.below → j.done ≡ x.done + 1 → j.deepest ≡ x.deepest → j.cells ≡ x.cells → j.end ≡ x.end → Deeper l prog places s d j
   sync_shown moves text passes r b item j base only words shows below done deepest cells end =
       let place = placed l prog places s d x (Ends (terminator.Sync r b)) h item in
@@ -124,12 +124,12 @@ module _ (l : Layout) (prog : Program) (places : Places) (s : Segment) (d : Deep
           segment = ap segment_of cells ∙ h.segment;
           path = h.path ∙ sym (ap (λ (y : Base). reverse y.path.items) base);
           loaded = subst (λ (y : Base). ShowsFrame l places d.base.path d.base.frame y.frame) (sym base) h.loaded;
-          top = on_same l prog places s d x is h can (synced d.top.frame r.0 b.0 here.0) j.top refl refl shown
-              (frame_stands prog j.top there.function (ap (λ (z : Frame). slice_get prog.functions z.function.0) only ∙ function_of l prog places s d x is h can there.function there.is)
+          top = on_same l prog places s d x is h can (synced d.top.frame r.0 b.0 here.0) j.top.value refl refl shown
+              (frame_stands prog j.top.value there.function (ap (λ (z : Frame). slice_get prog.functions z.function.0) only ∙ function_of l prog places s d x is h can there.function there.is)
               (words ∙ h.top.fits.registers there.function (function_of l prog places s d x is h can there.function there.is))
-              (subst (λ (n : ℕ). PlaceFits there.function.blocks n j.top.place.index) shown.block (subst (λ (n : ℕ). PlaceFits there.function.blocks b.0 n) shown.index (starts_block there.function.blocks b.0 edge.there))))
+              (subst (λ (n : ℕ). PlaceFits there.function.blocks n j.top.value.place.index) shown.block (subst (λ (n : ℕ). PlaceFits there.function.blocks b.0 n) shown.index (starts_block there.function.blocks b.0 edge.there))))
               (sym (ap (λ (z : Frame). wait_of z.waits) only)) (ap (λ (z : Frame). z.home) only);
-          below = subst (λ (y : Vec Frame Global). ShowsBelow l prog places s.start d.below (reverse y.items)) (sym below) h.below;
+          below = subst (λ (y : Vec (Box Frame Global) Global). ShowsBelow l prog places s.start d.below (reverse (unboxed y.items))) (sym below) h.below;
           done = let v = h.done in omega (arith, v, done);
           deepest = h.deepest ∙ sym deepest;
           synced = subst (λ (y : Base). y.childless ≡ false → if_base d.below r.0 d.synced ≡ []) (sym base) (past d.below r.0 (no_child passes));
@@ -143,7 +143,7 @@ module _ (l : Layout) (prog : Program) (places : Places) (s : Segment) (d : Deep
 
   -- ---- a return
 
-  module _ (value : Option Operand) (item : item_here prog x.top ≡ Some (Ends (terminator.Return value))) (fs : List Frame) (caller : Frame) (items : x.below.items ≡ fs ++ caller ∷ []) where
+  module _ (value : Option Operand) (item : item_here prog x.top.value ≡ Some (Ends (terminator.Return value))) (fs : List Frame) (caller : Frame) (items : unboxed x.below.items ≡ fs ++ caller ∷ []) where
     pub caller_takes : HasResult (length caller.registers.items) (taker_of caller.waits)
     caller_takes =
         let w = who_below l prog places s d x is h can fs caller items in
@@ -158,10 +158,10 @@ module _ (l : Layout) (prog : Program) (places : Places) (s : Segment) (d : Deep
     is_body : d.top.frame.role ≡ Body
     is_body = let a = acts in return_is_body prog d.top.path d.top.frame (memory_of d.footprint) a.0 a.2
 
-    pub home_is : x.top.home ≡ pos (end_above prog s.start (who_below l prog places s d x is h can fs caller items).0 (who_below l prog places s d x is h can fs caller items).1)
+    pub home_is : x.top.value.home ≡ pos (end_above prog s.start (who_below l prog places s d x is h can fs caller items).0 (who_below l prog places s d x is h can fs caller items).1)
     home_is =
         let w = who_below l prog places s d x is h can fs caller items in
-        subst (λ (r : Role). serial.BeginsAt r x.top.home (end_above prog s.start w.0 w.1)) is_body (subst (λ (q : List Placed). BeginsAt prog s.start d.top q x.top.home) w.2 h.top.home)
+        subst (λ (r : Role). serial.BeginsAt r x.top.value.home (end_above prog s.start w.0 w.1)) is_body (subst (λ (q : List Placed). BeginsAt prog s.start d.top q x.top.value.home) w.2 h.top.home)
 
     module _ (g : Placed) (rest : List Placed) (below : d.below ≡ g ∷ rest) where
       rises_here : Rises d.base d.top (g ∷ rest)
@@ -212,7 +212,7 @@ module _ (l : Layout) (prog : Program) (places : Places) (s : Segment) (d : Deep
     pub return_shown : (back : Frame) (number : Option ℤ) (register : Option RegisterId) → register ≡ taker_of caller.waits → back ≡ record caller { registers = back.registers; waits = wait.Nothing } → length back.registers.items ≡ length caller.registers.items →
         ((l : Layout) (places : Places) (p : Path) (g : frames.Frame) → ShowsFrame l places p g caller → ShowsFrame l places p (resumed g register number) back) →
         ((v : Option ℤ) → terminator_action prog d.top.path d.top.frame (terminator.Return value) ≡ Return v → number ≡ v) →
-        (j : Pile) → j.base ≡ x.base → j.top ≡ back → j.below.items ≡ fs → j.done ≡ x.done + 1 → j.deepest ≡ x.deepest → j.cells ≡ x.cells → pos j.end ≡ x.top.home → Deeper l prog places s d j
+        (j : Pile) → j.base ≡ x.base → j.top.value ≡ back → unboxed j.below.items ≡ fs → j.done ≡ x.done + 1 → j.deepest ≡ x.deepest → j.cells ≡ x.cells → pos j.end ≡ x.top.value.home → Deeper l prog places s d j
     return_shown back number register reg only words shows gives j base top below done deepest cells end =
         let w = who_below l prog places s d x is h can fs caller items in
         let g = w.0 in

@@ -52,7 +52,7 @@ impl Pile {
                 frame: blank(alloc),
                 childless: false,
             },
-            top: blank(alloc),
+            top: Box::new(alloc, blank(alloc))?,
             below: Vec::new(alloc),
             spare: Vec::new(alloc),
             done: 0,
@@ -92,7 +92,7 @@ impl Pile {
         self.base.path.clear();
         self.base.path.extend_from_slice(path)?;
         become_copy(&mut self.base.frame, frame)?;
-        become_copy(&mut self.top, frame)?;
+        become_copy(self.top.as_mut(), frame)?;
         self.spare.append(&mut self.below)?;
         self.base.childless = childless;
         self.done = 0;

@@ -16,14 +16,14 @@ pub struct Base {
 }
 
 /// What a worker has done since it loaded the base: the frame that goes on, the frames below it, each of which made the one above it, and the
-/// cells that were read and written. Frames that are over are used again.
+/// cells that were read and written. Frames that are over are used again; each stands in a box, so that none is moved when another one goes on.
 #[derive(Drop)]
 pub struct Pile {
     pub alloc: Global,
     pub base: Base,
-    pub top: Frame,
-    pub below: Vec<Frame>,
-    pub spare: Vec<Frame>,
+    pub top: Box<Frame>,
+    pub below: Vec<Box<Frame>>,
+    pub spare: Vec<Box<Frame>>,
     /// Instructions.
     pub done: u64,
     /// The most frames from the root to one that was made here.
@@ -36,16 +36,16 @@ pub struct Pile {
 }
 
 /// A frame that is over, or a new one.
-pub(crate) fn fresh(spare: &mut Vec<Frame>, alloc: Global) -> Frame {
+pub(crate) fn fresh(spare: &mut Vec<Box<Frame>>, alloc: Global) -> Result<Box<Frame>, OutOfMemory> {
     match spare.pop() {
-        Some(frame) => frame,
-        None => blank(alloc),
+        Some(frame) => Ok(frame),
+        None => Ok(Box::new(alloc, blank(alloc))?),
     }
 }
 
 impl Pile {
     /// The frame goes on, on top of the one that made it.
-    pub(crate) fn push(&mut self, frame: Frame) -> Result<(), OutOfMemory>
+    pub(crate) fn push(&mut self, frame: Box<Frame>) -> Result<(), OutOfMemory>
         ensures below { OnOk result (self.new.below.items ≡ self.old.below.items ++ self.old.top ∷ []) }
         ensures only { OnOk result (self.new ≡ record self.old { top = frame; below = self.new.below }) }
     {
@@ -55,7 +55,7 @@ impl Pile {
     }
 
     /// The frame, which stood below the one on top, goes on.
-    pub(crate) fn go_back_to(&mut self, frame: Frame) -> Result<(), OutOfMemory>
+    pub(crate) fn go_back_to(&mut self, frame: Box<Frame>) -> Result<(), OutOfMemory>
         ensures only { OnOk result (self.new ≡ record self.old { top = frame; spare = self.new.spare }) }
     {
         let over = mem::replace(&mut self.top, frame);
