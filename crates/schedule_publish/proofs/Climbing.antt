@@ -23,7 +23,7 @@ use Rattle.frame_engine.specs.Activation.{FrameFits, ShowsFrame, allocas_of}
 use Rattle.frame_engine.specs.Shows.{Layout}
 use Rattle.private_stack.specs.serial_stack.Layouts.{alloca_sizes, for_body, offset_in, with_allocas}
 use Rattle.private_stack.specs.serial_stack.Shown as serial
-use Rattle.private_stack.specs.serial_stack.Shown.{HasTaker}
+use Rattle.private_stack.specs.serial_stack.Shown.{HasTaker, unboxed}
 use Rattle.schedule_workers.specs.Going.{IsAbove, PointsUp, TextFits}
 use Rattle.schedule_workers.specs.Layouts.{number_in, own_at}
 use Rattle.schedule_workers.specs.Shown.{cells_in}
@@ -358,8 +358,8 @@ module _ (prog : Program) (places : Places) (moves : ℕ) (text : TextFits prog 
     pub climbed : WaitsForNone d.base.frame.waits → Climbed
     climbed base =
         let free : WaitsForNone d.top.frame.waits = top_waits prog d is base in
-        turn d.top d.below x.top (reverse x.below.items) [] [] no_count top_lifted pile.top (no_call x.top.waits x.top (subst WaitsForNone pile.top.waits free)) (no_call_last d.top free)
+        turn d.top d.below x.top.value (reverse (unboxed x.below.items)) [] [] no_count top_lifted pile.top (no_call x.top.value.waits x.top.value (subst WaitsForNone pile.top.waits free)) (no_call_last d.top free)
         (rises prog d is) (behind prog d is) pile.below pile.room (below_waits prog d is) (deep_strands_count prog m w d is runs orderly) (λ q low. refl)
         (λ q away. rw (same_path_apart d.top.path q away) refl)
-        (ap (λ (fs : List Frame). fs ++ x.top ∷ []) (reverse-reverse x.below.items)) (as_base prog d is) refl
+        (ap (λ (fs : List Frame). fs ++ x.top.value ∷ []) (reverse-reverse (unboxed x.below.items))) (as_base prog d is) refl
         (λ more here count. (here, free, λ r. (let c = count r in omega (arith, c))))

@@ -1,7 +1,7 @@
 -- The frames above the base, as they are made ready for the cactus.
-use Rattle.std.proofs.Common.{◌≡◌, ◌⊎◌, inl, inr, ◌<◌, ◌+◌, ◌-◌, ℕ, zero, suc, List, [], ◌∷◌, ◌++◌, length, map, take, Option, Some, None, refl, sym, ap, ◌∙◌, subst, arith, append_assoc}
+use Rattle.std.proofs.Common.{◌≡◌, ◌⊎◌, inl, inr, ◌<◌, ◌+◌, ◌-◌, ℕ, zero, suc, List, [], ◌∷◌, ◌++◌, length, map, take, Option, Some, None, refl, sym, ap, ◌∙◌, subst, arith, append_assoc, Box, Global}
 use Rattle.std.specs.Prelude.{slice_get}
-use Rattle.std.proofs.lemmas.List.{length-append}
+use Rattle.std.proofs.lemmas.List.{length-append, length-map}
 use Rattle.std.proofs.lemmas.Option.{same_Some}
 use Rattle.linear.specs.declared.form.RegisterId.{RegisterId}
 use Rattle.program.specs.declared.identifier.BlockId.{BlockId}
@@ -13,6 +13,7 @@ use Rattle.schedule_workers.specs.declared.activation.Activation.{Activation}
 use Rattle.schedule_workers.specs.Copying.{IsFrameCopy}
 use Rattle.schedule_workers.specs.Scheduling.{counted_in}
 use Rattle.schedule_publish.specs.Linking.{AreLinks, IsActivation, IsFrameOf, IsLink, RegionsFit, counted_above, counted_of, frames_of, path_of, runner_below}
+use Rattle.private_stack.specs.serial_stack.Shown.{unboxed}
 use Rattle.private_stack.specs.declared.pile.Pile.{Pile}
 
 -- ---- lists
@@ -35,6 +36,20 @@ last_or [] y zero x e = inr (refl, same_Some y x e)
 last_or [] y (suc i) x e = absurd cc
 last_or (z ∷ xs) y zero x e = inl e
 last_or (z ∷ xs) y (suc i) x e = elim (last_or xs y i x e) [ inl h ↦ inl h | inr h ↦ inr (ap suc h.0, h.1) ]
+
+-- ---- frames in boxes
+
+pub length-unboxed : (boxes : List (Box Frame Global)) → length (unboxed boxes) ≡ length boxes
+length-unboxed boxes = length-map boxes (λ (b : Box Frame Global). b.value)
+
+pub box_at : (boxes : List (Box Frame Global)) (f : Frame) (n : ℕ) (b : Box Frame Global) → slice_get boxes n ≡ Some b → slice_get (unboxed boxes ++ f ∷ []) n ≡ Some b.value
+box_at [] f n b e = absurd cc
+box_at (c ∷ boxes) f zero b e = ap (λ (x : Box Frame Global). Some x.value) (same_Some c b e)
+box_at (c ∷ boxes) f (suc n) b e = box_at boxes f n b e
+
+pub top_at : (boxes : List (Box Frame Global)) (f : Frame) → slice_get (unboxed boxes ++ f ∷ []) (length boxes) ≡ Some f
+top_at [] f = refl
+top_at (c ∷ boxes) f = top_at boxes f
 
 -- ---- one frame
 
@@ -174,11 +189,12 @@ append_none (z ∷ xs) = ap (λ (zs : List ℕ). z ∷ zs) (append_none xs)
 pub are_linked : (worker : ℕ) (x : Pile) (links : List (Link Activation)) → AreLinks worker x links → (f : Frame) (hs : List Frame) → frames_of x ≡ f ∷ hs → AreLinked worker x.base.path.items f hs links
 are_linked worker x links are f hs all =
     let many = are.many in
-    let long = length-append x.below.items (x.top ∷ []) in
+    let long = length-append (unboxed x.below.items) (x.top.value ∷ []) in
+    let boxes = length-unboxed x.below.items in
     let count : length (frames_of x) ≡ suc (length hs) = ap (λ (fs : List Frame). length fs) all in
     let zero_more : (i : ℕ) → 0 + i ≡ i = λ i. omega arith in
     subst (λ (p : List ℕ). AreLinked worker p f hs links) (append_none x.base.path.items)
     (from_index worker x hs links 0 f
     (λ i. ap (slice_get (frames_of x)) (zero_more i) ∙ ap (λ (fs : List Frame). slice_get fs i) all)
-    (omega (arith, many, long, count))
+    (omega (arith, many, long, boxes, count))
     (λ i l e. subst (λ (j : ℕ). IsLink worker x (suc j) l) (sym (zero_more i)) (are.each i l e)))

@@ -33,6 +33,7 @@ use Rattle.private_stack.specs.Layouts.{end_above}
 use Rattle.private_stack.specs.OwnCells.{segment_of}
 use Rattle.private_stack.specs.Shown.{ShowsBelow}
 use Rattle.private_stack.proofs.Over.{low_end}
+use Rattle.private_stack.specs.serial_stack.Shown.{unboxed}
 use Rattle.private_stack.specs.declared.pile.Pile.{Pile}
 use Rattle.schedule_publish.specs.Absorbing.{StandsDeep}
 use Rattle.schedule_publish.specs.Committing.{MayCount}
@@ -41,6 +42,7 @@ use Rattle.schedule_publish.specs.Linking.{RegionsFit, frames_of}
 use Rattle.schedule_publish.proofs.Deep.{IsDeepStrand}
 use Rattle.frame_engine.proofs.Turns.{there_is}
 use Rattle.schedule_publish.proofs.Bases.{as_base}
+use Rattle.schedule_publish.proofs.Linked.{length-unboxed}
 use Rattle.schedule_publish.proofs.Regions.{base_regions, lowest_frame, regions_fit}
 
 -- what is not nothing is something
@@ -116,9 +118,10 @@ module _ (prog : Program) (places : Places) (k : Run) (x : Pile) (worker slot : 
       let done = st.shown.shows.done in
       let same = d.shown.done in
       let low = below_done prog d.strand d.is in
-      let one = as_many_below _ prog places x.cells.start d.strand.below (reverse x.below.items) d.shown.below in
-      let two = length-reverse x.below.items in
-      omega (arith, after, made, done, low, one, two, same)
+      let one = as_many_below _ prog places x.cells.start d.strand.below (reverse (unboxed x.below.items)) d.shown.below in
+      let two = length-reverse (unboxed x.below.items) in
+      let boxes = length-unboxed x.below.items in
+      omega (arith, after, made, done, low, one, two, boxes, same)
 
   pub steps_room : k.instructions + x.done < 18446744073709551616
   steps_room = let after = counted_after in let done = st.shown.shows.done in omega (arith, after, done)

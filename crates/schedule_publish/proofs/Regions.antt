@@ -24,6 +24,7 @@ use Rattle.frame_engine.proofs.Turns.{there_is}
 use Rattle.schedule_workers.specs.Going.{TextFits}
 use Rattle.private_stack.specs.Layouts.{Segment}
 use Rattle.private_stack.specs.Shown.{ShowsBelow, ShowsOn, ShowsPile}
+use Rattle.private_stack.specs.serial_stack.Shown.{unboxed}
 use Rattle.private_stack.specs.declared.pile.Pile.{Pile}
 use Rattle.schedule_publish.specs.Linking.{RegionsFit, frames_of}
 use Rattle.schedule_publish.proofs.Bases.{as_base, lowest_of}
@@ -172,8 +173,8 @@ fit_below l prog places start t (g ∷ gs) f (h ∷ fs) top below are =
 
 pub regions_fit : (l : Layout) (prog : Program) (places : Places) (s : Segment) (moves : ℕ) → TextFits prog places moves → (d : DeepStrand) → IsDeep prog d → (x : Pile) → ShowsPile l prog places s d x → RegionsFit x
 regions_fit l prog places s moves text d is x shown n f g r continuation at_f at_g is_child =
-    let near = fit_below l prog places s.start d.top d.below x.top (reverse x.below.items) shown.top shown.below (regions_in prog places moves text d is) in
-    let all : AllFit (frames_of x) = subst (λ (fs : List Frame). AllFit (fs ++ x.top ∷ [])) (reverse-reverse x.below.items) (turned (reverse x.below.items) x.top [] near tt) in
+    let near = fit_below l prog places s.start d.top d.below x.top.value (reverse (unboxed x.below.items)) shown.top shown.below (regions_in prog places moves text d is) in
+    let all : AllFit (frames_of x) = subst (λ (fs : List Frame). AllFit (fs ++ x.top.value ∷ [])) (reverse-reverse (unboxed x.below.items)) (turned (reverse (unboxed x.below.items)) x.top.value [] near tt) in
     all_at (frames_of x) all n f g at_f at_g r continuation is_child
 
 -- ---- the base
@@ -190,8 +191,8 @@ lowest l prog places start t (g ∷ gs) f (h ∷ fs) more top below y e =
 pub lowest_frame : (l : Layout) (prog : Program) (places : Places) (s : Segment) (d : DeepStrand) → IsDeep prog d → (x : Pile) → ShowsPile l prog places s d x → (y : Frame) → slice_get (frames_of x) 0 ≡ Some y →
     ShowsOn l prog places s.start (lowest_of d.top d.below) [] y
 lowest_frame l prog places s d is x shown y at =
-    lowest l prog places s.start d.top d.below x.top (reverse x.below.items) [] shown.top shown.below y
-    (ap (λ (fs : List Frame). slice_get (fs ++ x.top ∷ []) 0) (reverse-reverse x.below.items) ∙ at)
+    lowest l prog places s.start d.top d.below x.top.value (reverse (unboxed x.below.items)) [] shown.top shown.below y
+    (ap (λ (fs : List Frame). slice_get (fs ++ x.top.value ∷ []) 0) (reverse-reverse (unboxed x.below.items)) ∙ at)
 
 head_there : (fs : List Frame) (y : Frame) → slice_get fs 1 ≡ Some y → (x : Frame) × (slice_get fs 0 ≡ Some x)
 head_there [] y e = absurd cc

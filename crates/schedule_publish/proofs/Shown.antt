@@ -42,6 +42,7 @@ use Rattle.laws_stacks.proofs.Rising.{rises}
 use Rattle.private_stack.specs.Layouts.{Segment, layout_above}
 use Rattle.private_stack.specs.OwnCells.{segment_of}
 use Rattle.private_stack.specs.Putting.{ArePutInto}
+use Rattle.private_stack.specs.serial_stack.Shown.{unboxed}
 use Rattle.private_stack.specs.declared.pile.Pile.{Pile}
 use Rattle.private_stack.proofs.Committed.{pile_shown}
 use Rattle.private_stack.proofs.Living.{alloca_cells as text_cells, local_above, shared_above}
@@ -52,7 +53,7 @@ use Rattle.schedule_publish.specs.Linking.{AreLinks}
 use Rattle.schedule_publish.proofs.Climbing.{Climbed, Climbs, IsOff, NoneIs, climbed, off_all, shared_at}
 use Rattle.schedule_publish.proofs.Deep.{IsDeepStrand}
 use Rattle.schedule_publish.proofs.Levels.{Levels, StandsAt, by_path, by_slot, levels, top_there}
-use Rattle.schedule_publish.proofs.Linked.{AreLinked, are_linked}
+use Rattle.schedule_publish.proofs.Linked.{AreLinked, are_linked, length-unboxed}
 use Rattle.schedule_publish.proofs.Others.{count_same, living_off, none_above, on_base}
 use Rattle.schedule_publish.proofs.Offsets.{cells_by_text}
 use Rattle.schedule_publish.proofs.Ready.{as_many_below, below_done}
@@ -288,10 +289,11 @@ module _ (prog : Program) (places : Places) (moves : ℕ) (text : TextFits prog 
           let many = are.many in
           let was = shown.agrees.made in
           let low = below_done prog d.strand d.is in
-          let one = as_many_below l prog places segment.start d.strand.below (reverse x.below.items) d.shown.below in
-          let two = length-reverse x.below.items in
+          let one = as_many_below l prog places segment.start d.strand.below (reverse (unboxed x.below.items)) d.shown.below in
+          let two = length-reverse (unboxed x.below.items) in
+          let boxes = length-unboxed x.below.items in
           let done = d.shown.done in
-          omega (arith, made, many, was, low, one, two, done)
+          omega (arith, made, many, was, low, one, two, boxes, done)
 
       pub committed_shown : IsShown prog places next (changed_by prog places m next k new peak hands shown (k.instructions + x.done) cells)
       committed_shown = changed_to_shown prog places m next k new peak hands shown (k.instructions + x.done) cells to (record {

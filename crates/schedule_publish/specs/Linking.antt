@@ -9,11 +9,12 @@ use Rattle.frame_engine.specs.declared.activation.Frame.{Frame}
 use Rattle.schedule_commit.specs.frame_strand.Standing.{IsCopy}
 use Rattle.schedule_workers.specs.declared.activation.Activation.{Activation}
 use Rattle.schedule_workers.specs.Scheduling.{counted_in}
+use Rattle.private_stack.specs.serial_stack.Shown.{unboxed}
 use Rattle.private_stack.specs.declared.pile.Pile.{Pile}
 
 -- the frames from the base up
 abbrev pub frames_of : Pile → List Frame
-frames_of x = x.below.items ++ x.top ∷ []
+frames_of x = unboxed x.below.items ++ x.top.value ∷ []
 
 -- the path of the frame of this number, the root's number first: each frame made the one above it last
 abbrev pub path_of : Pile → ℕ → List ℕ

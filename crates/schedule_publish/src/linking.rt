@@ -19,9 +19,9 @@ pub(crate) fn frame_of(pile: &Pile, number: usize) -> &Frame
     ensures { slice_get (frames_of pile.now) number ≡ Some result.now }
 {
     if number < pile.below.len() {
-        &pile.below[number]
+        pile.below[number].as_ref()
     } else {
-        &pile.top
+        pile.top.as_ref()
     }
 }
 
