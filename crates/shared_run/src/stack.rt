@@ -134,7 +134,7 @@ impl<'p, L: Bench> PrivateStack<'p, L> {
 
     /// Whether a reattach is next.
     pub fn is_at_reattach(&self) -> bool {
-        let top = &self.pile.top;
+        let top = self.pile.top.as_ref();
         let Some(block) = block_at(self.verified.program(), top.function, top.place.block) else {
             return false;
         };
