@@ -3,10 +3,13 @@ use shared_run::{Bench, Board, PrivateStack};
 /// The cells of a page.
 const PAGE: i64 = 64;
 
-/// The most pages that are fetched with one that is needed.
+/// The most pages that are fetched with one that is needed, of those beside it.
 const MOST: usize = 8;
 
-/// Pages that a strand may need next: those before or behind one that it needs. To fetch them with it takes the board's lock once.
+/// The same of pages that lie apart, as those of a column of a matrix do.
+const MOST_APART: usize = 32;
+
+/// Pages that a strand may need next. To fetch them with one that it needs takes the board's lock once.
 #[derive(Clone, Copy)]
 pub(crate) struct Ahead {
     /// An address in the page that is needed.
@@ -15,10 +18,59 @@ pub(crate) struct Ahead {
     pages: usize,
 }
 
+/// What a worker's strands needed last.
+#[derive(Drop)]
+pub(crate) struct Trail {
+    last: i64,
+    /// How far that was behind what was needed before it.
+    step: i64,
+    /// What is needed next, if the steps are equal: behind the pages that were fetched then.
+    next: i64,
+    /// So many were fetched.
+    pages: usize,
+}
+
+impl Trail {
+    /// Nothing was needed yet.
+    pub(crate) fn new() -> Trail {
+        Trail {
+            last: 0,
+            step: 0,
+            next: 0,
+            pages: 0,
+        }
+    }
+
+    /// The pages that may come behind the one of the address, which is needed now: those beside it, or else some at steps of the length of the last ones.
+    pub(crate) fn note<L: Bench>(&mut self, stack: &PrivateStack<'_, L>, at: i64) -> Ahead {
+        let apart = self.apart(at);
+        let beside = Ahead::beside(stack, at);
+        if beside.pages > 0 { beside } else { apart }
+    }
+
+    /// The longer the steps have been equal, the more pages: so what is fetched in vain is about as much as what was read.
+    fn apart(&mut self, at: i64) -> Ahead {
+        if at == self.next {
+            self.pages = self.pages.saturating_mul(2).clamp(1, MOST_APART);
+        } else {
+            self.step = at.saturating_sub(self.last);
+            self.pages = 0;
+        }
+        let steps = (self.pages as i64).saturating_add(1);
+        self.last = at;
+        self.next = at.saturating_add(self.step.saturating_mul(steps));
+        Ahead {
+            from: at,
+            step: self.step,
+            pages: self.pages,
+        }
+    }
+}
+
 impl Ahead {
     /// A strand that has pages right before the one of the address reads forwards, and one that has some right behind it backwards. As many as it has
     /// there are fetched on the other side: so what is fetched in vain is at most what was read.
-    pub(crate) fn of<L: Bench>(stack: &PrivateStack<'_, L>, at: i64) -> Ahead {
+    fn beside<L: Bench>(stack: &PrivateStack<'_, L>, at: i64) -> Ahead {
         let before = pages_in_use(stack, at, -PAGE);
         if before > 0 {
             Ahead {

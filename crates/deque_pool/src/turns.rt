@@ -1,6 +1,5 @@
 //! A strand: what a worker does outside of the board on a stack of its own. The board is locked only to load it, to fetch cells, and to publish it.
 
-use crate::ahead::Ahead;
 use crate::demand::Demand;
 use crate::locking::locked;
 use crate::workers::Worker;
@@ -86,7 +85,7 @@ fn fill<L: Bench, R: Wait>(
     worker: &mut Worker<'_, L>,
     at: i64,
 ) -> bool {
-    let ahead = Ahead::of(&worker.stack, at);
+    let ahead = worker.trail.note(&worker.stack, at);
     let board = locked(rt, shared);
     if !board.fetch_need(&mut worker.stack) {
         return false;

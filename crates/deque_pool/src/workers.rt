@@ -2,6 +2,7 @@
 ghost use Rattle.std.specs.Prelude.{◌≡◌, vec_len, vec_capacity, ◌≤◌, IfOk};
 ghost use Rattle.shared_run.specs.schedule_workers.Starts.{ArePlaces};
 
+use crate::ahead::Trail;
 use crate::figures::Figures;
 use crate::outlook::Left;
 use crate::pace::Pace;
@@ -22,6 +23,7 @@ pub(crate) struct Worker<'p, L: Bench> {
     pub(crate) hands: Hands,
     pub(crate) thieves: Vec<Thief>,
     pub(crate) pace: Pace,
+    pub(crate) trail: Trail,
     pub(crate) figures: Figures,
     pub(crate) left: Left,
 }
@@ -103,6 +105,7 @@ pub(crate) fn crew_of<'p, L: Bench>(
             hands,
             thieves,
             pace: Pace::new(),
+            trail: Trail::new(),
             figures,
             left: Left::Over,
         }))?;

@@ -36,6 +36,7 @@ pub struct Pile {
 }
 
 /// A frame that is over, or a new one.
+#[inline(always)]
 pub(crate) fn fresh(spare: &mut Vec<Box<Frame>>, alloc: Global) -> Result<Box<Frame>, OutOfMemory> {
     match spare.pop() {
         Some(frame) => Ok(frame),
@@ -45,6 +46,7 @@ pub(crate) fn fresh(spare: &mut Vec<Box<Frame>>, alloc: Global) -> Result<Box<Fr
 
 impl Pile {
     /// The frame goes on, on top of the one that made it.
+    #[inline(always)]
     pub(crate) fn push(&mut self, frame: Box<Frame>) -> Result<(), OutOfMemory>
         ensures below { OnOk result (self.new.below.items ≡ self.old.below.items ++ self.old.top ∷ []) }
         ensures only { OnOk result (self.new ≡ record self.old { top = frame; below = self.new.below }) }
@@ -55,6 +57,7 @@ impl Pile {
     }
 
     /// The frame, which stood below the one on top, goes on.
+    #[inline(always)]
     pub(crate) fn go_back_to(&mut self, frame: Box<Frame>) -> Result<(), OutOfMemory>
         ensures only { OnOk result (self.new ≡ record self.old { top = frame; spare = self.new.spare }) }
     {
