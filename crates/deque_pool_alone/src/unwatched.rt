@@ -1,4 +1,4 @@
-ghost use Rattle.std.specs.Prelude.{◌≡◌, IfErr, IfOk, None, OnOk};
+ghost use Rattle.std.specs.Prelude.{◌≡◌, ◌≢◌, Err, IfErr, IfOk, None, OnOk};
 ghost use Rattle.outcome.specs.Requirements.{unmet_in};
 ghost use Rattle.outcome.specs.store.Made.{HasGlobalCells};
 ghost use Rattle.serial_machine.specs.Promise.{EndsWithinBudget};
@@ -24,6 +24,7 @@ pub fn run_unwatched(
     ensures ends { IfOk result (EndsWithinBudget verified.now arguments.now memory) }
     ensures met { OnOk result (unmet_in verified.now arguments.now ≡ None) }
     ensures refused { IfErr result (IsRefusal verified.now arguments.now memory) }
+    ensures not_stopped { result ≢ Err RunFault.Stopped }
 {
     serial_run(alloc, verified, arguments, memory)
 }
