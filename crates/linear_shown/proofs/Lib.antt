@@ -14,3 +14,4 @@ pub mod Looking
 pub mod Slices
 pub mod Passing
 pub mod Merging
+pub mod Products

@@ -80,3 +80,21 @@ loop-first-preserved c =
           (λ k d l. c.is_alone.ensures k d c.if-not-is_alone.false l) c.left_after-count.ensures.all c.left_after-count.ensures.passed from li was.1 m s in
           c.skipped.ensures.passed i k next.0 li next.1 m s,
     )
+
+pub returns-then-is_enough-clause-met : goal.returns-then-is_enough-clause-met
+returns-then-is_enough-clause-met c = λ there some.
+    let xs = c.args.pass.now.firsts.now in
+    let ys = c.args.pass.now.seconds.now in
+    let sought = c.args.pass.now.sought in
+    let count = c.loop-first.count in
+    they_meet xs ys sought.first sought.second sought.total c.risen-first.result (count - 1) none none _ _ there (omega (arith, some, c.loop-first.invariant.2, c.requires.upto))
+    c.times-of_first.ensures.value c.times-of_second.ensures.value (omega (arith, c.if-total-of_first.false, c.times-of_first.ensures.value, c.risen-first.ensures.reached none there))
+
+pub returns-then-not-is_alone-clause-met : goal.returns-then-not-is_alone-clause-met
+returns-then-not-is_alone-clause-met c = λ there some.
+    let xs = c.args.pass.now.firsts.now in
+    let ys = c.args.pass.now.seconds.now in
+    let sought = c.args.pass.now.sought in
+    let count = c.loop-first.count in
+    they_meet xs ys sought.first sought.second sought.total c.risen-first.result (count - 1) none none _ _ there (omega (arith, some, c.loop-first.invariant.2, c.requires.upto))
+    c.times-of_first.ensures.value c.times-of_second.ensures.value (omega (arith, c.if-total-of_first.false, c.times-of_first.ensures.value, c.risen-first.ensures.reached none there))

@@ -29,3 +29,9 @@ loop-first-preserved c =
           met (λ h. false≢true (sym c.if-is_enough.false ∙ c.is_enough.ensures.1 h)) (c.is_single.ensures.first none c.if-not-is_single.false) (c.is_single.ensures.second none c.if-not-is_single.false)
           was.0 li was.1 m s,
     )
+
+pub returns-then-is_enough-clause-passed : goal.returns-then-is_enough-clause-passed
+returns-then-is_enough-clause-passed c = rw (c.requires.first, c.requires.second, ← c.requires.same) c.loop-first.invariant.3
+
+pub returns-then-not-is_single-clause-passed : goal.returns-then-not-is_single-clause-passed
+returns-then-not-is_single-clause-passed c = rw (c.requires.first, c.requires.second, ← c.requires.same) c.loop-first.invariant.3
