@@ -56,7 +56,7 @@ impl Frame {
         enter(
             self.registers.as_mut_slice(),
             moves,
-            function.blocks.as_slice(),
+            &function.blocks,
             self.place.block,
             target,
         );

@@ -11,6 +11,7 @@ ghost use Rattle.frame_engine.specs.Shows.{Layout, ShowsRegisters};
 use crate::entering::enter_along;
 use crate::words::{define, register};
 use frame_code::BlockCode;
+use lists::Seq;
 use program::{Block, BlockId, RegisterId};
 
 /// What a code did.
@@ -45,7 +46,7 @@ pub fn truth(regs: &[i64], condition: RegisterId) -> bool
 pub fn branch(
     regs: &mut [i64],
     moves: &mut [i64],
-    blocks: &[Block],
+    blocks: &Seq<Block>,
     from: BlockId,
     code: &BlockCode,
     holds: bool,
@@ -75,7 +76,7 @@ pub fn branch(
 pub fn branch_by(
     regs: &mut [i64],
     moves: &mut [i64],
-    blocks: &[Block],
+    blocks: &Seq<Block>,
     from: BlockId,
     code: &BlockCode,
     test: RegisterId,

@@ -43,8 +43,8 @@ impl Frame {
         match argument {
             Argument::Number(operand) => word(self.registers.as_slice(), operand),
             Argument::Object(name) => first(
-                places.globals.as_slice(),
-                allocas.as_slice(),
+                &places.globals,
+                allocas,
                 &self.home,
                 self.registers.as_slice(),
                 name,

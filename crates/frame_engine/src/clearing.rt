@@ -46,8 +46,8 @@ impl Frame {
     {
         let allocas = &places.allocas.as_slice()[self.function.0];
         first(
-            places.globals.as_slice(),
-            allocas.as_slice(),
+            &places.globals,
+            allocas,
             &self.home,
             self.registers.as_slice(),
             object,

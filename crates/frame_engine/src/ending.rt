@@ -14,6 +14,7 @@ ghost use Rattle.frame_engine.specs.Shows.{Layout, ShowsRegisters, TrapFree};
 
 use crate::entering::enter;
 use crate::words::{register, word};
+use lists::Seq;
 use program::{Block, BlockId, Case, Terminator};
 
 /// The case of a switch for the number.
@@ -78,7 +79,7 @@ fn next_block(regs: &[i64], terminator: &Terminator) -> Option<BlockId>
 pub fn leave(
     regs: &mut [i64],
     moves: &mut [i64],
-    blocks: &[Block],
+    blocks: &Seq<Block>,
     from: BlockId,
     terminator: &Terminator,
 ) -> Option<BlockId>

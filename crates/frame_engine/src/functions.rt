@@ -2,7 +2,8 @@ ghost use Rattle.std.specs.Prelude.{◌≡◌, ◌<◌, ◌≤◌, IfNone, IfSom
 ghost use Rattle.program.specs.declared.function.Alloca.{Alloca};
 ghost use Rattle.frame_engine.specs.Fits.{HasMoves};
 
-use program::{Alloca, Function, FunctionId, Program};
+use lists::Seq;
+use program::{Alloca, Block, BlockId, Function, FunctionId, Program};
 
 /// The function, which is there.
 #[inline(always)]
@@ -11,6 +12,15 @@ pub fn function_at(program: &Program, function: FunctionId) -> &Function
     ensures { slice_get program.now.functions function.0 ≡ Some result.now }
 {
     &program.functions.as_slice()[function.0]
+}
+
+/// The block, which is there.
+#[inline(always)]
+pub fn block_at(blocks: &Seq<Block>, block: BlockId) -> &Block
+    requires { block.0 < length blocks.now }
+    ensures { slice_get blocks.now block.0 ≡ Some result.now }
+{
+    &blocks.as_slice()[block.0]
 }
 
 /// The cells of a function's allocas; none where 64 bits don't count them.

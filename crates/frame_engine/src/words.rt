@@ -4,6 +4,7 @@ ghost use Rattle.syntax.specs.declared.operator.Width.TheVariants.{Bits64};
 ghost use Rattle.frame_engine.specs.Words.{IsWord, IsFirst, IsAddress, bases};
 ghost use Rattle.frame_engine.specs.Names.{HasOperand, HasObject, HasAddress, sizes};
 
+use lists::Seq;
 use program::{Address, ObjectName, Operand, RegisterId};
 
 #[inline(always)]
@@ -12,6 +13,14 @@ pub fn number_at(numbers: &[i64], at: usize) -> i64
     ensures { slice_get numbers.now at ≡ Some result }
 {
     numbers[at]
+}
+
+#[inline(always)]
+pub fn number_in(numbers: &Seq<i64>, at: usize) -> i64
+    requires { at < length numbers.now }
+    ensures { slice_get numbers.now at ≡ Some result }
+{
+    number_at(numbers.as_slice(), at)
 }
 
 #[inline(always)]
@@ -51,19 +60,31 @@ pub fn behind(at: i64, cells: i64) -> i64
 
 /// The address of the object's first cell.
 #[inline(always)]
-pub fn first(globals: &[i64], allocas: &[i64], home: &i64, regs: &[i64], name: ObjectName) -> i64
+pub fn first(
+    globals: &Seq<i64>,
+    allocas: &Seq<i64>,
+    home: &i64,
+    regs: &[i64],
+    name: ObjectName,
+) -> i64
     requires { HasObject (sizes (length regs.now) (length globals.now) (length allocas.now)) name }
     ensures { IsFirst (bases globals.now allocas.now home.now) regs.now name result }
 {
     match name {
-        ObjectName::Global(global) => number_at(globals, global.0),
-        ObjectName::Alloca(alloca) => behind(*home, number_at(allocas, alloca.0)),
+        ObjectName::Global(global) => number_in(globals, global.0),
+        ObjectName::Alloca(alloca) => behind(*home, number_in(allocas, alloca.0)),
         ObjectName::Parameter(from) => register(regs, from),
     }
 }
 
 #[inline(always)]
-pub fn address(globals: &[i64], allocas: &[i64], home: &i64, regs: &[i64], address: Address) -> i64
+pub fn address(
+    globals: &Seq<i64>,
+    allocas: &Seq<i64>,
+    home: &i64,
+    regs: &[i64],
+    address: Address,
+) -> i64
     requires { HasAddress (sizes (length regs.now) (length globals.now) (length allocas.now)) address }
     ensures { IsAddress (bases globals.now allocas.now home.now) regs.now address result }
 {

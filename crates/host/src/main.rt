@@ -1,14 +1,17 @@
-//! A host: takes a kernel that it did not write, turns it away where it is wrong or too dear, and runs it three times.
+//! A host: takes a kernel that it did not write, turns it away where it is wrong or too dear, and runs it serially, on threads and by a schedule.
 #![tactic(auto)]
 
 use std::alloc::{AllocError, Global};
 use std::hash::RandomState;
 use std::io::{BufWriter, Write};
 use std::process::ExitCode;
+use std::sync::Wait;
+use std::thread::Threads;
+use std::time::Clock;
 use std::{env, fs, io};
 use tapir_host::{
-    Decoded, Effort, Event, Memory, Path, Refused, RunFault, Unverified, Verified, replay,
-    serial_run_by, verify_within,
+    Decoded, Effort, Event, Gate, Go, Memory, Path, Refused, RunFault, Unverified, Verified,
+    replay, run, serial_run_by, verify_within,
 };
 
 /// The most steps of search for a verdict.
@@ -19,13 +22,24 @@ const MOST_INSTRUCTIONS: u64 = 1_000_000;
 
 const MOST_FRAMES: u64 = 1_000;
 
+const WORKERS: usize = 4;
+
+/// Stops a run on threads before a worker begins this strand. A strand is some 65,536 instructions at most.
+struct Limit(u64);
+
+impl Gate for Limit {
+    fn pass(&self, _worker: u8, strand: u64) -> Go {
+        if strand < self.0 { Go::On } else { Go::Stop }
+    }
+}
+
 /// Why a run has no answer, in words.
 fn reason(fault: &RunFault) -> &'static str {
     match fault {
         RunFault::BadArguments { .. } => "the arguments are not those that the kernel asks for",
         RunFault::BadWorkers { .. } => "there are from 1 to 64 workers",
         RunFault::OutOfMemory => "out of memory",
-        RunFault::Stopped => "the run was stopped",
+        RunFault::Stopped => "it began too many strands",
     }
 }
 
@@ -67,6 +81,35 @@ fn run_serially<W: Write>(
     Ok(())
 }
 
+/// Runs a kernel on four workers, each on a thread of its own.
+fn run_on_threads<T: Threads + Wait + Clock + Sync, W: Write>(
+    rt: &T,
+    alloc: Global,
+    kernel: &Verified,
+    arguments: &[i64],
+    output: &mut W,
+) -> io::Result<()> {
+    let Ok(memory) = Memory::zeroed(alloc, kernel) else {
+        return writeln!(output, "on threads: out of memory");
+    };
+    match run(
+        rt,
+        alloc,
+        kernel,
+        arguments,
+        memory,
+        WORKERS,
+        &Limit(100_000),
+    ) {
+        Ok(run) => writeln!(
+            output,
+            "on threads: {} after {} instructions",
+            run.result, run.instructions
+        ),
+        Err(fault) => writeln!(output, "on threads: {}", reason(&fault)),
+    }
+}
+
 fn run_in_turns<W: Write>(
     alloc: Global,
     kernel: &Verified,
@@ -95,7 +138,8 @@ fn run_in_turns<W: Write>(
 }
 
 /// Judges a kernel and runs it.
-fn host<W: Write>(
+fn host<T: Threads + Wait + Clock + Sync, W: Write>(
+    rt: &T,
     alloc: Global,
     state: RandomState,
     text: &[u8],
@@ -117,6 +161,7 @@ fn host<W: Write>(
         );
     }
     run_serially(alloc, &kernel, &[7, 8], output)?;
+    run_on_threads(rt, alloc, &kernel, &[7], output)?;
     run_in_turns(alloc, &kernel, &[7], output)
 }
 
@@ -126,7 +171,7 @@ fn main(rt: HostRuntime) -> anyhow::Result<ExitCode> {
     let mut output = BufWriter::new(alloc, io::writer(&rt))?;
     for file in env::args(&rt)?.skip(1) {
         match fs::read(&rt, file.as_str()) {
-            Ok(text) => host(alloc, state, text.as_slice(), &mut output)?,
+            Ok(text) => host(&rt, alloc, state, text.as_slice(), &mut output)?,
             Err(_) => writeln!(output, "unreadable")?,
         }
     }

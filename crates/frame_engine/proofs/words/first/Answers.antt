@@ -10,8 +10,8 @@ pub returns-in-Alloca : goal.returns-in-Alloca
 returns-in-Alloca c =
     let fit : FitsSigned w64 c.args.home.now = search rules in
     rw c.in-Alloca.is (
-      c.number_at-in-Alloca.result,
-      c.number_at-in-Alloca.ensures,
+      c.number_in-in-Alloca.result,
+      c.number_in-in-Alloca.ensures,
       written c.behind.result c.behind.type_inv ∙ c.behind.ensures ∙
-          (λ i. wrapped Bits64 (to_z-of_z w64 c.args.home.now fit i +ℤ written c.number_at-in-Alloca.result c.number_at-in-Alloca.type_inv i)),
+          (λ i. wrapped Bits64 (to_z-of_z w64 c.args.home.now fit i +ℤ written c.number_in-in-Alloca.result c.number_in-in-Alloca.type_inv i)),
     )
