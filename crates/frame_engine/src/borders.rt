@@ -15,6 +15,7 @@ ghost use Rattle.frame_engine.specs.Shows.{Layout};
 use crate::activation::Frame;
 use crate::calls::have_words;
 use crate::entering::enter;
+use crate::functions::function_at;
 use crate::turning::Place;
 use crate::words::{define, word};
 use frame::{Role, Wait};
@@ -52,7 +53,7 @@ impl Frame {
             → ShowsFrame l places p g self.old → registers_along program.now g target.0 ≡ Some r
             → ShowsFrame l places p (synced g region.0 target.0 r) self.new }
     {
-        let function = &program.functions.as_slice()[self.function.0];
+        let function = function_at(program, self.function);
         enter(
             self.registers.as_mut_slice(),
             moves,

@@ -63,11 +63,13 @@ pub fn branch(
         → ShowsRegisters l r regs.old → with_phis r from.0 b.phis r ≡ Some s → ShowsRegisters l s regs.new }
 {
     if holds {
+        let target = code.first.target;
         enter_along(regs, moves, blocks, from, &code.first);
-        code.first.target
+        target
     } else {
+        let target = code.second.target;
         enter_along(regs, moves, blocks, from, &code.second);
-        code.second.target
+        target
     }
 }
 
@@ -96,11 +98,13 @@ pub fn branch_by(
 {
     if holds {
         define(regs, test, 1);
+        let target = code.first.target;
         enter_along(regs, moves, blocks, from, &code.first);
-        code.first.target
+        target
     } else {
         define(regs, test, 0);
+        let target = code.second.target;
         enter_along(regs, moves, blocks, from, &code.second);
-        code.second.target
+        target
     }
 }

@@ -1,4 +1,4 @@
-use Rattle.std.proofs.Common.{List, ℤ, subst, sym}
+use Rattle.std.proofs.Common.{List, ℤ, refl, subst, sym}
 use Rattle.frame_engine.specs.Activation.{bases_in}
 use Rattle.frame_engine.specs.Words.{Bases, IsFirst, bases}
 use Rattle.frame_engine.proofs.Bits.{written}
