@@ -2,6 +2,7 @@ pub mod Addresses
 pub mod Around
 pub mod Changing
 pub mod Committed
+pub mod Copied
 pub mod Holding
 pub mod Keeping
 pub mod Paged

@@ -1,4 +1,4 @@
-ghost use Rattle.std.specs.Prelude.{◌≡◌, ◌≢◌, ◌<◌, ◌≤◌, ◌+◌, ◌*◌, ◌||◌, ℕ, true, false, length, IfNone, None};
+ghost use Rattle.std.specs.Prelude.{◌≡◌, ◌≢◌, ◌<◌, ◌≤◌, ◌+◌, ◌*◌, ◌||◌, ℕ, pos, true, false, length, slice_index_or, IfNone, None};
 ghost use Rattle.frame_strand.specs.Buffers.{raised_change};
 ghost use Rattle.private_stack_log.specs.Bits.{is_set};
 ghost use Rattle.private_stack_log.specs.Committing.{AgreesWithin, ArePut, PageAgrees, PageDiffers, PageIsPut};
@@ -24,10 +24,13 @@ pub(crate) struct Page {
     stored: u64,
     delta: u64,
     values: [i64; 64],
+    /// Of a cell that was loaded and not stored since this is its value, so that the next load takes it from here, whatever was done to the cell.
     changes: [i64; 64],
     ghost rows: { (length values ≡ 64) × (length changes ≡ 64) },
     ghost within: { filled ≤ 64 },
     ghost read_near: { (k : ℕ) → is_set read k ≡ true → k < filled },
+    ghost settled: { (k : ℕ) → is_set read k ≡ true → is_set stored k ≡ false → is_set delta k ≡ false },
+    ghost copied: { (k : ℕ) → is_set read k ≡ true → is_set stored k ≡ false → slice_index_or changes k (pos 0) ≡ slice_index_or values k (pos 0) },
 }
 
 impl Page {
@@ -72,17 +75,19 @@ impl Page {
         ensures done { kept_of self.new ≡ loaded_page (kept_of self.old) place }
         ensures unchanged { IfNone result (self.new ≡ self.old) }
     {
-        if is_set(self.stored, place) {
+        if is_set(either(self.read, self.stored), place) {
             return Some(self.changes[place]);
         }
         if place >= self.filled {
             return None;
         }
+        let value = self.values[place];
         self.read = with_bit(self.read, place);
         if !is_set(self.delta, place) {
-            return Some(self.values[place]);
+            self.changes[place] = value;
+            return Some(value);
         }
-        let number = sum(self.values[place], self.changes[place]);
+        let number = sum(value, self.changes[place]);
         self.changes[place] = number;
         self.stored = with_bit(self.stored, place);
         Some(number)
@@ -103,11 +108,11 @@ impl Page {
         ensures { kept_of self.new ≡
             changed_page (kept_of self.old) place (raised_change number.now ((kept_of self.old).writes place) ((kept_of self.old).reads place)) }
     {
-        if is_set(self.stored, place) || is_set(self.delta, place) {
-            self.changes[place] = sum(self.changes[place], *number);
-        } else if is_set(self.read, place) {
-            let sum = sum(self.values[place], *number);
+        if is_set(either(self.read, self.stored), place) {
+            let sum = sum(self.changes[place], *number);
             self.store(place, &sum);
+        } else if is_set(self.delta, place) {
+            self.changes[place] = sum(self.changes[place], *number);
         } else {
             self.changes[place] = *number;
             self.delta = with_bit(self.delta, place);
