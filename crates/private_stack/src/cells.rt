@@ -21,6 +21,7 @@ pub struct PileCells {
     pub log: PageLog,
 }
 
+#[inline(always)]
 fn number_at(own: &[i64], place: usize) -> i64
     requires { place < length own.now }
     ensures { slice_get own.now place ≡ Some result }
@@ -30,18 +31,22 @@ fn number_at(own: &[i64], place: usize) -> i64
 
 impl PileCells {
     /// The place in the segment of the cell at the address.
+    #[inline(always)]
     pub(crate) fn place(&self, at: &i64) -> Option<usize>
         ensures within { IfSome result (λ place. place < length self.now.own.items) }
         ensures is { IfSome result (λ place. at.now ≡ pos (self.now.start + place)) }
         ensures absent { IfNone result (own_cell self.now at.now ≡ None) }
     {
-        if *at < 0 {
+        // one comparison tells most other cells: an address below the segment wraps round
+        let address = at.cast_unsigned();
+        let place = address.wrapping_sub(self.start);
+        if place >= self.own.len() as u64 {
             return None;
         }
-        match at.cast_unsigned().checked_sub(self.start) {
-            Some(place) if (place as usize) < self.own.len() => Some(place as usize),
-            Some(_) | None => None,
+        if *at < 0 || address < self.start {
+            return None;
         }
+        Some(place as usize)
     }
 }
 
