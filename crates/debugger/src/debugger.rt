@@ -4,7 +4,6 @@ use crate::marks::Marks;
 use schedule_core::{Event, Machine};
 
 /// A run of a schedule that can go back: it stands at a position, between two events of the list.
-#[derive(Drop)]
 pub struct Debugger<'v> {
     pub(crate) events: Vec<Event>,
     /// How many events were done.
@@ -13,4 +12,16 @@ pub struct Debugger<'v> {
     pub(crate) machine: Machine<'v>,
     pub(crate) marks: Marks<'v>,
     ghost within: { position ≤ length events.items },
+}
+
+/// Written out, so that no crate above proves it anew.
+impl Drop for Debugger<'_> {
+    fn drop(self) {
+        let Debugger {
+            events: _,
+            position: _,
+            machine: _,
+            marks: _,
+        } = self;
+    }
 }

@@ -61,13 +61,25 @@ impl Standing {
 }
 
 /// A worker's stack of its own: what it does outside of the board from the frame on that it runs there. Contracts see its pile and how it stands.
-#[derive(Drop)]
 pub struct PrivateStack<'p, L: Bench> {
     bench: PhantomData<L>,
     verified: &'p Verified,
     places: &'p Places,
     pile: Pile,
     standing: Standing,
+}
+
+/// Written out, so that no crate above proves it anew.
+impl<L: Bench> Drop for PrivateStack<'_, L> {
+    fn drop(self) {
+        let PrivateStack {
+            bench: _,
+            verified: _,
+            places: _,
+            pile: _,
+            standing: _,
+        } = self;
+    }
 }
 
 impl<'p, L: Bench> Model for PrivateStack<'p, L> {

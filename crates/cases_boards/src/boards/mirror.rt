@@ -7,13 +7,25 @@ use shared_run::{Bench, Board, Entry, Event, History, Machine, TaskView, Verifie
 use std::alloc::Global;
 
 /// The machine after the events of a history that it was given.
-#[derive(Drop)]
 pub struct Mirror<'v> {
     alloc: Global,
     verified: &'v Verified,
     workers: u8,
     machine: Machine<'v>,
     events: u64,
+}
+
+/// Written out, so that no function that has one proves it anew.
+impl Drop for Mirror<'_> {
+    fn drop(self) {
+        let Mirror {
+            alloc: _,
+            verified: _,
+            workers: _,
+            machine: _,
+            events: _,
+        } = self;
+    }
 }
 
 impl<'v> Mirror<'v> {
