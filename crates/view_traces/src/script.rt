@@ -9,6 +9,7 @@ const MOST: usize = 1_048_576;
 
 /// A schedule's text, of which the steps of one worker in a row are written as one line. Where it grows too long only its events are
 /// counted on.
+#[derive(Drop)]
 pub struct Script {
     text: String,
     /// The worker of the steps that are not written yet, and how many they are.
@@ -16,19 +17,6 @@ pub struct Script {
     steps: u64,
     events: u64,
     is_too_long: bool,
-}
-
-/// Written out, so that no crate above proves it anew.
-impl Drop for Script {
-    fn drop(self) {
-        let Script {
-            text: _,
-            worker: _,
-            steps: _,
-            events: _,
-            is_too_long: _,
-        } = self;
-    }
 }
 
 impl Script {
