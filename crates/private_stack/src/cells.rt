@@ -137,6 +137,7 @@ impl Cells for PileCells {
 
     ghost refuses = { CellsRefuse };
 
+    #[inline(always)]
     fn load(&mut self, at: i64) -> Result<i64, Stop> {
         match self.place(&at) {
             Some(place) => Ok(number_at(self.own.as_slice(), place)),
@@ -144,6 +145,7 @@ impl Cells for PileCells {
         }
     }
 
+    #[inline(always)]
     fn store(&mut self, at: i64, number: i64) -> Result<(), Stop> {
         match self.place(&at) {
             Some(place) => {
