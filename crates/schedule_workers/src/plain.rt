@@ -40,7 +40,7 @@ impl Run {
         let Some(activation) = self.cactus.frame_mut(slot) else {
             unreachable!()
         };
-        let _pause = activation.frame.advance(
+        let _pause = activation.frame.turn(
             program,
             places,
             &mut self.cells,

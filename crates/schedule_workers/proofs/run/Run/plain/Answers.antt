@@ -23,13 +23,13 @@ overflow_add-before c =
     let low : c.args.self.now.instructions + 2 < 9223372036854775808 = ∥∥₁_elim c.requires.safe (hlevel props) (λ s. let a = (s.safe []).counted in let b = s.shown.shows.done in omega (arith, a, b)) in
     record { fits = omega (arith, low) }
 
-pub advance-pause-requires-clause-stands : goal.advance-pause-requires-clause-stands
-advance-pause-requires-clause-stands c =
+pub turn-pause-requires-clause-stands : goal.turn-pause-requires-clause-stands
+turn-pause-requires-clause-stands c =
     let n = node_of c.args.self.now.cactus c.args.slot c.in-Some.activation.now (sym c.frame_mut.ensures.value ∙ ap option_copied_mut c.in-Some.is) in
     ∥∥₁_elim c.requires.safe (fits_prop _ _) (λ s. (s.shown.agrees.nodes c.args.slot (record n.0 { frame = c.in-Some.activation.now }) n.1).fits)
 
-pub advance-pause-requires-clause-safe : goal.advance-pause-requires-clause-safe
-advance-pause-requires-clause-safe c =
+pub turn-pause-requires-clause-safe : goal.turn-pause-requires-clause-safe
+turn-pause-requires-clause-safe c =
     let n = node_of c.args.self.now.cactus c.args.slot c.in-Some.activation.now (sym c.frame_mut.ensures.value ∙ ap option_copied_mut c.in-Some.is) in
     ∥∥₁_map c.requires.safe (λ s.
     safe_standing c.args.program.now c.args.places.now c.args.self.now c.args.slot n.0 c.in-Some.activation.now n.1 s.machine s.shown c.requires.held.worker c.requires.held.hand s.safe)
@@ -44,9 +44,9 @@ returns-then-self-before-clause-left c = λ m shown safe.
     let w = c.requires.held.worker in
     let hand = c.requires.held.hand in
     let g = seen prog places k c.args.slot n.0 a n.1 m shown in
-    left_shown prog places k c.args.slot n.0 a n.1 m shown w hand safe c.advance-pause.new.self c.advance-pause.ensures.only c.advance-pause.ensures.stands
-    c.advance-pause.new.cells c.advance-pause.new.done (with_items k.moves c.advance-pause.new.moves)
-    (c.advance-pause.ensures.led (layout_of prog places k.cactus m.core) (place_of (record n.0 { frame = a })) g.frame m.core.memory g.shows.shown shown.shows.cells (stays prog places k c.args.slot n.0 a n.1 m shown w hand safe))
+    left_shown prog places k c.args.slot n.0 a n.1 m shown w hand safe c.turn-pause.new.self c.turn-pause.ensures.only c.turn-pause.ensures.stands
+    c.turn-pause.new.cells c.turn-pause.new.done (with_items k.moves c.turn-pause.new.moves)
+    (c.turn-pause.ensures.led (layout_of prog places k.cactus m.core) (place_of (record n.0 { frame = a })) g.frame m.core.memory g.shows.shown shown.shows.cells (stays prog places k c.args.slot n.0 a n.1 m shown w hand safe))
     (search rules)
 
 pub returns-clause-stepped : goal.returns-clause-stepped
@@ -57,18 +57,18 @@ returns-clause-stepped c = λ w hand m shown safe.
     let a = c.in-Some.activation.now in
     let n = node_of k.cactus c.args.slot a (sym c.frame_mut.ensures.value ∙ ap option_copied_mut c.in-Some.is) in
     let g = seen prog places k c.args.slot n.0 a n.1 m shown in
-    step_shown prog places k c.args.slot n.0 a n.1 m shown w hand safe c.advance-pause.new.self c.advance-pause.ensures.only c.advance-pause.ensures.stands
-    c.advance-pause.new.cells c.advance-pause.new.done (with_items k.moves c.advance-pause.new.moves)
-    (c.advance-pause.ensures.led (layout_of prog places k.cactus m.core) (place_of (record n.0 { frame = a })) g.frame m.core.memory g.shows.shown shown.shows.cells (stays prog places k c.args.slot n.0 a n.1 m shown w hand safe))
+    step_shown prog places k c.args.slot n.0 a n.1 m shown w hand safe c.turn-pause.new.self c.turn-pause.ensures.only c.turn-pause.ensures.stands
+    c.turn-pause.new.cells c.turn-pause.new.done (with_items k.moves c.turn-pause.new.moves)
+    (c.turn-pause.ensures.led (layout_of prog places k.cactus m.core) (place_of (record n.0 { frame = a })) g.frame m.core.memory g.shows.shown shown.shows.cells (stays prog places k c.args.slot n.0 a n.1 m shown w hand safe))
     (search rules)
-    c.advance-pause.ensures.room
+    c.turn-pause.ensures.room
 
 pub returns-clause-stalls : goal.returns-clause-stalls
 returns-clause-stalls c = λ w hand m shown safe.
     let k = c.args.self.now in
     let a = c.in-Some.activation.now in
     let n = node_of k.cactus c.args.slot a (sym c.frame_mut.ensures.value ∙ ap option_copied_mut c.in-Some.is) in
-    let after : Activation = record a { frame = record c.advance-pause.new.self { waits = wait.Nothing } } in
+    let after : Activation = record a { frame = record c.turn-pause.new.self { waits = wait.Nothing } } in
     own_notes c.args.program.now c.args.places.now k c.args.slot (record n.0 { frame = a }) n.1 m shown w hand after (ready_free after refl (Some a.frame.place.block.0))
 
 pub returns-then-self-before-clause-stalled : goal.returns-then-self-before-clause-stalled
@@ -76,8 +76,8 @@ returns-then-self-before-clause-stalled c =
     let k = c.args.self.now in
     let a = c.in-Some.activation.now in
     let n = node_of k.cactus c.args.slot a (sym c.frame_mut.ensures.value ∙ ap option_copied_mut c.in-Some.is) in
-    let waits = ap (λ (x : Frame). x.waits) c.advance-pause.ensures.only in
-    written_keeps_one k.cactus c.args.slot (record n.0 { frame = a }) n.1 (record a { frame = c.advance-pause.new.self })
+    let waits = ap (λ (x : Frame). x.waits) c.turn-pause.ensures.only in
+    written_keeps_one k.cactus c.args.slot (record n.0 { frame = a }) n.1 (record a { frame = c.turn-pause.new.self })
     (record { runner = refl; waits = waits; block = refl })
 
 pub returns-clause-uses : goal.returns-clause-uses
