@@ -7,4 +7,4 @@ mod report;
 
 pub use modules::{no_memory, verified_file};
 pub use numbers::{drawn, number_in};
-pub use report::{Lines, Report};
+pub use report::Report;

@@ -14,7 +14,7 @@ mod replies;
 mod rows;
 mod runs;
 
-use cases::Lines;
+use cases::Report;
 pub use rows::Notes;
 use std::hash::RandomState;
 use std::rt::Files;
@@ -26,9 +26,9 @@ pub fn answer<R: AllocGlobal + Files>(
     state: RandomState,
     file: &str,
     notes: &mut Notes,
-    report: &mut Lines,
+    report: &mut Report,
 ) -> io::Result<()> {
-    report.title(file)?;
+    report.title(file);
     let text = fs::read_to_string(rt, file)?;
     for block in text.split("==== ").skip(1) {
         blocks::answer(rt, state, block, notes, report)?;

@@ -4,8 +4,9 @@
 //! memory and made once more.
 #![tactic(auto)]
 
-use cases::{Lines, Report};
-use cases_boards::boards::Notes;
+use cases::Report;
+use cases_boards::boards::{self, Notes};
+use cases_layers::{schedules, shown, steps, texts};
 use std::hash::RandomState;
 use std::io::Write;
 use std::process::ExitCode;
@@ -21,17 +22,20 @@ fn answer_word<R: AllocGlobal + Files + Threads + Wait + Clock + Sync>(
     state: RandomState,
     word: &str,
     notes: &mut Notes,
-    report: &mut Lines,
+    report: &mut Report,
 ) -> io::Result<()> {
-    report.file(word)?;
+    report.file(word);
     let (kind, _) = word.split_once("/").unwrap_or((word, ""));
     match kind {
-        "shown" => cases_shown::answer(rt.alloc(), report),
-        "steps" => cases_steps::steps::answer(rt, state, report),
-        "schedules" => cases_steps::schedules::answer(rt.alloc(), report),
-        "boards" => cases_boards::boards::answer(rt, state, word, notes, report),
+        "shown" => {
+            shown::answer(rt.alloc(), report.lines());
+            Ok(())
+        }
+        "steps" => steps::answer(rt, state, report),
+        "schedules" => Ok(schedules::answer(rt.alloc(), report)?),
+        "boards" => boards::answer(rt, state, word, notes, report),
         "threads" => cases_threads::answer(rt, state, report),
-        _ => cases_text::answer(rt, state, kind, word, report),
+        _ => texts::answer(rt, state, kind, word, report),
     }
 }
 
@@ -40,21 +44,25 @@ fn answer<R: AllocGlobal + Env + Files + Threads + Wait + Clock + Sync>(
     rt: &R,
     state: RandomState,
     notes: &mut Notes,
-    report: &mut Lines,
+    report: &mut Report,
 ) -> io::Result<ExitCode> {
     for word in env::args(rt)?.skip(1) {
         answer_word(rt, state, word.as_str(), notes, report)?;
     }
-    report.finish()
+    Ok(report.finish())
 }
 
 fn main(rt: HostRuntime) -> io::Result<ExitCode> {
     let alloc = rt.alloc();
     let state = RandomState::new(&rt)?;
     let mut notes = Notes::new(alloc);
-    let mut report = Report::new(alloc, Vec::new(alloc));
+    let mut report = Report::new(alloc);
     let status = answer(&rt, state, &mut notes, &mut report);
-    io::writer(&rt).write_all(report.output().as_slice())?;
+    let lines = report.into_text();
+    if let Ok(lines) = &lines {
+        io::writer(&rt).write_all(lines.as_bytes())?;
+    }
     println!(rt; "refused and made once more: {}", notes.refused)?;
+    lines?;
     status
 }

@@ -8,7 +8,7 @@ mod runs;
 mod seats;
 mod tickets;
 
-use cases::Lines;
+use cases::{Report, no_memory};
 use std::hash::RandomState;
 use std::io;
 use std::rt::Files;
@@ -20,9 +20,9 @@ use std::time::Clock;
 pub fn answer<R: AllocGlobal + Files + Threads + Wait + Clock + Sync>(
     rt: &R,
     state: RandomState,
-    report: &mut Lines,
+    report: &mut Report,
 ) -> io::Result<()> {
-    tickets::answer(rt, rt.alloc(), report)?;
+    tickets::answer(rt, rt.alloc(), report).map_err(no_memory)?;
     runs::answer(rt, state, report)?;
     records::answer(rt, state, report)?;
     seats::answer(rt, state, report)

@@ -1,7 +1,7 @@
 //! Runs that are recorded: a replay of their events comes to their answer.
 
 use crate::endings::{Ending, is_so};
-use cases::{Lines, verified_file};
+use cases::{Report, verified_file};
 use deque_pool::{Figures, OpenGate, Recorded, run_recorded};
 use shared_run::{Event, Memory, Verified, replay};
 use std::alloc::Global;
@@ -101,13 +101,13 @@ fn is_recorded<R: Threads + Wait + Clock + Sync>(
 pub fn answer<R: AllocGlobal + Files + Threads + Wait + Clock + Sync>(
     rt: &R,
     state: RandomState,
-    report: &mut Lines,
+    report: &mut Report,
 ) -> io::Result<()> {
-    report.title("records")?;
+    report.title("records");
     let verified = verified_file(rt, state, "examples/parallel-for.ll")?;
     for workers in [1usize, 2, 4] {
         let is_recorded = is_recorded(rt, rt.alloc(), &verified, &[64], workers, (64, 518, 2));
-        report.holds("a recorded run is replayed to its answer", is_recorded)?;
+        report.holds("a recorded run is replayed to its answer", is_recorded);
     }
     Ok(())
 }

@@ -1,7 +1,7 @@
 //! Runs on threads: two workers inside at once, gates before strands, and a gate that stops a run.
 
 use crate::endings::{Ending, TURNS, is_so};
-use cases::{Lines, verified_file};
+use cases::{Report, verified_file};
 use deque_pool::{Gate, Go, run};
 use shared_run::{Memory, RunFault, Verified};
 use std::alloc::Global;
@@ -13,7 +13,7 @@ use std::thread::Threads;
 use std::time::Clock;
 use std::{io, thread};
 
-/// Whether a run of the module on so many workers under a gate comes to the answer.
+/// Whether a run of the module on so many workers under a gate comes to the answer, or is stopped, where none is wanted.
 fn comes_to<G: Gate + Sync, R: Threads + Wait + Clock + Sync>(
     rt: &R,
     alloc: Global,
@@ -21,14 +21,16 @@ fn comes_to<G: Gate + Sync, R: Threads + Wait + Clock + Sync>(
     arguments: &[i64],
     workers: usize,
     gate: &G,
-    wanted: Ending,
+    wanted: Option<Ending>,
 ) -> bool {
     let Ok(memory) = Memory::zeroed(alloc, verified) else {
         return false;
     };
-    match run(rt, alloc, verified, arguments, memory, workers, gate) {
-        Ok(done) => is_so(&done, wanted),
-        Err(_) => false,
+    let end = run(rt, alloc, verified, arguments, memory, workers, gate);
+    match (end, wanted) {
+        (Ok(done), Some(wanted)) => is_so(&done, wanted),
+        (Err(RunFault::Stopped), None) => true,
+        _ => false,
     }
 }
 
@@ -67,7 +69,7 @@ fn is_met<R: Threads + Wait + Clock + Sync>(rt: &R, alloc: Global, pair: &Verifi
         first: AtomicBool::new(false),
         second: AtomicBool::new(false),
     };
-    comes_to(rt, alloc, pair, &[7], 2, &meeting, (14, 14, 2))
+    comes_to(rt, alloc, pair, &[7], 2, &meeting, Some((14, 14, 2)))
         && meeting.first.load(Ordering::SeqCst)
         && meeting.second.load(Ordering::SeqCst)
 }
@@ -115,7 +117,8 @@ fn has_strands<R: Threads + Wait + Clock + Sync>(
         second: AtomicU64::new(0),
         other: AtomicU64::new(0),
     };
-    comes_to(rt, alloc, verified, arguments, 1, &counting, wanted) && counting.is_passed(second)
+    comes_to(rt, alloc, verified, arguments, 1, &counting, Some(wanted))
+        && counting.is_passed(second)
 }
 
 /// Counts how often worker 0 passes it, and how often others do.
@@ -150,7 +153,7 @@ fn has_passes<R: Threads + Wait + Clock + Sync>(
         first: AtomicU64::new(0),
         others: AtomicU64::new(0),
     };
-    comes_to(rt, alloc, verified, arguments, 2, &passes, wanted)
+    comes_to(rt, alloc, verified, arguments, 2, &passes, Some(wanted))
         && passes.first.load(Ordering::SeqCst) == strands
         && passes.others.load(Ordering::SeqCst) == 0
 }
@@ -177,90 +180,79 @@ impl Gate for Asleep {
     }
 }
 
-/// Whether a run on so many workers is stopped.
-fn is_stopped<R: Threads + Wait + Clock + Sync>(
-    rt: &R,
-    alloc: Global,
-    verified: &Verified,
-    arguments: &[i64],
-    workers: usize,
-) -> bool {
-    let Ok(memory) = Memory::zeroed(alloc, verified) else {
-        return false;
-    };
-    let end = run(rt, alloc, verified, arguments, memory, workers, &Stopping);
-    matches!(end, Err(RunFault::Stopped))
-}
-
 fn answer_pair<R: AllocGlobal + Files + Threads + Wait + Clock + Sync>(
     rt: &R,
     state: RandomState,
-    report: &mut Lines,
+    report: &mut Report,
 ) -> io::Result<()> {
     let pair = verified_file(rt, state, "examples/pair.ll")?;
     let is_met = is_met(rt, rt.alloc(), &pair);
-    report.holds("two workers are inside at once", is_met)
+    report.holds("two workers are inside at once", is_met);
+    Ok(())
 }
 
 fn answer_stores<R: AllocGlobal + Files + Threads + Wait + Clock + Sync>(
     rt: &R,
     state: RandomState,
-    report: &mut Lines,
+    report: &mut Report,
 ) -> io::Result<()> {
     let stores = verified_file(rt, state, "modules/loop-of-stores.ll")?;
     // The 257th cell is the second strand's.
     let has_two = has_strands(rt, rt.alloc(), &stores, &[], (0, 1546, 1), 1);
-    report.holds("each of two strands is after its gate", has_two)
+    report.holds("each of two strands is after its gate", has_two);
+    Ok(())
 }
 
-fn answer_limit<R: AllocGlobal + Files + Threads + Wait + Clock + Sync>(
+fn answer_limit<R: Threads + Wait + Clock + Sync>(
     rt: &R,
-    state: RandomState,
-    report: &mut Lines,
-) -> io::Result<()> {
-    let long = verified_file(rt, state, "modules/long-loop.ll")?;
+    alloc: Global,
+    long: &Verified,
+    report: &mut Report,
+) {
     // After 65,536 instructions stands the return.
-    let has_one = has_strands(rt, rt.alloc(), &long, &[16_383], (16_383, 65_537, 1), 0);
-    report.holds("a border at the limit is the strand's", has_one)?;
-    let has_two = has_strands(rt, rt.alloc(), &long, &[16_384], (16_384, 65_541, 1), 1);
-    report.holds("past the limit goes the next strand", has_two)?;
+    let has_one = has_strands(rt, alloc, long, &[16_383], (16_383, 65_537, 1), 0);
+    report.holds("a border at the limit is the strand's", has_one);
+    let has_two = has_strands(rt, alloc, long, &[16_384], (16_384, 65_541, 1), 1);
+    report.holds("past the limit goes the next strand", has_two);
     // 200,005 instructions are three strands of 65,536 and one of 3,397.
-    let has_four = has_passes(rt, rt.alloc(), &long, &[50_000], (50_000, 200_005, 1), 4);
+    let has_four = has_passes(rt, alloc, long, &[50_000], (50_000, 200_005, 1), 4);
     report.holds(
         "of two workers one does a long loop in four strands",
         has_four,
-    )
+    );
 }
 
-fn answer_stop<R: AllocGlobal + Files + Threads + Wait + Clock + Sync>(
+fn answer_stop<R: Threads + Wait + Clock + Sync>(
     rt: &R,
-    state: RandomState,
-    report: &mut Lines,
-) -> io::Result<()> {
-    let long = verified_file(rt, state, "modules/long-loop.ll")?;
-    let is_one = is_stopped(rt, rt.alloc(), &long, &[50_000], 1);
-    report.holds("a gate stops a run of one worker", is_one)?;
-    let is_two = is_stopped(rt, rt.alloc(), &long, &[50_000], 2);
-    report.holds("a gate stops a run of two", is_two)?;
-    let wanted = (50_000, 200_005, 1);
-    let has_one = comes_to(rt, rt.alloc(), &long, &[50_000], 1, &Asleep, wanted);
+    alloc: Global,
+    long: &Verified,
+    report: &mut Report,
+) {
+    let is_one = comes_to(rt, alloc, long, &[50_000], 1, &Stopping, None);
+    report.holds("a gate stops a run of one worker", is_one);
+    let is_two = comes_to(rt, alloc, long, &[50_000], 2, &Stopping, None);
+    report.holds("a gate stops a run of two", is_two);
+    let wanted = Some((50_000, 200_005, 1));
+    let has_one = comes_to(rt, alloc, long, &[50_000], 1, &Asleep, wanted);
     report.holds(
         "one that does not watch stops no run of one worker",
         has_one,
-    )?;
-    let has_two = comes_to(rt, rt.alloc(), &long, &[50_000], 2, &Asleep, wanted);
-    report.holds("nor one of two", has_two)
+    );
+    let has_two = comes_to(rt, alloc, long, &[50_000], 2, &Asleep, wanted);
+    report.holds("nor one of two", has_two);
 }
 
 /// Answers the cases of runs.
 pub fn answer<R: AllocGlobal + Files + Threads + Wait + Clock + Sync>(
     rt: &R,
     state: RandomState,
-    report: &mut Lines,
+    report: &mut Report,
 ) -> io::Result<()> {
-    report.title("gates")?;
+    report.title("gates");
     answer_pair(rt, state, report)?;
     answer_stores(rt, state, report)?;
-    answer_limit(rt, state, report)?;
-    answer_stop(rt, state, report)
+    let long = verified_file(rt, state, "modules/long-loop.ll")?;
+    answer_limit(rt, rt.alloc(), &long, report);
+    answer_stop(rt, rt.alloc(), &long, report);
+    Ok(())
 }

@@ -3,7 +3,7 @@ ghost use Rattle.std.specs.Prelude.{◌≡◌, ◌<◌, vec_len};
 ghost use Rattle.shared_run.specs.store.Made.{IsMadeFor};
 
 use crate::endings::{TURNS, is_so};
-use cases::{Lines, verified_file};
+use cases::{Report, verified_file};
 use shared_run::{Bench, Claimed, Memory, Seat, Shared, Stepped, Verified};
 use std::alloc::Global;
 use std::hash::RandomState;
@@ -109,10 +109,11 @@ fn is_played_by_two<R: Threads + Wait + Sync>(rt: &R, alloc: Global, verified: &
 pub fn answer<R: AllocGlobal + Files + Threads + Wait + Sync>(
     rt: &R,
     state: RandomState,
-    report: &mut Lines,
+    report: &mut Report,
 ) -> io::Result<()> {
-    report.title("seats")?;
+    report.title("seats");
     let verified = verified_file(rt, state, "examples/parallel-for.ll")?;
     let is_played = is_played_by_two(rt, rt.alloc(), &verified);
-    report.holds("two threads end a run at their seats", is_played)
+    report.holds("two threads end a run at their seats", is_played);
+    Ok(())
 }

@@ -1,13 +1,15 @@
 //! Lists of tickets: the order at each end, and that each ticket comes out once, whichever threads take it.
 
-use cases::{Lines, no_memory};
+use buffers::ListBuffer;
+use cases::Report;
 use deque_pool::{Hands, Taken, Thief};
+use lists::OutOfMemory;
 use shared_run::Ticket;
 use std::alloc::{AllocError, Global};
 use std::sync::Wait;
 use std::sync::atomic::{AtomicBool, AtomicU64, Ordering};
+use std::thread;
 use std::thread::Threads;
-use std::{io, thread};
 
 fn number(n: u64) -> Ticket {
     Ticket {
@@ -51,19 +53,17 @@ fn takes_in_reverse(hands: &mut Hands) -> bool {
     newest(hands) == 3 && newest(hands) == 2 && newest(hands) == 1 && newest(hands) == 0
 }
 
-fn answer_ends(hands: &mut Hands, thief: &mut Thief, report: &mut Lines) -> io::Result<()> {
-    offer_three(hands);
-    report.holds("a thief takes in order", takes_in_order(thief))?;
-    offer_three(hands);
-    report.holds("the owner takes in reverse", takes_in_reverse(hands))
-}
-
-fn answer_order(alloc: Global, report: &mut Lines) -> io::Result<()> {
-    let (mut hands, mut thieves) = Hands::new(alloc, 1).map_err(no_memory)?;
-    match thieves.first_mut() {
-        Some(thief) => answer_ends(&mut hands, thief, report),
-        None => report.holds("there is a thief", false),
-    }
+fn answer_order(alloc: Global, report: &mut Report) -> Result<(), OutOfMemory> {
+    let (mut hands, mut thieves) = Hands::new(alloc, 1)?;
+    let Some(thief) = thieves.first_mut() else {
+        report.holds("there is a thief", false);
+        return Ok(());
+    };
+    offer_three(&mut hands);
+    report.holds("a thief takes in order", takes_in_order(thief));
+    offer_three(&mut hands);
+    report.holds("the owner takes in reverse", takes_in_reverse(&mut hands));
+    Ok(())
 }
 
 const TICKETS: u64 = 100_000;
@@ -80,12 +80,12 @@ struct Tally {
 impl Tally {
     /// None was taken.
     fn new(alloc: Global) -> Result<Tally, AllocError> {
-        let mut times = Vec::with_capacity(alloc, TICKETS as usize)?;
+        let mut times = ListBuffer::new(alloc);
         for _ in 0..TICKETS {
-            times.push(AtomicU64::new(0))?;
+            times.push(AtomicU64::new(0));
         }
         Ok(Tally {
-            times,
+            times: times.finish()?,
             strangers: AtomicU64::new(0),
         })
     }
@@ -187,31 +187,27 @@ fn play_all<R: Threads + Wait + Sync>(
     );
 }
 
-fn play<R: Threads + Wait + Sync>(rt: &R, alloc: Global, tally: &Tally) -> io::Result<()> {
-    let (mut hands, mut thieves) = Hands::new(alloc, THIEVES).map_err(no_memory)?;
-    play_all(rt, tally, &mut hands, thieves.as_mut_slice());
-    Ok(())
-}
-
 fn answer_tally<R: Threads + Wait + Sync>(
     rt: &R,
     alloc: Global,
-    report: &mut Lines,
-) -> io::Result<()> {
+    report: &mut Report,
+) -> Result<(), OutOfMemory> {
     let tally = Tally::new(alloc)?;
-    play(rt, alloc, &tally)?;
-    report.count("tickets that came out once", TICKETS, tally.taken_once())?;
+    let (mut hands, mut thieves) = Hands::new(alloc, THIEVES)?;
+    play_all(rt, &tally, &mut hands, thieves.as_mut_slice());
+    report.count("tickets that came out once", TICKETS, tally.taken_once());
     let strangers = tally.strangers.load(Ordering::SeqCst);
-    report.count("tickets that nobody offered", 0, strangers)
+    report.count("tickets that nobody offered", 0, strangers);
+    Ok(())
 }
 
 /// Answers the cases of lists.
 pub fn answer<R: Threads + Wait + Sync>(
     rt: &R,
     alloc: Global,
-    report: &mut Lines,
-) -> io::Result<()> {
-    report.title("lists of tickets")?;
+    report: &mut Report,
+) -> Result<(), OutOfMemory> {
+    report.title("lists of tickets");
     answer_order(alloc, report)?;
     answer_tally(rt, alloc, report)
 }

@@ -1,7 +1,8 @@
 //! Figures of a run: what each worker did, and how much could be done at once.
 
+use buffers::TextBuffer;
 use lists::OutOfMemory;
-use std::alloc::{AllocError, Global};
+use std::alloc::Global;
 use view_moments::{Moment, Outcome, Timing};
 use view_traces::Event;
 
@@ -28,7 +29,7 @@ pub struct Effort {
 
 impl Effort {
     /// What it did beside its events, as it stands in the worker's line.
-    fn push_words(self, out: &mut String, steals: u64) -> Result<(), AllocError> {
+    fn push_words(self, out: &mut TextBuffer, steals: u64) {
         let Effort {
             strands,
             strangers,
@@ -42,11 +43,11 @@ impl Effort {
         write!(
             out,
             "strands {strands} steals {steals} strangers {strangers} searches {searches} publications {publications} "
-        )?;
+        );
         write!(
             out,
             "borders {at_borders} pages {at_full_logs} limits {at_limits} others {for_others}"
-        )
+        );
     }
 }
 
@@ -115,21 +116,20 @@ impl Figures {
     }
 
     /// A line for each worker: its instructions, its steals, what it did beside, and in how many rounds of a hundred it did something.
-    fn push_workers(&self, out: &mut String, efforts: &[Effort]) -> Result<(), AllocError> {
+    fn push_workers(&self, out: &mut TextBuffer, efforts: &[Effort]) {
         for (worker, figures) in self.workers.as_slice().iter().enumerate() {
             let WorkerFigures {
                 instructions,
                 steals,
             } = *figures;
-            write!(out, "worker {worker} instructions {instructions} ")?;
+            write!(out, "worker {worker} instructions {instructions} ");
             match efforts.get(worker) {
-                Some(effort) => effort.push_words(out, steals)?,
-                None => write!(out, "steals {steals}")?,
+                Some(effort) => effort.push_words(out, steals),
+                None => write!(out, "steals {steals}"),
             }
             let busy = share_of(instructions.saturating_add(steals), self.rounds);
-            writeln!(out, " busy {busy}%")?;
+            writeln!(out, " busy {busy}%");
         }
-        Ok(())
     }
 
     /// The instructions and steals of all workers.
@@ -144,8 +144,8 @@ impl Figures {
 
     /// The lines of a run's figures: a line for each worker, then all together, with the longest chain and what could be done at once: the
     /// instructions over the longest chain. Of a run on threads also how many instructions it did in a second.
-    pub fn push_lines(&self, out: &mut String, crew: Crew<'_>) -> Result<(), AllocError> {
-        self.push_workers(out, crew.efforts)?;
+    pub fn push_lines(&self, out: &mut TextBuffer, crew: Crew<'_>) {
+        self.push_workers(out, crew.efforts);
         let WorkerFigures {
             instructions,
             steals,
@@ -154,13 +154,13 @@ impl Figures {
         write!(
             out,
             "total instructions {instructions} steals {steals} rounds {rounds} parallelism "
-        )?;
-        push_ratio(out, instructions, rounds)?;
+        );
+        push_ratio(out, instructions, rounds);
         if !crew.efforts.is_empty() {
             let speed = instructions.saturating_mul(1_000_000) / crew.microseconds.max(1);
-            write!(out, " speed {speed}")?;
+            write!(out, " speed {speed}");
         }
-        out.push_str("\n")
+        out.push_str("\n");
     }
 }
 
@@ -170,9 +170,9 @@ fn share_of(part: u64, whole: u64) -> u64 {
 }
 
 /// A ratio with two digits behind the point, the rest cut off.
-fn push_ratio(out: &mut String, part: u64, whole: u64) -> Result<(), AllocError> {
+fn push_ratio(out: &mut TextBuffer, part: u64, whole: u64) {
     let hundredths = part.saturating_mul(100) / whole.max(1);
     let ones = hundredths / 100;
     let rest = hundredths % 100;
-    write!(out, "{ones}.{rest:02}")
+    write!(out, "{ones}.{rest:02}");
 }

@@ -2,12 +2,11 @@
 
 use crate::figures::Figures;
 use crate::telling::{Subject, Told, Wanted, Words};
+use buffers::TextBuffer;
 use lists::OutOfMemory;
 use std::alloc::{AllocError, Global};
-use std::io;
-use std::io::Write;
 use view_events::{MOST_EVENTS, Numbered, Page, Start, push_event};
-use view_moments::{Moment, Rounds, Settings, write_moment};
+use view_moments::{Moment, Rounds, Settings, push_moment};
 use view_pictures::{Scene, picture};
 use view_traces::{Event, Script};
 
@@ -19,15 +18,10 @@ pub struct Teller {
     figures: Figures,
     scene: Option<Scene>,
     page: Option<Page>,
-    json: Option<String>,
+    json: Option<TextBuffer>,
     script: Option<Script>,
     /// The events so far.
     events: u64,
-}
-
-/// Want of memory, as an error of the output.
-pub fn refused(_error: OutOfMemory) -> io::Error {
-    io::Error::from(AllocError)
 }
 
 /// A page of a run that begins so.
@@ -71,7 +65,7 @@ impl Teller {
             teller.page = Some(page_of(subject, words, root)?);
         }
         if wanted.json {
-            teller.json = Some(String::new(alloc));
+            teller.json = Some(TextBuffer::new(alloc));
         }
         if wanted.script {
             teller.script = Some(Script::new(alloc));
@@ -85,26 +79,31 @@ impl Teller {
     }
 
     /// The event on the page and as a line of JSON.
-    fn add_line<'a>(&mut self, words: Words<'a>, numbered: Numbered<'a>) -> Result<(), AllocError> {
+    fn add_line<'a>(&mut self, words: Words<'a>, numbered: Numbered<'a>) {
         if let Some(page) = &mut self.page {
-            page.add(words.names, numbered)?;
+            page.add(words.names, numbered);
         }
         if let Some(json) = &mut self.json {
-            push_event(self.alloc, json, words.names, numbered)?;
-            json.push_str("\n")?;
+            push_event(json, words.names, numbered);
+            json.push_str("\n");
         }
-        Ok(())
     }
 
-    /// The next event, but for the trace.
-    fn add_event<'a>(
+    /// The next event. The answer is its line of the trace, which is empty where none is wanted.
+    pub fn add<'a>(
         &mut self,
         words: Words<'a>,
+        is_traced: bool,
         event: &'a Event,
         moment: &'a Moment,
-    ) -> Result<(), OutOfMemory> {
+    ) -> Result<String, OutOfMemory> {
+        self.events = self.events.saturating_add(1);
+        let mut line = TextBuffer::new(self.alloc);
+        if is_traced {
+            push_moment(&mut line, self.events, event, moment, words.lines);
+        }
         if let Some(script) = &mut self.script {
-            script.add(event)?;
+            script.add(event);
         }
         let timing = self.rounds.next(event, moment)?;
         if let Some(scene) = &mut self.scene {
@@ -117,24 +116,8 @@ impl Teller {
             moment,
             round: timing.round,
         };
-        self.add_line(words, numbered)?;
-        Ok(())
-    }
-
-    /// The next event.
-    pub fn add<W: Write>(
-        &mut self,
-        words: Words<'_>,
-        wanted: Wanted,
-        event: &Event,
-        moment: &Moment,
-        output: &mut W,
-    ) -> io::Result<()> {
-        self.events = self.events.saturating_add(1);
-        if wanted.trace {
-            write_moment(output, self.events, event, moment, words.lines)?;
-        }
-        self.add_event(words, event, moment).map_err(refused)
+        self.add_line(words, numbered);
+        Ok(line.finish()?)
     }
 
     /// All that was told; `answer` is what the run came to.
@@ -154,23 +137,27 @@ impl Teller {
             script,
             events,
         } = self;
+        let mut stats = TextBuffer::new(alloc);
+        if wanted.stats {
+            figures.push_lines(&mut stats, words.crew);
+        }
         let mut told = Told {
             script: None,
             events,
-            stats: String::new(alloc),
+            stats: stats.finish()?,
             picture: None,
-            json,
+            json: None,
             page: None,
         };
-        if wanted.stats {
-            figures.push_lines(&mut told.stats, words.crew)?;
-        }
         if let Some(script) = script {
             told.script = script.into_text()?;
         }
         if let Some(mut scene) = scene {
             scene.close()?;
             told.picture = Some(picture(alloc, &scene)?);
+        }
+        if let Some(json) = json {
+            told.json = Some(json.finish()?);
         }
         if let Some(page) = page {
             told.page = Some(page.into_text(answer)?);

@@ -3,7 +3,8 @@
 ghost use Rattle.view_traces.specs.store.Made.{IsMadeFor};
 
 use crate::figures::Crew;
-use crate::teller::{Teller, refused};
+use crate::teller::Teller;
+use lists::OutOfMemory;
 use std::alloc::{AllocError, Global};
 use std::io;
 use std::io::Write;
@@ -81,25 +82,28 @@ fn answer_of(alloc: Global, machine: &Machine<'_>) -> Result<String, AllocError>
     }
 }
 
-/// The next event, told; false at the end.
-fn tell_next<C: Course, W: Write>(
+/// Want of memory, as an error of the output.
+fn refused(_error: OutOfMemory) -> io::Error {
+    io::Error::from(AllocError)
+}
+
+/// The next event, told: its line of the trace, empty where none is wanted. None at the end.
+fn tell_next<C: Course>(
     words: Words<'_>,
     wanted: Wanted,
     watch: &mut Watch<'_>,
     teller: &mut Teller,
     course: &mut C,
-    output: &mut W,
-) -> io::Result<bool> {
-    let Some(event) = course.next(watch.machine()).map_err(refused)? else {
-        return Ok(false);
+) -> Result<Option<String>, OutOfMemory> {
+    let Some(event) = course.next(watch.machine())? else {
+        return Ok(None);
     };
     if !teller.is_detailed() {
         watch.end_details();
     }
-    let moment = watch.next(&event).map_err(refused)?;
-    course.done(watch.machine()).map_err(refused)?;
-    teller.add(words, wanted, &event, &moment, output)?;
-    Ok(true)
+    let moment = watch.next(&event)?;
+    course.done(watch.machine())?;
+    Ok(Some(teller.add(words, wanted.trace, &event, &moment)?))
 }
 
 /// All events, told.
@@ -112,8 +116,9 @@ fn tell_all<C: Course, W: Write>(
     output: &mut W,
 ) -> io::Result<()> {
     for _event in 0..u64::MAX {
-        if !tell_next(words, wanted, watch, teller, course, output)? {
-            return Ok(());
+        match tell_next(words, wanted, watch, teller, course).map_err(refused)? {
+            Some(line) => output.write_all(line.as_bytes())?,
+            None => return Ok(()),
         }
     }
     Ok(())

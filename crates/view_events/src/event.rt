@@ -1,10 +1,9 @@
 //! An event as JSON.
 
 use crate::names::{Names, NumberName, ThingName, ValueName};
-use crate::spelling::quoted;
+use buffers::TextBuffer;
 use frame::Event;
-use std::alloc::{AllocError, Global};
-use view_moments::{Change, Hindrance, Moment, Outcome, Place, Settings, TaskName, Written};
+use view_moments::{Change, Moment, Outcome, Place, Settings, TaskName, Written};
 
 /// An event of a run with its number, from 1, and its round.
 #[derive(Clone, Copy)]
@@ -15,100 +14,72 @@ pub struct Numbered<'a> {
     pub round: u64,
 }
 
-/// The event itself, and where it found its task.
-fn push_begin(out: &mut String, event: &Event, place: Option<&Place>) -> Result<(), AllocError> {
-    match (event, place) {
-        (Event::Step(worker), None) => write!(out, "\"do\":\"step\",\"worker\":{worker}"),
-        (Event::Step(worker), Some(place)) => {
-            let task = TaskName(&place.task);
-            write!(
-                out,
-                "\"do\":\"step\",\"worker\":{worker},\"task\":\"{task}\""
-            )
-        }
-        (Event::Steal(worker, task), _) => {
-            let task = TaskName(task);
-            write!(
-                out,
-                "\"do\":\"steal\",\"worker\":{worker},\"task\":\"{task}\""
-            )
-        }
-    }
+/// The event itself, and its task.
+fn push_begin(out: &mut TextBuffer, event: &Event, place: Option<&Place>) {
+    let (word, worker, task) = match (event, place) {
+        (Event::Step(worker), None) => return write!(out, "\"do\":\"step\",\"worker\":{worker}"),
+        (Event::Step(worker), Some(place)) => ("step", worker, &place.task),
+        (Event::Steal(worker, task), _) => ("steal", worker, task),
+    };
+    let task = TaskName(task);
+    write!(
+        out,
+        "\"do\":\"{word}\",\"worker\":{worker},\"task\":\"{task}\""
+    );
 }
 
-fn push_place(out: &mut String, place: Option<&Place>) -> Result<(), AllocError> {
-    let Some(place) = place else {
-        return Ok(());
-    };
+fn push_place(out: &mut TextBuffer, place: &Place) {
     let frame = TaskName(&place.frame);
     let line = place.line;
-    write!(out, ",\"frame\":\"{frame}\",\"line\":{line}")
+    write!(out, ",\"frame\":\"{frame}\",\"line\":{line}");
 }
 
 /// The registers of a frame that were set, as an object; nothing where there are none.
 pub fn push_settings<'a>(
-    out: &mut String,
+    out: &mut TextBuffer,
     names: &'a Names<'a>,
     key: &str,
     settings: &'a Settings,
-) -> Result<(), AllocError> {
+) {
     if settings.list.is_empty() {
-        return Ok(());
+        return;
     }
     let mut before = "{";
-    write!(out, ",\"{key}\":")?;
+    write!(out, ",\"{key}\":");
     for set in &settings.list {
         let name = names.register(settings.function, set.register);
         let value = ValueName {
             names,
             value: &set.value,
         };
-        write!(out, "{before}\"%{name}\":{value}")?;
+        write!(out, "{before}\"%{name}\":{value}");
         before = ",";
     }
-    out.push_str("}")
+    out.push_str("}");
 }
 
-fn push_written<'a>(
-    out: &mut String,
-    names: &'a Names<'a>,
-    written: &'a Written,
-) -> Result<(), AllocError> {
+fn push_written<'a>(out: &mut TextBuffer, names: &'a Names<'a>, written: &'a Written) {
+    let (cell, word) = match written {
+        Written::Nothing => return,
+        Written::Cell { cell, .. } => (cell, "cell"),
+        Written::Zeros { cell, .. } => (cell, "zeros"),
+    };
+    let thing = ThingName {
+        names,
+        thing: &cell.thing,
+    };
+    let index = cell.index;
+    write!(out, ",\"{word}\":[\"{thing}\",{index},");
     match written {
-        Written::Nothing => Ok(()),
-        Written::Cell { cell, number } => {
-            let thing = ThingName {
-                names,
-                thing: &cell.thing,
-            };
-            let index = cell.index;
-            let number = NumberName(*number);
-            write!(out, ",\"cell\":[\"{thing}\",{index},{number}]")
-        }
-        Written::Zeros { cell, cells } => {
-            let thing = ThingName {
-                names,
-                thing: &cell.thing,
-            };
-            let index = cell.index;
-            write!(out, ",\"zeros\":[\"{thing}\",{index},{cells}]")
-        }
+        Written::Cell { number, .. } => write!(out, "{}]", NumberName(*number)),
+        Written::Zeros { cells, .. } => write!(out, "{cells}]"),
+        Written::Nothing => {}
     }
 }
 
-fn push_hindrance(
-    alloc: Global,
-    out: &mut String,
-    hindrance: &Hindrance,
-) -> Result<(), AllocError> {
-    let why = format!(in alloc; "{hindrance}")?;
-    let why = quoted(alloc, why.as_str())?;
-    write!(out, ",\"then\":\"not enabled\",\"why\":{why}")
-}
-
-fn push_outcome(alloc: Global, out: &mut String, outcome: &Outcome) -> Result<(), AllocError> {
+fn push_outcome(out: &mut TextBuffer, outcome: &Outcome) {
     let (word, path) = match outcome {
-        Outcome::GoesOn => return Ok(()),
+        Outcome::GoesOn => return,
         Outcome::Begins(task) => ("begins", task),
         Outcome::TakesOn(task) => ("takes on", task),
         Outcome::Calls(frame) => ("calls", frame),
@@ -116,40 +87,38 @@ fn push_outcome(alloc: Global, out: &mut String, outcome: &Outcome) -> Result<()
         Outcome::Waits => return out.push_str(",\"then\":\"waits\""),
         Outcome::Ends => return out.push_str(",\"then\":\"ends\""),
         Outcome::Returns => return out.push_str(",\"then\":\"ends the run\""),
-        Outcome::NotEnabled(hindrance) => return push_hindrance(alloc, out, hindrance),
+        // No hindrance has a sign that JSON escapes.
+        Outcome::NotEnabled(hindrance) => {
+            return write!(out, ",\"then\":\"not enabled\",\"why\":\"{hindrance}\"");
+        }
     };
     let path = TaskName(path);
-    write!(out, ",\"then\":\"{word}\",\"to\":\"{path}\"")
+    write!(out, ",\"then\":\"{word}\",\"to\":\"{path}\"");
 }
 
 /// What the event set: first what the instruction did, then what the frame was given that it leads to.
-fn push_change<'a>(
-    out: &mut String,
-    names: &'a Names<'a>,
-    change: Option<&'a Change>,
-) -> Result<(), AllocError> {
-    let Some(change) = change else {
-        return Ok(());
-    };
-    push_settings(out, names, "sets", &change.own)?;
-    push_written(out, names, &change.written)?;
-    push_settings(out, names, "gives", &change.other)
+fn push_change<'a>(out: &mut TextBuffer, names: &'a Names<'a>, change: &'a Change) {
+    push_settings(out, names, "sets", &change.own);
+    push_written(out, names, &change.written);
+    push_settings(out, names, "gives", &change.other);
 }
 
 /// An event as an object, without a line's end.
-pub fn push_event<'a>(
-    alloc: Global,
-    out: &mut String,
-    names: &'a Names<'a>,
-    numbered: Numbered<'a>,
-) -> Result<(), AllocError> {
-    let number = numbered.number;
-    let round = numbered.round;
-    let place = numbered.moment.place.as_ref();
-    write!(out, "{{\"n\":{number},")?;
-    push_begin(out, numbered.event, place)?;
-    push_place(out, place)?;
-    push_change(out, names, numbered.moment.change.as_ref())?;
-    push_outcome(alloc, out, &numbered.moment.outcome)?;
-    write!(out, ",\"round\":{round}}}")
+pub fn push_event<'a>(out: &mut TextBuffer, names: &'a Names<'a>, numbered: Numbered<'a>) {
+    let Numbered {
+        number,
+        event,
+        moment,
+        round,
+    } = numbered;
+    write!(out, "{{\"n\":{number},");
+    push_begin(out, event, moment.place.as_ref());
+    if let Some(place) = &moment.place {
+        push_place(out, place);
+    }
+    if let Some(change) = &moment.change {
+        push_change(out, names, change);
+    }
+    push_outcome(out, &moment.outcome);
+    write!(out, ",\"round\":{round}}}");
 }

@@ -12,7 +12,7 @@ mod script;
 mod spelling;
 mod style;
 
-pub use event::{Numbered, push_event, push_settings};
-pub use names::{Names, NumberName, ThingName, ValueName};
+pub use event::{Numbered, push_event};
+pub use names::{Names, ThingName};
 pub use page::{MOST_EVENTS, Page, Start};
 pub use spelling::quoted;

@@ -6,7 +6,7 @@ use program::{Program, RegisterId};
 use std::alloc::Global;
 use std::fmt;
 use syntax::Module;
-use view_moments::{CellPlace, TaskName, Thing, Value};
+use view_moments::{TaskName, Thing, Value};
 
 /// The functions of a program, each beside its text.
 #[derive(Drop)]
@@ -121,25 +121,19 @@ pub struct ValueName<'a> {
     pub value: &'a Value,
 }
 
-fn write_cell<'a, W: fmt::Write>(
-    f: &mut fmt::Formatter<W>,
-    names: &'a Names<'a>,
-    cell: &'a CellPlace,
-) -> fmt::Result {
-    let thing = ThingName {
-        names,
-        thing: &cell.thing,
-    };
-    let index = cell.index;
-    write!(f, "\"{thing}:{index}\"")
-}
-
 impl fmt::Display for ValueName<'_> {
     fn fmt<W: fmt::Write>(&self, f: &mut fmt::Formatter<W>) -> fmt::Result {
         match self.value {
             Value::Number(number) => write!(f, "{}", NumberName(*number)),
             Value::Truth(truth) => write!(f, "{truth}"),
-            Value::Pointer(cell) => write_cell(f, self.names, cell),
+            Value::Pointer(cell) => {
+                let thing = ThingName {
+                    names: self.names,
+                    thing: &cell.thing,
+                };
+                let index = cell.index;
+                write!(f, "\"{thing}:{index}\"")
+            }
         }
     }
 }

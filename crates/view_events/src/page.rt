@@ -5,6 +5,7 @@ use crate::names::Names;
 use crate::script::SCRIPT;
 use crate::spelling::quoted;
 use crate::style::STYLE;
+use buffers::TextBuffer;
 use std::alloc::{AllocError, Global};
 use view_moments::Settings;
 
@@ -27,33 +28,32 @@ pub struct Start<'a> {
 #[derive(Drop)]
 pub struct Page {
     alloc: Global,
-    text: String,
+    text: TextBuffer,
     /// How many events there were, told or not.
     events: u64,
 }
 
 /// A text that stands among tags.
-fn push_plain(out: &mut String, text: &str) -> Result<(), AllocError> {
+fn push_plain(out: &mut TextBuffer, text: &str) {
     for c in text.chars() {
         match c {
-            '<' => out.push_str("&lt;")?,
-            '&' => out.push_str("&amp;")?,
-            _ => out.push(c)?,
+            '<' => out.push_str("&lt;"),
+            '&' => out.push_str("&amp;"),
+            _ => out.push(c),
         }
     }
-    Ok(())
 }
 
-fn push_head(out: &mut String, title: &str) -> Result<(), AllocError> {
+fn push_head(out: &mut TextBuffer, title: &str) {
     out.push_str(
         "<!doctype html>\n<html lang=\"en\">\n<meta charset=\"utf-8\">\n<meta name=\"viewport\" content=\"width=device-width\">\n<title>",
-    )?;
-    push_plain(out, title)?;
-    out.push_str("</title>\n<style>")?;
-    out.push_str(STYLE)?;
-    out.push_str("</style>\n<body>\n<div id=\"bar\"><h1>")?;
-    push_plain(out, title)?;
-    out.push_str(BODY)
+    );
+    push_plain(out, title);
+    out.push_str("</title>\n<style>");
+    out.push_str(STYLE);
+    out.push_str("</style>\n<body>\n<div id=\"bar\"><h1>");
+    push_plain(out, title);
+    out.push_str(BODY);
 }
 
 /// The parts that the script fills.
@@ -82,45 +82,52 @@ const BODY: &str = r#"</h1>
 "#;
 
 /// A text as JSON within a script: a `<` is spelled by its number, so that no text ends the script.
-fn push_quoted(alloc: Global, out: &mut String, text: &str) -> Result<(), AllocError> {
+fn push_quoted(alloc: Global, out: &mut TextBuffer, text: &str) -> Result<(), AllocError> {
     let text = quoted(alloc, text)?;
     for c in text.as_str().chars() {
         match c {
-            '<' => out.push_str("\\u003c")?,
-            _ => out.push(c)?,
+            '<' => out.push_str("\\u003c"),
+            _ => out.push(c),
         }
     }
     Ok(())
 }
 
 /// The lines of the source, as a list of texts.
-fn push_source(alloc: Global, out: &mut String, source: &str) -> Result<(), AllocError> {
-    out.push_str("\"source\":[")?;
-    for (number, line) in source.lines().enumerate() {
-        out.push_str(if number == 0 { "\n" } else { ",\n" })?;
+fn push_source(alloc: Global, out: &mut TextBuffer, source: &str) -> Result<(), AllocError> {
+    out.push_str("\"source\":[");
+    let mut before = "\n";
+    for line in source.lines() {
+        out.push_str(before);
         push_quoted(alloc, out, line)?;
+        before = ",\n";
     }
-    out.push_str("],\n")
+    out.push_str("],\n");
+    Ok(())
 }
 
 impl Page {
     /// The page of a run that begins so, before its first event.
+    ///
+    /// # Errors
+    ///
+    /// Memory was refused.
     pub fn start<'a>(
         alloc: Global,
         names: &'a Names<'a>,
         start: Start<'a>,
     ) -> Result<Page, AllocError> {
-        let mut text = String::new(alloc);
-        push_head(&mut text, start.title)?;
+        let mut text = TextBuffer::new(alloc);
+        push_head(&mut text, start.title);
         let workers = start.workers;
         write!(
             text,
             "{{\"workers\":{workers},\"start\":{{\"task\":\"root\""
-        )?;
-        push_settings(&mut text, names, "sets", start.root)?;
-        text.push_str("},\n")?;
+        );
+        push_settings(&mut text, names, "sets", start.root);
+        text.push_str("},\n");
         push_source(alloc, &mut text, start.source)?;
-        text.push_str("\"events\":[")?;
+        text.push_str("\"events\":[");
         Ok(Page {
             alloc,
             text,
@@ -129,39 +136,39 @@ impl Page {
     }
 
     /// The next event. Past the most that a page tells it is counted alone.
-    pub fn add<'a>(
-        &mut self,
-        names: &'a Names<'a>,
-        numbered: Numbered<'a>,
-    ) -> Result<(), AllocError> {
+    pub fn add<'a>(&mut self, names: &'a Names<'a>, numbered: Numbered<'a>) {
         if self.events < MOST_EVENTS {
             self.text
-                .push_str(if self.events == 0 { "\n" } else { ",\n" })?;
-            push_event(self.alloc, &mut self.text, names, numbered)?;
+                .push_str(if self.events == 0 { "\n" } else { ",\n" });
+            push_event(&mut self.text, names, numbered);
         }
         self.events = self.events.saturating_add(1);
-        Ok(())
     }
 
     /// The whole page; `answer` is what the run came to.
+    ///
+    /// # Errors
+    ///
+    /// Memory was refused.
     pub fn into_text(self, answer: &str) -> Result<String, AllocError> {
         let Page {
             alloc,
             mut text,
             events,
         } = self;
-        let note = if events > MOST_EVENTS {
-            format!(in alloc;
-                "The run has {events} events; the page tells the first {MOST_EVENTS}. {answer}"
-            )?
-        } else {
-            String::from_str(alloc, answer)?
-        };
-        text.push_str("],\n\"note\":")?;
-        push_quoted(alloc, &mut text, note.as_str())?;
-        text.push_str("}\n</script>\n<script>\n")?;
-        text.push_str(SCRIPT)?;
-        text.push_str("</script>\n</body>\n</html>\n")?;
-        Ok(text)
+        let mut note = TextBuffer::new(alloc);
+        if events > MOST_EVENTS {
+            write!(
+                note,
+                "The run has {events} events; the page tells the first {MOST_EVENTS}. "
+            );
+        }
+        note.push_str(answer);
+        text.push_str("],\n\"note\":");
+        push_quoted(alloc, &mut text, note.finish()?.as_str())?;
+        text.push_str("}\n</script>\n<script>\n");
+        text.push_str(SCRIPT);
+        text.push_str("</script>\n</body>\n</html>\n");
+        text.finish()
     }
 }

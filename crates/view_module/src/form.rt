@@ -1,5 +1,6 @@
 //! Facts, spelled as annotations spell them.
 
+use buffers::{ListBuffer, TextBuffer};
 use ir_annotation::sign_text;
 use program::{Fact, RegisterId, Term};
 use std::alloc::{AllocError, Global};
@@ -10,18 +11,13 @@ pub fn name_of<'a>(names: &[&'a str], register: RegisterId) -> &'a str {
 }
 
 /// A coefficient, unless it is 1 or -1, and the register.
-fn push_term(
-    out: &mut String,
-    is_first: bool,
-    name: &str,
-    coefficient: i64,
-) -> Result<(), AllocError> {
+fn push_term(out: &mut TextBuffer, is_first: bool, name: &str, coefficient: i64) {
     let sign = sign_text(is_first, i128::from(coefficient));
     let size = coefficient.unsigned_abs();
     if size == 1 {
-        write!(out, "{sign}%{name}")
+        write!(out, "{sign}%{name}");
     } else {
-        write!(out, "{sign}{size}*%{name}")
+        write!(out, "{sign}{size}*%{name}");
     }
 }
 
@@ -31,37 +27,42 @@ fn sorted_terms<'a>(
     names: &[&'a str],
     terms: &[Term],
 ) -> Result<Vec<(&'a str, i64)>, AllocError> {
-    let mut sorted = Vec::with_capacity(alloc, terms.len())?;
+    let mut list = ListBuffer::new(alloc);
     for term in terms {
-        sorted.push((name_of(names, term.register), term.coefficient))?;
+        list.push((name_of(names, term.register), term.coefficient));
     }
+    let mut sorted = list.finish()?;
     sorted.sort()?;
     Ok(sorted)
 }
 
 /// The terms, and behind them the number, unless it is 0 and there are some.
-fn push_form(out: &mut String, terms: &[(&str, i64)], constant: i128) -> Result<(), AllocError> {
+fn push_form(out: &mut TextBuffer, terms: &[(&str, i64)], constant: i128) {
     let mut is_first = true;
     for (name, coefficient) in terms {
-        push_term(out, is_first, name, *coefficient)?;
+        push_term(out, is_first, name, *coefficient);
         is_first = false;
     }
-    if constant == 0 && !is_first {
-        return Ok(());
+    if constant != 0 || is_first {
+        let sign = sign_text(is_first, constant);
+        let size = constant.unsigned_abs();
+        write!(out, "{sign}{size}");
     }
-    let sign = sign_text(is_first, constant);
-    let size = constant.unsigned_abs();
-    write!(out, "{sign}{size}")
 }
 
 /// `F >= 0`: what a fact says.
+///
+/// # Errors
+///
+/// Memory was refused.
 pub fn push_fact(
     alloc: Global,
-    out: &mut String,
+    out: &mut TextBuffer,
     names: &[&str],
     fact: &Fact,
 ) -> Result<(), AllocError> {
     let terms = sorted_terms(alloc, names, fact.form.terms.as_slice())?;
-    push_form(out, terms.as_slice(), fact.form.constant)?;
-    out.push_str(" >= 0")
+    push_form(out, terms.as_slice(), fact.form.constant);
+    out.push_str(" >= 0");
+    Ok(())
 }

@@ -5,10 +5,11 @@ use crate::name::register_names;
 use crate::open::{Blocks, open_regions};
 use crate::range::range_of;
 use crate::usage::{most_cells, usage_of};
+use buffers::TextBuffer;
 use cfg::Graph;
 use ir_annotation::{push_foot, push_left, push_pending};
 use ir_reader::read;
-use program::{Fact, Function, Parameter, Program, RegisterId};
+use program::{Block, Fact, Function, Parameter, Program, RegisterId};
 use ranges::{start_facts, stated};
 use refusal::Refused;
 use region_match::{Regions, Task, regions};
@@ -40,51 +41,44 @@ struct Part<'a> {
     blocks: Blocks<'a>,
 }
 
-fn push_totals(out: &mut String, subject: Subject<'_>) -> Result<(), AllocError> {
+fn push_totals(out: &mut TextBuffer, subject: Subject<'_>) {
     let budget = subject.verified.budget();
     let depth = subject.verified.depth();
     let cells = most_cells(subject.program, depth);
     writeln!(
         out,
         "budget {budget}\ndepth {depth}\ncells of frames {cells} for each worker"
-    )
+    );
 }
 
-fn push_globals(out: &mut String, program: &Program) -> Result<(), AllocError> {
+fn push_globals(out: &mut TextBuffer, program: &Program) {
     for global in program.globals.as_slice() {
         let name = global.name.as_str();
         let cells = global.cells;
-        writeln!(out, "global @{name} cells {cells}")?;
+        writeln!(out, "global @{name} cells {cells}");
     }
-    Ok(())
 }
 
 /// The parameters of `main` with the numbers that they may be.
-fn push_ranges(
-    out: &mut String,
-    main: &Function,
-    names: &[&str],
-    facts: &[Fact],
-) -> Result<(), AllocError> {
+fn push_ranges(out: &mut TextBuffer, main: &Function, names: &[&str], facts: &[Fact]) {
     for index in 0..main.parameters.len() {
         let register = RegisterId(index);
         let name = name_of(names, register);
         let range = range_of(register, facts);
         let low = range.low;
         let high = range.high;
-        writeln!(out, "argument %{name} from {low} to {high}")?;
+        writeln!(out, "argument %{name} from {low} to {high}");
     }
-    Ok(())
 }
 
-fn push_main(out: &mut String, subject: Subject<'_>) -> Result<(), Refused> {
+fn push_main(out: &mut TextBuffer, subject: Subject<'_>) -> Result<(), Refused> {
     let index = subject.program.main.0;
     let main = subject.program.functions.as_slice().get(index);
     let spelled = subject.module.functions.as_slice().get(index);
     if let (Some(main), Some(spelled)) = (main, spelled) {
         let names = register_names(subject.alloc, spelled)?;
         let facts = stated(subject.alloc, main.requirements.as_slice())?;
-        push_ranges(out, main, names.as_slice(), facts.as_slice())?;
+        push_ranges(out, main, names.as_slice(), facts.as_slice());
     }
     Ok(())
 }
@@ -97,125 +91,119 @@ fn label_of<'a>(spelled: &'a syntax::Function, block: usize) -> &'a str {
     }
 }
 
-fn push_task(out: &mut String, part: Part<'_>, block: usize) -> Result<(), AllocError> {
+fn push_task(out: &mut TextBuffer, part: Part<'_>, block: usize) {
     match part.blocks.tasks.get(block) {
         Some(Task::Child(detach)) => {
             let label = label_of(part.spelled, detach.0);
-            writeln!(out, "    task child of %{label}")
+            writeln!(out, "    task child of %{label}");
         }
-        Some(Task::Body) => writeln!(out, "    task body"),
-        Some(Task::Unreached) | None => writeln!(out, "    task none"),
+        Some(Task::Body) => out.push_str("    task body\n"),
+        Some(Task::Unreached) | None => out.push_str("    task none\n"),
     }
 }
 
-fn push_open(
-    out: &mut String,
-    names: &[&str],
-    open: Option<&Vec<RegisterId>>,
-) -> Result<(), AllocError> {
-    if let Some(open) = open {
-        for region in open {
-            let name = name_of(names, *region);
-            writeln!(out, "    open %{name}")?;
-        }
+fn push_open(out: &mut TextBuffer, names: &[&str], open: &[RegisterId]) {
+    for region in open {
+        let name = name_of(names, *region);
+        writeln!(out, "    open %{name}");
     }
-    Ok(())
 }
 
+/// What is known at a block's start.
 fn push_facts(
     alloc: alloc::Global,
-    out: &mut String,
+    out: &mut TextBuffer,
     names: &[&str],
     facts: &[Fact],
 ) -> Result<(), AllocError> {
     for fact in facts {
-        out.push_str("    knows ")?;
+        out.push_str("    knows ");
         push_fact(alloc, out, names, fact)?;
-        out.push_str("\n")?;
+        out.push_str("\n");
     }
     Ok(())
 }
 
-fn push_all_pending(out: &mut String, notes: &BlockNotes) -> Result<(), AllocError> {
+fn push_note(out: &mut TextBuffer, note: &str) {
+    writeln!(out, "    {note}");
+}
+
+fn push_all_pending(
+    alloc: alloc::Global,
+    out: &mut TextBuffer,
+    notes: &BlockNotes,
+) -> Result<(), AllocError> {
     for pending in notes.pending.as_slice() {
-        out.push_str("    ")?;
-        push_pending(out, pending)?;
-        out.push_str("\n")?;
+        let mut note = String::new(alloc);
+        push_pending(&mut note, pending)?;
+        push_note(out, note.as_str());
     }
     Ok(())
 }
 
-fn push_feet(out: &mut String, notes: &BlockNotes) -> Result<(), AllocError> {
+fn push_feet(
+    alloc: alloc::Global,
+    out: &mut TextBuffer,
+    notes: &BlockNotes,
+) -> Result<(), AllocError> {
     for foot in notes.foot.as_slice() {
-        out.push_str("    ")?;
-        push_foot(out, foot)?;
-        out.push_str("\n")?;
+        let mut note = String::new(alloc);
+        push_foot(&mut note, foot)?;
+        push_note(out, note.as_str());
     }
     Ok(())
 }
 
-fn push_left_line(out: &mut String, notes: &BlockNotes) -> Result<(), AllocError> {
-    out.push_str("    ")?;
-    push_left(out, &notes.left)?;
-    out.push_str("\n")
+fn push_left_line(
+    alloc: alloc::Global,
+    out: &mut TextBuffer,
+    notes: &BlockNotes,
+) -> Result<(), AllocError> {
+    let mut note = String::new(alloc);
+    push_left(&mut note, &notes.left)?;
+    push_note(out, note.as_str());
+    Ok(())
 }
 
 /// What the block uses itself.
-fn push_usage(out: &mut String, part: Part<'_>, block: usize) -> Result<(), AllocError> {
-    let Some(body) = part.blocks.bodies.get(block) else {
-        return Ok(());
-    };
+fn push_usage(out: &mut TextBuffer, part: Part<'_>, body: &Block) {
     let subject = part.subject;
     let usage = usage_of(subject.program, subject.verified.table(), part.index, body);
     let calls = usage.self_calls;
     let instructions = usage.instructions;
-    writeln!(out, "    uses {calls} {instructions}")
-}
-
-/// What is known at the block's start.
-fn push_start(out: &mut String, part: Part<'_>, block: usize) -> Result<(), Refused> {
-    let Some(body) = part.blocks.bodies.get(block) else {
-        return Ok(());
-    };
-    let alloc = part.subject.alloc;
-    let facts = start_facts(alloc, part.function, block, body)?;
-    Ok(push_facts(alloc, out, part.names, facts.as_slice())?)
-}
-
-/// The block's task, the regions that are open, and its zones.
-fn push_places(
-    out: &mut String,
-    part: Part<'_>,
-    index: usize,
-    notes: &BlockNotes,
-    open: Option<&Vec<RegisterId>>,
-) -> Result<(), AllocError> {
-    push_task(out, part, index)?;
-    push_open(out, part.names, open)?;
-    push_all_pending(out, notes)?;
-    push_feet(out, notes)
+    writeln!(out, "    uses {calls} {instructions}");
 }
 
 fn push_block(
-    out: &mut String,
+    out: &mut TextBuffer,
     part: Part<'_>,
     index: usize,
     block: &syntax::Block,
-    open: Option<&Vec<RegisterId>>,
+    body: &Block,
+    open: &[RegisterId],
 ) -> Result<(), Refused> {
+    let alloc = part.subject.alloc;
     let label = block.label.as_str();
     let line = block.line;
-    writeln!(out, "  block %{label} line {line}")?;
-    push_places(out, part, index, &block.notes, open)?;
-    push_start(out, part, index)?;
-    push_left_line(out, &block.notes)?;
-    Ok(push_usage(out, part, index)?)
+    writeln!(out, "  block %{label} line {line}");
+    push_task(out, part, index);
+    push_open(out, part.names, open);
+    push_all_pending(alloc, out, &block.notes)?;
+    push_feet(alloc, out, &block.notes)?;
+    let facts = start_facts(alloc, part.function, index, body)?;
+    push_facts(alloc, out, part.names, facts.as_slice())?;
+    push_left_line(alloc, out, &block.notes)?;
+    push_usage(out, part, body);
+    Ok(())
 }
 
-fn push_blocks(out: &mut String, part: Part<'_>) -> Result<(), Refused> {
+fn push_blocks(out: &mut TextBuffer, part: Part<'_>) -> Result<(), Refused> {
     let open = open_regions(part.subject.alloc, part.blocks)?;
-    for (index, block) in part.spelled.blocks.as_slice().iter().enumerate() {
-        push_block(out, part, index, block, open.as_slice().get(index))?;
+    let blocks = part.spelled.blocks.as_slice().iter();
+    for (index, (block, body)) in blocks.zip(part.blocks.bodies).enumerate() {
+        if let Some(open) = open.as_slice().get(index) {
+            push_block(out, part, index, block, body, open.as_slice())?;
+        }
     }
     Ok(())
 }
@@ -232,7 +220,7 @@ fn blocks_of<'a>(subject: Subject<'a>, index: usize, function: &'a Function) -> 
 }
 
 fn push_function(
-    out: &mut String,
+    out: &mut TextBuffer,
     subject: Subject<'_>,
     index: usize,
     spelled: &syntax::Function,
@@ -240,7 +228,7 @@ fn push_function(
 ) -> Result<(), Refused> {
     let name = spelled.name.as_str();
     let line = spelled.line;
-    writeln!(out, "function @{name} line {line}")?;
+    writeln!(out, "function @{name} line {line}");
     let Some(blocks) = blocks_of(subject, index, function) else {
         return Ok(());
     };
@@ -256,7 +244,7 @@ fn push_function(
     push_blocks(out, part)
 }
 
-fn push_functions(out: &mut String, subject: Subject<'_>) -> Result<(), Refused> {
+fn push_functions(out: &mut TextBuffer, subject: Subject<'_>) -> Result<(), Refused> {
     let spelled = subject.module.functions.as_slice();
     let functions = subject.program.functions.as_slice();
     for (index, (spelled, function)) in spelled.iter().zip(functions).enumerate() {
@@ -265,9 +253,9 @@ fn push_functions(out: &mut String, subject: Subject<'_>) -> Result<(), Refused>
     Ok(())
 }
 
-fn push_subject(out: &mut String, subject: Subject<'_>) -> Result<(), Refused> {
-    push_totals(out, subject)?;
-    push_globals(out, subject.program)?;
+fn push_subject(out: &mut TextBuffer, subject: Subject<'_>) -> Result<(), Refused> {
+    push_totals(out, subject);
+    push_globals(out, subject.program);
     push_main(out, subject)?;
     push_functions(out, subject)
 }
@@ -297,7 +285,7 @@ pub fn show(
         program: verified.program(),
         regions: &regions,
     };
-    let mut out = String::new(alloc);
+    let mut out = TextBuffer::new(alloc);
     push_subject(&mut out, subject)?;
-    Ok(out)
+    Ok(out.finish()?)
 }

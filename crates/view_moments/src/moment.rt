@@ -8,7 +8,7 @@ pub struct TaskName<'a>(pub &'a Path);
 
 impl fmt::Display for TaskName<'_> {
     fn fmt<W: fmt::Write>(&self, f: &mut fmt::Formatter<W>) -> fmt::Result {
-        write!(f, "root")?;
+        f.write_str("root")?;
         for number in self.0.numbers.as_slice() {
             write!(f, ".{number}")?;
         }

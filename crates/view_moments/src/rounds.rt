@@ -56,16 +56,12 @@ pub struct Rounds {
     marks: Vec<Marked>,
 }
 
-/// The path of the frame that made this one; the root's own is the root's.
-pub fn parent_of(alloc: Global, path: &Path) -> Result<Path, OutOfMemory> {
-    let mut numbers = Vec::new(alloc);
-    let all = path.numbers.as_slice();
-    for number in all.get(..all.len().saturating_sub(1)).unwrap_or(&[]) {
-        numbers.push(*number)?;
-    }
-    Ok(Path {
-        numbers: Seq::from_vec(numbers),
-    })
+/// The numbers of the frame that made this one; the root's own are the root's.
+fn parent_of(path: &Path) -> &[u64] {
+    let numbers = path.numbers.as_slice();
+    numbers
+        .get(..numbers.len().saturating_sub(1))
+        .unwrap_or(numbers)
 }
 
 /// The later of two events.
@@ -94,11 +90,11 @@ impl Rounds {
         self.last.as_slice().get(worker).copied().unwrap_or(0)
     }
 
-    /// The mark of the path, if there is one.
-    fn find(&self, mark: Mark, path: &Path) -> Option<usize> {
+    /// The mark of the path with these numbers, if there is one.
+    fn find(&self, mark: Mark, numbers: &[u64]) -> Option<usize> {
         for place in 0..self.marks.len() {
             let marked = &self.marks[place];
-            if marked.mark == mark && marked.path.is_same(path) {
+            if marked.mark == mark && marked.path.numbers.as_slice() == numbers {
                 return Some(place);
             }
         }
@@ -106,10 +102,10 @@ impl Rounds {
     }
 
     /// Takes the mark of the path away; the answer is when it was made.
-    fn take(&mut self, mark: Mark, path: &Path) -> Option<Instant>
+    fn take(&mut self, mark: Mark, numbers: &[u64]) -> Option<Instant>
         ensures { self.new.last ≡ self.old.last }
     {
-        let place = self.find(mark, path)?;
+        let place = self.find(mark, numbers)?;
         if place < self.marks.len() {
             return Some(self.marks.swap_remove(place).at);
         }
@@ -117,53 +113,41 @@ impl Rounds {
     }
 
     /// Marks the path. Of two ends within one region the later one is kept.
-    fn put(&mut self, mark: Mark, path: &Path, at: Instant) -> Result<(), OutOfMemory>
+    fn put(&mut self, mark: Mark, numbers: &[u64], at: Instant) -> Result<(), OutOfMemory>
         ensures { self.new.last ≡ self.old.last }
     {
-        let at = later(self.take(mark, path), Some(at)).unwrap_or(at);
-        let path = path.copy(self.alloc)?;
-        self.marks.push(Marked { mark, path, at })?;
-        Ok(())
+        let at = later(self.take(mark, numbers), Some(at)).unwrap_or(at);
+        let numbers = Seq::from_vec(numbers.to_vec(self.alloc)?);
+        let path = Path { numbers };
+        Ok(self.marks.push(Marked { mark, path, at })?)
     }
 
     /// The event that made this one possible, if another one did than its worker's last.
-    fn cause(&mut self, event: &Event, moment: &Moment) -> Result<Option<Instant>, OutOfMemory>
+    fn cause(&mut self, event: &Event, moment: &Moment) -> Option<Instant>
         ensures { self.new.last ≡ self.old.last }
     {
-        let Some(place) = &moment.place else {
-            return Ok(None);
-        };
-        let cause = match (event, moment.act, &moment.outcome) {
-            (Event::Steal(_, _), _, _) => self.take(Mark::Ready, &place.task),
+        let place = moment.place.as_ref()?;
+        let task = place.task.numbers.as_slice();
+        match (event, moment.act, &moment.outcome) {
+            (Event::Steal(_, _), _, _) => self.take(Mark::Ready, task),
             (_, Act::Sync(region), Outcome::GoesOn) => self.take(
                 Mark::Joined(region),
-                &place.frame,
+                place.frame.numbers.as_slice(),
             ),
             (_, Act::Reattach(region), Outcome::TakesOn(task)) => {
-                self.cause_of_taking(&place.frame, region, task)?
+                self.cause_of_taking(parent_of(&place.frame), region, task.numbers.as_slice())
             }
             _ => None,
-        };
-        Ok(cause)
+        }
     }
 
     /// What a reattach that takes its parent's task on had to wait for: where that was stalled, its sync and the other children.
-    fn cause_of_taking(
-        &mut self,
-        child: &Path,
-        region: usize,
-        task: &Path,
-    ) -> Result<Option<Instant>, OutOfMemory>
+    fn cause_of_taking(&mut self, parent: &[u64], region: usize, task: &[u64]) -> Option<Instant>
         ensures { self.new.last ≡ self.old.last }
     {
         let _ready = self.take(Mark::Ready, task);
-        match self.take(Mark::Stalled, task) {
-            Some(stalled) => {
-                let parent = parent_of(self.alloc, child)?;
-                Ok(later(Some(stalled), self.take(Mark::Joined(region), &parent)))
-            }
-            None => Ok(None),
-        }
+        let stalled = self.take(Mark::Stalled, task)?;
+        later(Some(stalled), self.take(Mark::Joined(region), parent))
     }
 
     /// Keeps what later events may have to wait for.
@@ -173,21 +157,15 @@ impl Rounds {
         let Some(place) = &moment.place else {
             return Ok(());
         };
+        let task = place.task.numbers.as_slice();
         match (moment.act, &moment.outcome) {
-            (Act::Detach, _) => self.put(Mark::Ready, &place.task, at),
-            (Act::Sync(_), Outcome::Waits) => self.put(Mark::Stalled, &place.task, at),
-            (Act::Reattach(region), Outcome::Ends) => self.join(&place.frame, region, at),
-            (Act::Reattach(region), Outcome::TakesOn(_)) => self.join(&place.frame, region, at),
+            (Act::Detach, _) => self.put(Mark::Ready, task, at),
+            (Act::Sync(_), Outcome::Waits) => self.put(Mark::Stalled, task, at),
+            (Act::Reattach(region), Outcome::Ends | Outcome::TakesOn(_)) => {
+                self.put(Mark::Joined(region), parent_of(&place.frame), at)
+            }
             _ => Ok(()),
         }
-    }
-
-    /// A child within the region has ended.
-    fn join(&mut self, child: &Path, region: usize, at: Instant) -> Result<(), OutOfMemory>
-        ensures { self.new.last ≡ self.old.last }
-    {
-        let parent = parent_of(self.alloc, child)?;
-        self.put(Mark::Joined(region), &parent, at)
     }
 
     /// The next event's round. One that was not enabled, or of no worker, has the round after its worker's last event, and counts for
@@ -207,13 +185,9 @@ impl Rounds {
                 after: None,
             });
         }
-        let after = match self.cause(event, moment)? {
-            Some(cause) if cause.round > own => Some(cause),
-            _ => None,
-        };
-        let before = match after {
-            Some(cause) => cause.round,
-            None => own,
+        let (before, after) = match self.cause(event, moment) {
+            Some(cause) if cause.round > own => (cause.round, Some(cause)),
+            _ => (own, None),
         };
         let round = before.saturating_add(1);
         self.last[worker] = round;

@@ -59,6 +59,13 @@ impl Grid {
         LEFT.saturating_add(self.span(round))
     }
 
+    /// The middle of a round.
+    pub fn middle(self, round: u64) -> u64 {
+        self.x(round.saturating_sub(1))
+            .saturating_add(self.x(round))
+            / 2
+    }
+
     /// The middle of a worker's row.
     pub fn y(self, worker: usize) -> u64 {
         let rows = (worker as u64).saturating_mul(ROW);

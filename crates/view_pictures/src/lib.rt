@@ -10,5 +10,5 @@ mod scene;
 mod summary;
 mod svg;
 
-pub use scene::{Scene, Stay, Theft, Work};
+pub use scene::Scene;
 pub use svg::picture;

@@ -3,7 +3,7 @@
 use frame::{Event, Path};
 use lists::OutOfMemory;
 use std::alloc::Global;
-use view_moments::{Instant, Moment, Outcome, Place, Timing};
+use view_moments::{Instant, Moment, Outcome, Place, TaskName, Timing};
 
 /// A worker and its task, after one round and up to another.
 #[derive(Clone, Copy)]
@@ -55,8 +55,8 @@ struct Living {
 #[derive(Drop)]
 pub struct Scene {
     alloc: Global,
-    /// The tasks by their numbers, in the order in which they begin.
-    pub tasks: Vec<Path>,
+    /// The names of the tasks by their numbers, in the order in which they begin.
+    pub tasks: Vec<String>,
     /// While a worker has a task in its hand.
     pub stays: Vec<Stay>,
     /// While a worker does one event after another.
@@ -65,8 +65,6 @@ pub struct Scene {
     pub misses: Vec<Miss>,
     /// The last round.
     pub rounds: u64,
-    /// The instructions that were done.
-    pub instructions: u64,
     /// The round in which the run ended.
     pub end: Option<u64>,
     /// What each worker has in its hand, and since when; `to` is not used.
@@ -74,13 +72,17 @@ pub struct Scene {
     /// By worker: the number of its last work.
     latest: Vec<Option<usize>>,
     living: Vec<Living>,
+    /// Whether memory was refused for a part of the scene.
+    is_refused: bool,
 }
 
 impl Scene {
-    /// The scene before the first event: worker 0 runs the root.
+    /// The scene before the first event: worker 0 runs the root. Where memory is refused for that, the next event says so.
+    ///
+    /// # Errors
+    ///
+    /// Memory was refused for the rows of the workers.
     pub fn new(alloc: Global, workers: usize) -> Result<Scene, OutOfMemory> {
-        let hands = vec![in alloc; None; workers]?;
-        let latest = vec![in alloc; None; workers]?;
         let mut scene = Scene {
             alloc,
             tasks: Vec::new(alloc),
@@ -89,14 +91,23 @@ impl Scene {
             thefts: Vec::new(alloc),
             misses: Vec::new(alloc),
             rounds: 0,
-            instructions: 0,
             end: None,
-            hands,
-            latest,
+            hands: vec![in alloc; None; workers]?,
+            latest: vec![in alloc; None; workers]?,
             living: Vec::new(alloc),
+            is_refused: false,
         };
-        scene.begin(0, &Path::root(alloc), 0)?;
+        scene.begin(0, &Path::root(alloc), 0);
         Ok(scene)
+    }
+
+    /// Says whether memory was refused so far.
+    fn checked(&self) -> Result<(), OutOfMemory> {
+        if self.is_refused {
+            Err(OutOfMemory)
+        } else {
+            Ok(())
+        }
     }
 
     /// How many workers there are.
@@ -113,29 +124,40 @@ impl Scene {
         None
     }
 
-    /// The number of a task that the worker runs now; a task that has none gets the next one.
-    fn number(&mut self, task: &Path, runner: usize) -> Result<usize, OutOfMemory> {
-        if let Some(place) = self.find(task) {
-            if let Some(living) = self.living.as_mut_slice().get_mut(place) {
-                living.runner = runner;
-                return Ok(living.number);
-            }
-        }
+    fn living(&mut self, task: &Path) -> Option<&mut Living> {
+        let place = self.find(task)?;
+        self.living.as_mut_slice().get_mut(place)
+    }
+
+    /// A task begins, with the next number.
+    fn enter(&mut self, task: &Path, runner: usize) -> Result<(), OutOfMemory> {
+        let name = TaskName(task);
         let number = self.tasks.len();
-        self.tasks.push(task.copy(self.alloc)?)?;
+        self.tasks.push(format!(in self.alloc; "{name}")?)?;
         self.living.push(Living {
             path: task.copy(self.alloc)?,
             number,
             runner,
         })?;
-        Ok(number)
+        Ok(())
+    }
+
+    /// The number of a task that the worker runs now; a task that has none gets the next one.
+    fn number(&mut self, task: &Path, runner: usize) -> usize {
+        if let Some(living) = self.living(task) {
+            living.runner = runner;
+            return living.number;
+        }
+        let number = self.tasks.len();
+        self.is_refused |= self.enter(task, runner).is_err();
+        number
     }
 
     /// The worker that ran the task last.
-    fn runner_of(&self, task: &Path) -> usize {
-        match self.find(task) {
-            Some(place) if place < self.living.len() => self.living[place].runner,
-            _ => 0,
+    fn runner_of(&mut self, task: &Path) -> usize {
+        match self.living(task) {
+            Some(living) => living.runner,
+            None => 0,
         }
     }
 
@@ -158,9 +180,9 @@ impl Scene {
         }
     }
 
-    /// The worker has the task in its hand after this round.
-    fn begin(&mut self, worker: usize, task: &Path, from: u64) -> Result<(), OutOfMemory> {
-        let task = self.number(task, worker)?;
+    /// The worker has the task in its hand after this round. The answer is the task's number.
+    fn begin(&mut self, worker: usize, task: &Path, from: u64) -> usize {
+        let task = self.number(task, worker);
         let stay = Stay {
             worker,
             task,
@@ -168,16 +190,15 @@ impl Scene {
             to: from,
         };
         self.set_hand(worker, Some(stay));
-        Ok(())
+        task
     }
 
     /// The worker has its task in its hand up to this round.
-    fn leave(&mut self, worker: usize, to: u64) -> Result<(), OutOfMemory> {
+    fn leave(&mut self, worker: usize, to: u64) {
         if let Some(stay) = self.hand(worker) {
-            self.stays.push(Stay { to, ..stay })?;
+            self.is_refused |= self.stays.push(Stay { to, ..stay }).is_err();
         }
         self.set_hand(worker, None);
-        Ok(())
     }
 
     /// The work that an event of the worker in this round goes on with, where it does.
@@ -193,13 +214,7 @@ impl Scene {
     }
 
     /// The worker does an event for a task.
-    fn work(
-        &mut self,
-        worker: usize,
-        task: usize,
-        timing: Timing,
-        is_steal: bool,
-    ) -> Result<(), OutOfMemory> {
+    fn work(&mut self, worker: usize, task: usize, timing: Timing, is_steal: bool) {
         let stay = Stay {
             worker,
             task,
@@ -208,71 +223,69 @@ impl Scene {
         };
         if let Some(work) = self.going_on(stay, timing, is_steal) {
             work.stay.to = stay.to;
-            return Ok(());
+            return;
         }
         if worker < self.latest.len() {
             self.latest[worker] = Some(self.works.len());
         }
-        self.works.push(Work {
+        let work = Work {
             stay,
             after: timing.after,
             is_critical: false,
             is_steal,
-        })?;
-        Ok(())
+        };
+        self.is_refused |= self.works.push(work).is_err();
     }
 
     /// The worker takes the task of this place from the one that ran it last.
-    fn steal(&mut self, thief: usize, place: &Place, timing: Timing) -> Result<(), OutOfMemory> {
+    fn steal(&mut self, thief: usize, place: &Place, timing: Timing) {
+        let round = timing.round;
         let victim = self.runner_of(&place.task);
-        self.begin(thief, &place.task, timing.round.saturating_sub(1))?;
-        let task = self.number(&place.task, thief)?;
-        self.thefts.push(Theft {
-            round: timing.round,
+        let task = self.begin(thief, &place.task, round.saturating_sub(1));
+        let theft = Theft {
+            round,
             thief,
             victim,
             task,
-        })?;
-        self.work(thief, task, timing, true)
+        };
+        self.is_refused |= self.thefts.push(theft).is_err();
+        self.work(thief, task, timing, true);
     }
 
     /// The worker executes an instruction of its task.
-    fn step(
-        &mut self,
-        worker: usize,
-        place: &Place,
-        outcome: &Outcome,
-        timing: Timing,
-    ) -> Result<(), OutOfMemory> {
-        self.instructions = self.instructions.saturating_add(1);
+    fn step(&mut self, worker: usize, place: &Place, outcome: &Outcome, timing: Timing) {
         if let Some(hand) = self.hand(worker) {
-            self.work(worker, hand.task, timing, false)?;
+            self.work(worker, hand.task, timing, false);
         }
-        let next = timing.round;
+        let round = timing.round;
         match outcome {
             Outcome::Begins(task) => {
-                self.leave(worker, next)?;
-                self.begin(worker, task, next)
+                self.leave(worker, round);
+                self.begin(worker, task, round);
             }
             Outcome::TakesOn(task) => {
-                self.leave(worker, next)?;
+                self.leave(worker, round);
                 self.forget(&place.task);
-                self.begin(worker, task, next)
+                self.begin(worker, task, round);
             }
-            Outcome::Waits => self.leave(worker, next),
+            Outcome::Waits => self.leave(worker, round),
             Outcome::Ends => {
                 self.forget(&place.task);
-                self.leave(worker, next)
+                self.leave(worker, round);
             }
             Outcome::Returns => {
-                self.end = Some(next);
-                self.leave(worker, next)
+                self.end = Some(round);
+                self.leave(worker, round);
             }
-            _ => Ok(()),
+            _ => {}
         }
     }
 
     /// The next event, with its round.
+    ///
+    /// # Errors
+    ///
+    /// Memory was refused.
     pub fn add(
         &mut self,
         event: &Event,
@@ -286,20 +299,25 @@ impl Scene {
         match (&moment.outcome, event, &moment.place) {
             (Outcome::NotEnabled(_), _, _) | (_, _, None) => {
                 let round = timing.round;
-                Ok(self.misses.push(Miss { round, worker })?)
+                self.is_refused |= self.misses.push(Miss { round, worker }).is_err();
             }
             (_, Event::Steal(_, _), Some(place)) => self.steal(worker, place, timing),
             (outcome, _, Some(place)) => self.step(worker, place, outcome, timing),
         }
+        self.checked()
     }
 
     /// The end of what is told: stays that still last are closed, and the longest chain is marked.
+    ///
+    /// # Errors
+    ///
+    /// Memory was refused.
     pub fn close(&mut self) -> Result<(), OutOfMemory> {
         for worker in 0..self.hands.len() {
-            self.leave(worker, self.rounds)?;
+            self.leave(worker, self.rounds);
         }
         self.mark_chain();
-        Ok(())
+        self.checked()
     }
 
     /// The work of the worker that ends with this round.

@@ -1,8 +1,9 @@
 //! A long run, summed up: a column is many rounds of a worker.
 
 use crate::grid::{Grid, STAY};
-use crate::scene::{Scene, Stay, Theft, Work};
+use crate::scene::{Scene, Theft, Work};
 use crate::svg::{Rectangle, push_rectangle};
+use buffers::TextBuffer;
 use std::alloc::{AllocError, Global};
 
 /// The width of a column, in pixels.
@@ -43,8 +44,8 @@ impl Table {
         if number >= COLUMNS {
             return None;
         }
-        let row = (worker as u64).checked_mul(COLUMNS)?;
-        let place = usize::try_from(row.checked_add(number)?).ok()?;
+        let row = worker.saturating_mul(COLUMNS as usize);
+        let place = row.saturating_add(number as usize);
         self.columns.as_mut_slice().get_mut(place)
     }
 
@@ -52,21 +53,16 @@ impl Table {
     fn add_part(&mut self, work: &Work, number: u64) {
         let start = number.saturating_mul(self.rounds);
         let end = start.saturating_add(self.rounds);
-        let Stay {
-            worker,
-            task,
-            from,
-            to,
-        } = work.stay;
-        let part = to.min(end).saturating_sub(from.max(start));
-        let Some(column) = self.column(worker, number) else {
+        let stay = work.stay;
+        let part = stay.to.min(end).saturating_sub(stay.from.max(start));
+        let Some(column) = self.column(stay.worker, number) else {
             return;
         };
         column.busy = column.busy.saturating_add(part);
         column.is_critical = column.is_critical || work.is_critical;
         if part > column.longest {
             column.longest = part;
-            column.task = task;
+            column.task = stay.task;
         }
     }
 
@@ -106,17 +102,11 @@ fn height_of(busy: u64, rounds: u64) -> u64 {
 }
 
 /// The signs of a column that stands here.
-fn push_signs(
-    out: &mut String,
-    grid: Grid,
-    worker: usize,
-    x: u64,
-    column: &Column,
-) -> Result<(), AllocError> {
+fn push_signs(out: &mut TextBuffer, grid: Grid, worker: usize, x: u64, column: &Column) {
     if column.is_critical {
         let y = grid.chain_y(worker);
         let end = x.saturating_add(COLUMN);
-        writeln!(out, "<path class=\"chain\" d=\"M{x},{y} L{end},{y}\"/>")?;
+        writeln!(out, "<path class=\"chain\" d=\"M{x},{y} L{end},{y}\"/>");
     }
     if column.steals > 0 {
         let y = grid.y(worker).saturating_sub(STAY / 2 + 3);
@@ -125,18 +115,11 @@ fn push_signs(
         writeln!(
             out,
             "<circle cx=\"{middle}\" cy=\"{y}\" r=\"1.5\" class=\"dot\"><title>{steals} steals</title></circle>"
-        )?;
+        );
     }
-    Ok(())
 }
 
-fn push_column(
-    out: &mut String,
-    grid: Grid,
-    place: usize,
-    column: &Column,
-    rounds: u64,
-) -> Result<(), AllocError> {
+fn push_column(out: &mut TextBuffer, grid: Grid, place: usize, column: &Column, rounds: u64) {
     let columns = COLUMNS as usize;
     let worker = place / columns;
     let number = (place % columns) as u64;
@@ -152,15 +135,15 @@ fn push_column(
             width: COLUMN,
             height,
         };
-        push_rectangle(out, bar, column.task, "")?;
+        push_rectangle(out, bar, column.task, "");
     }
-    push_signs(out, grid, worker, x, column)
+    push_signs(out, grid, worker, x, column);
 }
 
 /// A run with more rounds than there are pixels.
 pub fn push_summary(
     alloc: Global,
-    out: &mut String,
+    out: &mut TextBuffer,
     grid: Grid,
     scene: &Scene,
 ) -> Result<(), AllocError> {
@@ -172,7 +155,7 @@ pub fn push_summary(
     table.add_works(scene);
     table.add_thefts(scene);
     for (place, column) in table.columns.as_slice().iter().enumerate() {
-        push_column(out, grid, place, column, table.rounds)?;
+        push_column(out, grid, place, column, table.rounds);
     }
     Ok(())
 }

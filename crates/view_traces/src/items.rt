@@ -1,5 +1,6 @@
 //! What stands in the program at a frame's place, and which registers and cells it sets.
 
+use buffers::ListBuffer;
 use frame::{Role, block_at};
 use frame_engine::{Frame, Places};
 use lists::OutOfMemory;
@@ -130,13 +131,13 @@ pub fn phis_at(
     program: &Program,
     frame: &Frame,
 ) -> Result<Vec<RegisterId>, OutOfMemory> {
-    let mut registers = Vec::new(alloc);
+    let mut registers = ListBuffer::new(alloc);
     if let Some(block) = block_at(program, frame.function, frame.place.block) {
         for phi in block.phis.as_slice() {
-            registers.push(phi.register)?;
+            registers.push(phi.register);
         }
     }
-    Ok(registers)
+    Ok(registers.finish()?)
 }
 
 /// The registers of a function's parameters.
@@ -145,35 +146,21 @@ pub fn parameters_at(
     program: &Program,
     frame: &Frame,
 ) -> Result<Vec<RegisterId>, OutOfMemory> {
-    let mut registers = Vec::new(alloc);
+    let mut registers = ListBuffer::new(alloc);
     if let Some(function) = program.functions.as_slice().get(frame.function.0) {
         for number in 0..function.parameters.len() {
-            registers.push(RegisterId(number))?;
+            registers.push(RegisterId(number));
         }
     }
-    Ok(registers)
+    Ok(registers.finish()?)
 }
 
-/// The register that took the result of the call behind which a frame stands.
-pub fn result_at(
-    alloc: Global,
-    program: &Program,
-    frame: &Frame,
-) -> Result<Vec<RegisterId>, OutOfMemory> {
-    let mut registers = Vec::new(alloc);
-    let Some(block) = block_at(program, frame.function, frame.place.block) else {
-        return Ok(registers);
-    };
-    let before = frame.place.index.checked_sub(1);
-    let step = before.and_then(|index| block.steps.as_slice().get(index));
-    if let Some(step) = step {
-        if let Instruction::Call {
-            register: Some(register),
-            ..
-        } = &step.instruction
-        {
-            registers.push(*register)?;
-        }
+/// The register that took the result of the call behind which a frame stands, if one did.
+pub fn result_at(program: &Program, frame: &Frame) -> Option<RegisterId> {
+    let block = block_at(program, frame.function, frame.place.block)?;
+    let before = frame.place.index.checked_sub(1)?;
+    match &block.steps.as_slice().get(before)?.instruction {
+        Instruction::Call { register, .. } => *register,
+        _ => None,
     }
-    Ok(registers)
 }

@@ -1,5 +1,6 @@
 //! The text of a schedule, event for event.
 
+use buffers::TextBuffer;
 use frame::{Event, Path};
 use std::alloc::{AllocError, Global};
 use view_moments::TaskName;
@@ -11,7 +12,7 @@ const MOST: usize = 1_048_576;
 /// counted on.
 #[derive(Drop)]
 pub struct Script {
-    text: String,
+    text: TextBuffer,
     /// The worker of the steps that are not written yet, and how many they are.
     worker: u8,
     steps: u64,
@@ -22,7 +23,7 @@ pub struct Script {
 impl Script {
     pub fn new(alloc: Global) -> Script {
         Script {
-            text: String::new(alloc),
+            text: TextBuffer::new(alloc),
             worker: 0,
             steps: 0,
             events: 0,
@@ -30,62 +31,58 @@ impl Script {
         }
     }
 
-    /// The number of events.
-    pub fn events(&self) -> u64 {
-        self.events
-    }
-
     /// Writes the steps that are not written yet.
-    fn flush(&mut self) -> Result<(), AllocError> {
+    fn flush(&mut self) {
         let worker = self.worker;
         let steps = self.steps;
         if steps > 0 {
-            writeln!(self.text, "step {worker} {steps}")?;
+            writeln!(self.text, "step {worker} {steps}");
         }
         self.steps = 0;
-        Ok(())
     }
 
     /// A step of the worker.
-    fn step(&mut self, worker: u8) -> Result<(), AllocError> {
+    fn step(&mut self, worker: u8) {
         if worker != self.worker {
-            self.flush()?;
+            self.flush();
         }
         self.worker = worker;
         self.steps = self.steps.saturating_add(1);
-        Ok(())
     }
 
     /// A steal of the task.
-    fn steal(&mut self, worker: u8, task: &Path) -> Result<(), AllocError> {
-        self.flush()?;
+    fn steal(&mut self, worker: u8, task: &Path) {
+        self.flush();
         let task = TaskName(task);
-        writeln!(self.text, "steal {worker} {task}")
+        writeln!(self.text, "steal {worker} {task}");
+    }
+
+    /// Whether the text is longer than a schedule may be.
+    fn is_full(&self) -> bool {
+        self.text.as_str().len() > MOST
     }
 
     /// The next event.
-    pub fn add(&mut self, event: &Event) -> Result<(), AllocError> {
+    pub fn add(&mut self, event: &Event) {
         self.events = self.events.saturating_add(1);
-        let is_full = self.events > MOST as u64 || self.text.len() > MOST;
-        self.is_too_long = self.is_too_long || is_full;
-        if self.is_too_long {
-            return Ok(());
-        }
-        match event {
-            Event::Step(worker) => self.step(*worker),
-            Event::Steal(worker, task) => self.steal(*worker, task),
+        self.is_too_long |= self.events > MOST as u64 || self.is_full();
+        if !self.is_too_long {
+            match event {
+                Event::Step(worker) => self.step(*worker),
+                Event::Steal(worker, task) => self.steal(*worker, task),
+            }
         }
     }
 
     /// The whole text; none where it is longer than a schedule may be.
+    ///
+    /// # Errors
+    ///
+    /// Memory was refused.
     pub fn into_text(mut self) -> Result<Option<String>, AllocError> {
-        if self.is_too_long {
-            return Ok(None);
-        }
-        self.flush()?;
-        if self.text.len() > MOST {
-            return Ok(None);
-        }
-        Ok(Some(self.text))
+        self.flush();
+        let is_too_long = self.is_too_long || self.is_full();
+        let text = self.text.finish()?;
+        Ok(if is_too_long { None } else { Some(text) })
     }
 }

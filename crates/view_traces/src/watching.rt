@@ -62,26 +62,25 @@ pub fn path_of<'m>(machine: &'m Machine<'_>, worker: u8) -> Option<&'m Path> {
     }
 }
 
-/// What a step came to within one task, whose top was `before`.
-fn after_call(alloc: Global, before: &Path, now: &Path) -> Result<Outcome, OutOfMemory> {
-    if now.numbers.len() > before.numbers.len() {
-        Ok(Outcome::Calls(now.copy(alloc)?))
-    } else if now.numbers.len() < before.numbers.len() {
-        Ok(Outcome::ReturnsTo(now.copy(alloc)?))
-    } else {
-        Ok(Outcome::GoesOn)
-    }
-}
-
-/// What the worker does after a step for a task, where it has one now.
+/// What the worker does after a step for a task, where it has one now: within one task its top tells, else the tasks.
 fn after_work(alloc: Global, before: &Place, now: &TaskView<'_>) -> Result<Outcome, OutOfMemory> {
-    if now.path.is_same(&before.task) {
-        after_call(alloc, &before.frame, now.top_path)
-    } else if now.path.numbers.len() > before.task.numbers.len() {
-        Ok(Outcome::Begins(now.path.copy(alloc)?))
+    let is_same = now.path.is_same(&before.task);
+    let (new, old) = if is_same {
+        (now.top_path, &before.frame)
     } else {
-        Ok(Outcome::TakesOn(now.path.copy(alloc)?))
+        (now.path, &before.task)
+    };
+    let (length, was) = (new.numbers.len(), old.numbers.len());
+    if is_same && length == was {
+        return Ok(Outcome::GoesOn);
     }
+    let new = new.copy(alloc)?;
+    Ok(match (is_same, length > was) {
+        (true, true) => Outcome::Calls(new),
+        (true, false) => Outcome::ReturnsTo(new),
+        (false, true) => Outcome::Begins(new),
+        (false, false) => Outcome::TakesOn(new),
+    })
 }
 
 /// What the worker does after a step for a task.
@@ -177,8 +176,7 @@ impl<'v> Watch<'v> {
             return Ok(Settings::none(self.alloc));
         };
         self.objects.begin(program, view.top_path, view.top)?;
-        let given = parameters_at(self.alloc, program, view.top)?;
-        self.objects.settings(program, view.top, given.as_slice())
+        self.given(view.top)
     }
 
     /// Moments do not tell any more what was set.
@@ -222,6 +220,20 @@ impl<'v> Watch<'v> {
         self.settings(frame, phis.as_slice())
     }
 
+    /// The parameters of a frame's function.
+    fn given(&self, frame: &Frame) -> Result<Settings, OutOfMemory> {
+        let parameters = parameters_at(self.alloc, self.verified.program(), frame)?;
+        self.settings(frame, parameters.as_slice())
+    }
+
+    /// The result of the call behind which a frame stands.
+    fn returned(&self, frame: &Frame) -> Result<Settings, OutOfMemory> {
+        match result_at(self.verified.program(), frame) {
+            Some(register) => self.settings(frame, &[register]),
+            None => Ok(Settings::none(self.alloc)),
+        }
+    }
+
     /// What a step set in the frame that did it, which lives on as the top of this task.
     fn own(&self, plan: &Plan, task: Option<TaskView<'_>>) -> Result<Settings, OutOfMemory> {
         match (task, plan.register) {
@@ -238,18 +250,16 @@ impl<'v> Watch<'v> {
         now: TaskView<'_>,
         outcome: &Outcome,
     ) -> Result<Settings, OutOfMemory> {
-        let program = self.verified.program();
-        let registers = match outcome {
-            Outcome::Begins(_) => phis_at(self.alloc, program, now.top)?,
+        match outcome {
             // A task that was stalled goes on behind its sync, any other one where the child was detached.
-            Outcome::TakesOn(_) if plan.continuation != Some(now.top.place.block) => {
-                phis_at(self.alloc, program, now.top)?
+            Outcome::TakesOn(_) if plan.continuation == Some(now.top.place.block) => {
+                Ok(Settings::none(self.alloc))
             }
-            Outcome::Calls(_) => parameters_at(self.alloc, program, now.top)?,
-            Outcome::ReturnsTo(_) => result_at(self.alloc, program, now.top)?,
-            _ => Vec::new(self.alloc),
-        };
-        self.settings(now.top, registers.as_slice())
+            Outcome::Begins(_) | Outcome::TakesOn(_) => self.entered(now.top),
+            Outcome::Calls(_) => self.given(now.top),
+            Outcome::ReturnsTo(_) => self.returned(now.top),
+            _ => Ok(Settings::none(self.alloc)),
+        }
     }
 
     /// What a step wrote.

@@ -5,7 +5,7 @@
 
 use crate::boards::rows::Notes;
 use crate::boards::runs::{Calls, Run, begin_of, memory_of, numbers_of, played};
-use cases::{Lines, no_memory, number_in, verified_file};
+use cases::{Report, no_memory, number_in, verified_file};
 use lists::OutOfMemory;
 use shared_run::{Verified, places_of};
 use std::alloc::Global;
@@ -59,7 +59,7 @@ fn draw(run: &mut Run<'_>, seeds: u64, notes: &mut Notes) -> Result<(), OutOfMem
         run.workers = (seed % 4) as usize + 1;
         played(&*run, notes)?;
         if !notes.is_right {
-            write!(notes.text, "seed {seed}")?;
+            write!(notes.text, "seed {seed}");
             return Ok(());
         }
     }
@@ -72,7 +72,7 @@ fn told(
     verified: &Verified,
     block: &Block<'_>,
     notes: &mut Notes,
-) -> Result<(), OutOfMemory> {
+) -> Result<String, OutOfMemory> {
     let places = places_of(alloc, verified)?;
     let numbers = numbers_of(alloc, block.start)?;
     let (cell, arguments) = begin_of(numbers.as_slice());
@@ -89,12 +89,13 @@ fn told(
         calls: Calls::Rows(parted(block.whole, "finish = ").0),
     };
     match block.workers.strip_prefix("drawn ") {
-        Some(seeds) => draw(&mut run, number_in(seeds).unwrap_or(0), notes),
+        Some(seeds) => draw(&mut run, number_in(seeds).unwrap_or(0), notes)?,
         None => {
             notes.forget();
-            played(&run, notes)
+            played(&run, notes)?;
         }
     }
+    Ok(notes.take_text()?)
 }
 
 /// What the block's runs come to; where memory is refused that no call asks for, once more.
@@ -103,9 +104,9 @@ fn told_at_last(
     verified: &Verified,
     block: &Block<'_>,
     notes: &mut Notes,
-) -> Result<(), OutOfMemory> {
-    if told(alloc, verified, block, notes).is_ok() {
-        return Ok(());
+) -> Result<String, OutOfMemory> {
+    if let Ok(text) = told(alloc, verified, block, notes) {
+        return Ok(text);
     }
     notes.refused = "a block";
     told(alloc, verified, block, notes)
@@ -117,12 +118,12 @@ pub fn answer<R: AllocGlobal + Files>(
     state: RandomState,
     text: &str,
     notes: &mut Notes,
-    report: &mut Lines,
+    report: &mut Report,
 ) -> io::Result<()> {
     let block = block_of(text);
     let verified = verified_file(rt, state, block.file)?;
-    told_at_last(rt.alloc(), &verified, &block, notes).map_err(no_memory)?;
-    let found = notes.text.as_str().trim_end();
-    let is_met = notes.is_right && found == block.whole;
-    report.case(block.title, found, is_met)
+    let found = told_at_last(rt.alloc(), &verified, &block, notes).map_err(no_memory)?;
+    let found = found.as_str().trim_end();
+    report.case(block.title, found, notes.is_right && found == block.whole);
+    Ok(())
 }

@@ -26,24 +26,31 @@ pub enum Call {
     Publish,
 }
 
+/// The calls by their words.
+const WORDS: [(&str, Call); 13] = [
+    ("step", Call::Step),
+    ("commit", Call::Commit),
+    ("claim", Call::Claim),
+    ("first", Call::ClaimFirst),
+    ("clear", Call::Clear),
+    ("fetch", Call::Fetch),
+    ("advance", Call::Advance),
+    ("go", Call::Go),
+    ("base", Call::Base),
+    ("on", Call::On),
+    ("need", Call::Need),
+    ("ahead", Call::Ahead),
+    ("publish", Call::Publish),
+];
+
 impl Call {
     fn of_word(word: &str) -> Option<Call> {
-        match word {
-            "step" => Some(Call::Step),
-            "commit" => Some(Call::Commit),
-            "claim" => Some(Call::Claim),
-            "first" => Some(Call::ClaimFirst),
-            "clear" => Some(Call::Clear),
-            "fetch" => Some(Call::Fetch),
-            "advance" => Some(Call::Advance),
-            "go" => Some(Call::Go),
-            "base" => Some(Call::Base),
-            "on" => Some(Call::On),
-            "need" => Some(Call::Need),
-            "ahead" => Some(Call::Ahead),
-            "publish" => Some(Call::Publish),
-            _ => None,
+        for (known, call) in &WORDS {
+            if *known == word {
+                return Some(*call);
+            }
         }
+        None
     }
 
     /// Whether it may change the board.

@@ -1,11 +1,11 @@
 //! What the calls of a board come to, in words.
 
+use buffers::TextBuffer;
 use frame::Path;
 use shared_run::{
     Claimed, Committed, Entry, Fetched, History, Loaded, Machine, Pause, Published, Standing,
     Stepped, Ticket,
 };
-use std::alloc::AllocError;
 
 /// What a call came to.
 #[derive(Clone, Copy)]
@@ -31,14 +31,14 @@ impl Answer {
         }
     }
 
-    pub fn write(self, text: &mut String, machine: &Machine<'_>) -> Result<(), AllocError> {
+    pub fn write(self, text: &mut TextBuffer, machine: &Machine<'_>) {
         match self {
             Answer::Done(word) | Answer::Not(word) => text.push_str(word),
             Answer::Ready(ticket) => match machine.path_at(ticket.slot, ticket.generation) {
                 Some(path) => {
-                    text.push_str("done, ")?;
-                    write_path(text, path)?;
-                    text.push_str(" ready")
+                    text.push_str("done, ");
+                    write_path(text, path);
+                    text.push_str(" ready");
                 }
                 None => text.push_str("done, nothing ready"),
             },
@@ -50,31 +50,38 @@ impl Answer {
 }
 
 /// Writes a path as schedules spell it.
-fn write_path(text: &mut String, path: &Path) -> Result<(), AllocError> {
-    text.push_str("root")?;
+fn write_path(text: &mut TextBuffer, path: &Path) {
+    text.push_str("root");
     for number in path.numbers.as_slice() {
-        write!(text, ".{number}")?;
+        write!(text, ".{number}");
     }
-    Ok(())
 }
 
-fn write_paused(text: &mut String, pause: Pause, done: u64) -> Result<(), AllocError> {
+fn write_need(text: &mut TextBuffer, at: i64, done: u64) {
+    write!(text, "needs cell {at} after {done}");
+}
+
+fn write_after(text: &mut TextBuffer, word: &str, done: u64) {
+    write!(text, "{word} after {done}");
+}
+
+fn write_paused(text: &mut TextBuffer, pause: Pause, done: u64) {
     match pause {
         Pause::Blank => text.push_str("blank"),
-        Pause::Border => write!(text, "border after {done}"),
-        Pause::Limit => write!(text, "limit after {done}"),
-        Pause::Full => write!(text, "full after {done}"),
-        Pause::Need { at } => write!(text, "needs cell {at} after {done}"),
+        Pause::Border => write_after(text, "border", done),
+        Pause::Limit => write_after(text, "limit", done),
+        Pause::Full => write_after(text, "full", done),
+        Pause::Need { at } => write_need(text, at, done),
     }
 }
 
-fn write_standing(text: &mut String, standing: Standing, done: u64) -> Result<(), AllocError> {
+fn write_standing(text: &mut TextBuffer, standing: Standing, done: u64) {
     match standing {
         Standing::Blank => text.push_str("blank"),
-        Standing::Going => write!(text, "goes on after {done}"),
-        Standing::Border => write!(text, "border after {done}"),
-        Standing::Full => write!(text, "full after {done}"),
-        Standing::Need { at } => write!(text, "needs cell {at} after {done}"),
+        Standing::Going => write_after(text, "goes on", done),
+        Standing::Border => write_after(text, "border", done),
+        Standing::Full => write_after(text, "full", done),
+        Standing::Need { at } => write_need(text, at, done),
         Standing::Spoilt => text.push_str("spoilt"),
     }
 }
@@ -139,21 +146,16 @@ pub fn published(published: Published) -> Answer {
     }
 }
 
-fn write_entry(text: &mut String, entry: &Entry) -> Result<(), AllocError> {
-    match entry {
-        Entry::Steps { worker, count } => write!(text, ", step {worker} {count}"),
-        Entry::Steal { worker, path } => {
-            write!(text, ", steal {worker} ")?;
-            write_path(text, path)
+/// Writes the events of a history as a schedule does.
+pub fn write_history(text: &mut TextBuffer, history: &History) {
+    write!(text, "{} events", history.total());
+    for entry in history.entries() {
+        match entry {
+            Entry::Steps { worker, count } => write!(text, ", step {worker} {count}"),
+            Entry::Steal { worker, path } => {
+                write!(text, ", steal {worker} ");
+                write_path(text, path);
+            }
         }
     }
-}
-
-/// Writes the events of a history as a schedule does.
-pub fn write_history(text: &mut String, history: &History) -> Result<(), AllocError> {
-    write!(text, "{} events", history.total())?;
-    for entry in history.entries() {
-        write_entry(text, entry)?;
-    }
-    Ok(())
 }

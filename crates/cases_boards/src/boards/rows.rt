@@ -7,10 +7,12 @@ use crate::boards::others::at_other;
 use crate::boards::players::Player;
 use crate::boards::replies::{Answer, write_history};
 use crate::boards::runs::Run;
+use buffers::TextBuffer;
 use cases::{drawn, number_in};
 use lists::OutOfMemory;
 use shared_run::{Bench, Board, Seat, Ticket};
 use std::alloc::{AllocError, Global};
+use std::mem;
 
 /// The most calls that a seed draws.
 const MOST_CALLS: u32 = 4000;
@@ -26,8 +28,9 @@ const COUNTS: [u64; 6] = [1, 2, 3, 7, 20, 100_000];
 
 /// What is written of a run.
 pub struct Notes {
+    alloc: Global,
     /// Each call with its answer, and how the run ends.
-    pub text: String,
+    pub text: TextBuffer,
     /// Whether each call came to what was due, and the board was where its history leads to.
     pub is_right: bool,
     /// The call that was refused memory, if one was.
@@ -40,6 +43,7 @@ pub struct Notes {
 impl Drop for Notes {
     fn drop(self) {
         let Notes {
+            alloc: _,
             text: _,
             is_right: _,
             refused: _,
@@ -51,7 +55,8 @@ impl Drop for Notes {
 impl Notes {
     pub fn new(alloc: Global) -> Notes {
         Notes {
-            text: String::new(alloc),
+            alloc,
+            text: TextBuffer::new(alloc),
             is_right: true,
             refused: "none",
             tickets: Vec::new(alloc),
@@ -60,9 +65,18 @@ impl Notes {
 
     /// Forgets what was written of a run.
     pub fn forget(&mut self) {
-        self.text.clear();
+        self.text = TextBuffer::new(self.alloc);
         self.is_right = true;
         self.tickets.clear();
+    }
+
+    /// What was written of a run, which is not there any more then.
+    ///
+    /// # Errors
+    ///
+    /// Memory was refused for it.
+    pub fn take_text(&mut self) -> Result<String, AllocError> {
+        mem::replace(&mut self.text, TextBuffer::new(self.alloc)).finish()
     }
 }
 
@@ -129,12 +143,12 @@ fn called<L: Bench>(
     for _time in 0..asked.times {
         answer = checked(board, seat, player, asked, mirror, notes)?;
     }
-    answer.write(&mut notes.text, board.machine())?;
+    answer.write(&mut notes.text, board.machine());
     Ok(())
 }
 
 /// Looks at the board: `cell 1`, which is the second of `a`, or `history`.
-fn look<L: Bench>(board: &Board<'_, L>, line: &str, text: &mut String) -> Result<(), AllocError> {
+fn look<L: Bench>(board: &Board<'_, L>, line: &str, text: &mut TextBuffer) {
     let Some(("cell", index)) = line.split_once(" ") else {
         return write_history(text, board.history());
     };
@@ -157,7 +171,7 @@ fn answered<L: Bench>(
     match asked_in(line, notes.tickets.as_slice()) {
         Some(asked) => called(board, seats, players, asked, mirror, notes),
         None => {
-            look(&*board, line, &mut notes.text)?;
+            look(&*board, line, &mut notes.text);
             Ok(())
         }
     }
@@ -177,15 +191,15 @@ pub fn play_rows<L: Bench>(
 {
     for row in rows.lines() {
         let (line, _answer) = row.split_once(" = ").unwrap_or((row, ""));
-        write!(notes.text, "{line} = ")?;
+        write!(notes.text, "{line} = ");
         match (line.strip_prefix("other "), players.first()) {
             (Some(start), Some(player)) => {
                 let word = at_other(run.alloc, run.verified, player.strand(), start)?;
-                notes.text.push_str(word)?;
+                notes.text.push_str(word);
             }
             _ => answered(board, seats, players, line, mirror, notes)?,
         }
-        notes.text.push_str("\n")?;
+        notes.text.push_str("\n");
     }
     Ok(())
 }
@@ -195,32 +209,27 @@ fn drawn_below(state: &mut u64, bound: usize) -> usize {
     (drawn(state) as usize).checked_rem(bound).unwrap_or(0)
 }
 
-/// Writes a line that is drawn: a call of one of so many workers, by one of so many tickets.
-fn draw_line(
+/// A line that is drawn: a call of one of so many workers, by one of so many tickets.
+fn drawn_line(
+    alloc: Global,
     state: &mut u64,
     workers: usize,
     tickets: usize,
-    line: &mut String,
-) -> Result<(), AllocError> {
-    let word = WORDS
-        .as_slice()
-        .get(drawn_below(state, WORDS.len()))
-        .copied();
-    let word = word.unwrap_or("go");
+) -> Result<String, AllocError> {
+    let at = drawn_below(state, WORDS.len());
+    let word = WORDS.as_slice().get(at).copied().unwrap_or("go");
     let worker = drawn_below(state, workers);
-    line.clear();
-    match word {
-        "claim" => {
-            let ticket = drawn_below(state, tickets).saturating_add(1);
-            write!(line, "claim {worker} {ticket}")
-        }
-        "on" => {
-            let at = drawn_below(state, COUNTS.len());
-            let count = COUNTS.as_slice().get(at).copied().unwrap_or(1);
-            write!(line, "on {worker} {count}")
-        }
-        _ => write!(line, "{word} {worker}"),
+    let mut line = TextBuffer::new(alloc);
+    write!(line, "{word} {worker}");
+    if word == "claim" {
+        let ticket = drawn_below(state, tickets).saturating_add(1);
+        write!(line, " {ticket}");
+    } else if word == "on" {
+        let at = drawn_below(state, COUNTS.len());
+        let count = COUNTS.as_slice().get(at).copied().unwrap_or(1);
+        write!(line, " {count}");
     }
+    line.finish()
 }
 
 /// Answers lines that a seed draws, to the end of the run.
@@ -234,15 +243,14 @@ pub fn play_drawn<L: Bench>(
     notes: &mut Notes,
 ) -> Result<(), OutOfMemory> {
     let mut state = seed;
-    let mut line = String::new(alloc);
     for _call in 0..MOST_CALLS {
         if board.end() || !notes.is_right {
             return Ok(());
         }
-        draw_line(&mut state, seats.len(), notes.tickets.len(), &mut line)?;
-        write!(notes.text, "{line} = ")?;
+        let line = drawn_line(alloc, &mut state, seats.len(), notes.tickets.len())?;
+        write!(notes.text, "{line} = ");
         answered(board, seats, players, line.as_str(), mirror, notes)?;
-        notes.text.push_str("\n")?;
+        notes.text.push_str("\n");
     }
     Ok(())
 }

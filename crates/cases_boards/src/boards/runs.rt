@@ -6,6 +6,7 @@ ghost use Rattle.shared_run.specs.store.Made.{HasGlobalCells, IsMadeFor};
 use crate::boards::mirror::Mirror;
 use crate::boards::players::players_of;
 use crate::boards::rows::{Notes, play_drawn, play_rows};
+use buffers::{ListBuffer, TextBuffer};
 use lists::OutOfMemory;
 use serial_machine::serial_run;
 use shared_run::{
@@ -42,13 +43,13 @@ pub struct Run<'a> {
 
 /// The numbers that a blank parts.
 pub fn numbers_of(alloc: Global, words: &str) -> Result<Vec<i64>, AllocError> {
-    let mut numbers = Vec::new(alloc);
+    let mut numbers = ListBuffer::new(alloc);
     for word in words.split(' ') {
         if let Ok(number) = word.parse() {
-            numbers.push(number)?;
+            numbers.push(number);
         }
     }
-    Ok(numbers)
+    numbers.finish()
 }
 
 /// What the first cell of `a` holds at the start, and the arguments of `main`.
@@ -70,25 +71,25 @@ pub fn memory_of(alloc: Global, verified: &Verified, cell: i64) -> Result<Memory
 }
 
 /// Writes why a run does not begin, and whether the memory is handed back as it was.
-fn write_fault(run: &Run<'_>, fault: &RunFault, text: &mut String) -> Result<(), OutOfMemory> {
+fn write_fault(run: &Run<'_>, fault: &RunFault, text: &mut TextBuffer) -> Result<(), OutOfMemory> {
     let memory = match fault {
         RunFault::BadArguments {
             requirement,
             memory,
         } => {
-            write!(text, "begin = 801 requirement {requirement}")?;
+            write!(text, "begin = 801 requirement {requirement}");
             memory
         }
         RunFault::BadWorkers { memory } => {
-            text.push_str("begin = 802")?;
+            text.push_str("begin = 802");
             memory
         }
         RunFault::OutOfMemory | RunFault::Stopped => return Err(OutOfMemory),
     };
     if !memory.same(run.memory) {
-        text.push_str(", another memory")?;
+        text.push_str(", another memory");
     }
-    text.push_str("\n")?;
+    text.push_str("\n");
     Ok(())
 }
 
@@ -106,35 +107,39 @@ fn is_serial(run: &Run<'_>, finished: &Finished) -> Result<bool, OutOfMemory> {
     )
 }
 
-/// Writes what a run comes to. Of drawn calls that are right nothing else is left, nor is the number of events, which a seed draws too.
+/// Writes what a run comes to, if it ends. Of drawn calls that are right nothing else is left, nor is the number of events, which a seed draws too.
 fn write_end(
     run: &Run<'_>,
-    finished: &Finished,
-    events: u64,
+    end: Option<(Finished, History)>,
     notes: &mut Notes,
 ) -> Result<(), OutOfMemory> {
-    if !is_serial(run, finished)? {
+    let Some((finished, history)) = end else {
+        notes.is_right = false;
+        notes.text.push_str("it goes on");
+        return Ok(());
+    };
+    if !is_serial(run, &finished)? {
         notes.is_right = false;
     }
-    let text = &mut notes.text;
     let is_drawn = matches!(run.calls, Calls::Drawn(_));
     if is_drawn && notes.is_right {
-        text.clear();
+        notes.forget();
     }
+    let text = &mut notes.text;
     let Finished {
         result,
         instructions,
         peak,
         ..
-    } = finished;
+    } = &finished;
     write!(
         text,
         "finish = result {result}, instructions {instructions}, peak {peak}"
-    )?;
+    );
     if !is_drawn {
-        write!(text, ", events {events}")?;
+        write!(text, ", events {}", history.total());
     }
-    text.push_str("\n")?;
+    text.push_str("\n");
     Ok(())
 }
 
@@ -187,22 +192,6 @@ fn play<L: Bench>(
     }
 }
 
-/// Writes how a run ends, if it does.
-fn write_end_if_any(
-    run: &Run<'_>,
-    end: Option<(Finished, History)>,
-    notes: &mut Notes,
-) -> Result<(), OutOfMemory> {
-    match end {
-        Some((finished, history)) => write_end(run, &finished, history.total(), notes),
-        None => {
-            notes.is_right = false;
-            notes.text.push_str("it goes on")?;
-            Ok(())
-        }
-    }
-}
-
 /// The run that has this ledger, at a board in a lock.
 fn played_shared<'a, L: Bench>(
     run: &Run<'a>,
@@ -224,7 +213,7 @@ fn played_shared<'a, L: Bench>(
         Ok((mut shared, mut seats)) => {
             let board = shared.board.get_mut();
             play(run, board, seats.as_mut_slice(), notes)?;
-            write_end_if_any(run, shared.finish(seats).ok(), notes)
+            write_end(run, shared.finish(seats).ok(), notes)
         }
         Err(fault) => write_fault(run, &fault, &mut notes.text),
     }
@@ -250,7 +239,7 @@ fn played_alone<'a, L: Bench>(
     match Board::<L>::new(alloc, run.verified, run.arguments, memory, workers, blank) {
         Ok((mut board, mut seats)) => {
             play(run, &mut board, seats.as_mut_slice(), notes)?;
-            write_end_if_any(run, alone(run, board, seats)?, notes)
+            write_end(run, alone(run, board, seats)?, notes)
         }
         Err(fault) => write_fault(run, &fault, &mut notes.text),
     }

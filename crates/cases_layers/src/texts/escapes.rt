@@ -1,6 +1,6 @@
 //! Escapes in texts: `\n`, `\t`, `\r`, and `\xHH` for a byte.
 
-use std::alloc::AllocError;
+use std::alloc::{AllocError, Global};
 
 /// The byte of the two hexadecimal digits after the `x` of a text.
 fn hexadecimal(text: &str) -> Option<u8> {
@@ -28,16 +28,12 @@ fn push_marked(bytes: &mut Vec<u8>, text: &str) -> Result<(), AllocError> {
     bytes.extend_from_slice(text.as_bytes().get(length..).unwrap_or(b""))
 }
 
-/// Pushes the bytes that a text with escapes means.
-pub fn push_unescaped(bytes: &mut Vec<u8>, text: &str) -> Result<(), AllocError> {
-    let mut is_marked = false;
-    for part in text.split("\\") {
-        if is_marked {
-            push_marked(bytes, part)?;
-        } else {
-            bytes.extend_from_slice(part.as_bytes())?;
-        }
-        is_marked = true;
+/// The bytes that a text with escapes means.
+pub fn unescaped(alloc: Global, text: &str) -> Result<Vec<u8>, AllocError> {
+    let mut parts = text.split("\\");
+    let mut bytes = parts.next().unwrap_or("").as_bytes().to_vec(alloc)?;
+    for part in parts {
+        push_marked(&mut bytes, part)?;
     }
-    Ok(())
+    Ok(bytes)
 }

@@ -1,9 +1,8 @@
 //! Texts of schedules, read and printed again.
 
-use cases::Lines;
+use cases::Report;
 use debugger::{ScheduleFault, print_schedule, read_schedule};
 use std::alloc::{AllocError, Global};
-use std::io;
 
 /// What is read from a text: a row has the answer, then `=`, then the text. Rows are parted by `;`.
 const ROWS: &str = "0 events=;\
@@ -41,16 +40,9 @@ const ROWS: &str = "0 events=;\
 /// How many events the text has, or its fault.
 fn shown(alloc: Global, text: &str) -> Result<String, AllocError> {
     match read_schedule(alloc, text.as_bytes()) {
-        Err(fault) => format!(in alloc; "{fault}"),
+        Err(fault) => fault.to_string(alloc),
         Ok(events) => format!(in alloc; "{} events", events.len()),
     }
-}
-
-/// A row is answered by what is read from its text.
-fn answer_row(alloc: Global, row: &str, report: &mut Lines) -> io::Result<()> {
-    let (wanted, text) = row.split_once('=').unwrap_or((row, ""));
-    let found = shown(alloc, text)?;
-    report.answer(wanted, found.as_str())
 }
 
 /// The text's events, printed.
@@ -68,12 +60,15 @@ fn is_printed_again(alloc: Global, text: &str) -> bool {
 }
 
 /// Answers the texts.
-pub fn answer(alloc: Global, report: &mut Lines) -> io::Result<()> {
-    report.title("each text is a list or has a fault")?;
+pub fn answer(alloc: Global, report: &mut Report) -> Result<(), AllocError> {
+    report.title("each text is a list or has a fault");
     for row in ROWS.split(';') {
-        answer_row(alloc, row, report)?;
+        let (wanted, text) = row.split_once('=').unwrap_or((row, ""));
+        let found = shown(alloc, text)?;
+        report.answer(wanted, found.as_str());
     }
-    report.title("events are printed in runs")?;
+    report.title("events are printed in runs");
     let is_again = is_printed_again(alloc, "step 0 2\nsteal 1 root.0.12\nstep 1 1\n");
-    report.holds("a text of runs is printed again", is_again)
+    report.holds("a text of runs is printed again", is_again);
+    Ok(())
 }

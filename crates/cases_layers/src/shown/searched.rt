@@ -1,12 +1,10 @@
 //! `shown` against a search through all that its definition names, over plain numbers.
 
-use crate::lot::Lot;
-use crate::numbers::{Numbers, is_shown};
-use cases::Lines;
+use crate::shown::lot::Lot;
+use crate::shown::numbers::{Numbers, is_shown};
+use buffers::{ListBuffer, TextBuffer};
 use linear::FormFault;
-use std::alloc::Global;
-use std::io;
-use std::io::Write;
+use std::alloc::{AllocError, Global};
 
 /// a * x + b * y
 fn sum(a: i64, x: i64, b: i64, y: i64) -> i64 {
@@ -63,13 +61,13 @@ fn is_shown_by(sides: &[Numbers], e: Numbers) -> bool {
 }
 
 /// No fact, and up to three facts.
-fn sides(alloc: Global, lot: &mut Lot) -> Result<Vec<Numbers>, FormFault> {
-    let mut sides = Vec::new(alloc);
-    sides.push(Numbers::new(0, 0, 0))?;
+fn sides(alloc: Global, lot: &mut Lot) -> Result<Vec<Numbers>, AllocError> {
+    let mut sides = ListBuffer::new(alloc);
+    sides.push(Numbers::new(0, 0, 0));
     for _ in 0..lot.next() % 4 {
-        sides.push(lot.numbers())?;
+        sides.push(lot.numbers());
     }
-    Ok(sides)
+    sides.finish()
 }
 
 /// One case: up to three facts, and a form. Answers whether the form is shown, and whether the search says the same.
@@ -93,14 +91,12 @@ fn counts(alloc: Global, lot: &mut Lot, cases: u64) -> Result<(u64, u64), FormFa
     Ok((shown, other))
 }
 
-pub fn print_cases(report: &mut Lines, alloc: Global, lot: &mut Lot) -> io::Result<()> {
+pub fn print_cases(out: &mut TextBuffer, alloc: Global, lot: &mut Lot) {
     match counts(alloc, lot, 20_000) {
-        Ok((shown, other)) => {
-            writeln!(
-                report.output_mut(),
-                "20000 cases: {shown} shown, {other} other than searched"
-            )
-        }
-        Err(_) => writeln!(report.output_mut(), "no cases"),
+        Ok((shown, other)) => writeln!(
+            out,
+            "20000 cases: {shown} shown, {other} other than searched"
+        ),
+        Err(_) => out.push_str("no cases\n"),
     }
 }

@@ -1,12 +1,11 @@
 //! The debugger against replays.
 
 use crate::steps::events::{random_events, replayed};
-use cases::{Lines, drawn, no_memory};
+use cases::{Report, drawn};
 use debugger::{Debugger, Event, Machine, Memory, TaskView, Verified};
 use frame::Path;
 use lists::OutOfMemory;
 use std::alloc::Global;
-use std::io;
 
 const EVENTS: usize = 90;
 
@@ -75,25 +74,17 @@ impl<'a> Run<'a> {
         let position = debugger.position();
         let last = self.events.len();
         let number = drawn(state) % 100;
-        match drawn(state) % 4 {
-            0 => {
-                debugger.to(number as usize)?;
-                Ok(last.min(number as usize))
-            }
-            1 => {
-                debugger.forward()?;
-                Ok(last.min(position.saturating_add(1)))
-            }
-            2 => {
-                debugger.back()?;
-                Ok(position.saturating_sub(1))
-            }
+        let (done, wanted) = match drawn(state) % 4 {
+            0 => (debugger.to(number as usize), last.min(number as usize)),
+            1 => (debugger.forward(), last.min(position.saturating_add(1))),
+            2 => (debugger.back(), position.saturating_sub(1)),
             _ => {
                 let line = 10 + number % 40;
-                debugger.break_at(line)?;
-                self.stop_after(position, line)
+                (debugger.break_at(line), self.stop_after(position, line)?)
             }
-        }
+        };
+        done?;
+        Ok(wanted)
     }
 
     /// Whether the debugger stands where each command is to lead to, and shows the machine there.
@@ -138,8 +129,13 @@ fn seeds_as_replays(alloc: Global, verified: &Verified, seeds: u64) -> Result<u6
 }
 
 /// Holds random dialogues.
-pub fn answer(alloc: Global, parallel_for: &Verified, report: &mut Lines) -> io::Result<()> {
-    report.title("the debugger against replays")?;
-    let count = seeds_as_replays(alloc, parallel_for, 300).map_err(no_memory)?;
-    report.count("300 random dialogues", 300, count)
+pub fn answer(
+    alloc: Global,
+    parallel_for: &Verified,
+    report: &mut Report,
+) -> Result<(), OutOfMemory> {
+    report.title("the debugger against replays");
+    let count = seeds_as_replays(alloc, parallel_for, 300)?;
+    report.count("300 random dialogues", 300, count);
+    Ok(())
 }

@@ -1,7 +1,7 @@
 //! What is asked of the texts of a file.
 
-use crate::escapes::push_unescaped;
-use crate::{lines, parts};
+use crate::texts::escapes::unescaped;
+use crate::texts::{lines, parts};
 use std::alloc::{AllocError, Global};
 use std::hash::RandomState;
 
@@ -27,21 +27,19 @@ impl Question {
     }
 
     /// The answer to a text. Annotations, faults and parts have no escapes.
-    pub fn push_answer(
+    pub fn answer(
         self,
-        found: &mut String,
         alloc: Global,
         state: RandomState,
         text: &str,
-    ) -> Result<(), AllocError> {
-        let mut bytes = Vec::new(alloc);
-        push_unescaped(&mut bytes, text)?;
+    ) -> Result<String, AllocError> {
+        let bytes = unescaped(alloc, text)?;
         match self {
-            Question::Tokens => lines::push_lexed(found, alloc, bytes.as_slice()),
-            Question::Item => lines::push_item(found, alloc, bytes.as_slice()),
-            Question::Annotation => lines::push_annotation(found, alloc, text),
-            Question::Fault => lines::push_fault(found, text),
-            Question::Parts => parts::push_parts(found, alloc, state, text),
+            Question::Tokens => lines::lexed(alloc, bytes.as_slice()),
+            Question::Item => lines::item(alloc, bytes.as_slice()),
+            Question::Annotation => lines::annotation(alloc, text),
+            Question::Fault => lines::fault(alloc, text),
+            Question::Parts => parts::parts(alloc, state, text),
         }
     }
 }

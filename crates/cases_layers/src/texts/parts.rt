@@ -23,38 +23,14 @@ fn instruction_of(text: &str) -> Option<&str> {
     text.strip_prefix(BEFORE)?.strip_suffix(BEHIND)
 }
 
-fn push_global(
-    found: &mut String,
-    alloc: Global,
-    state: RandomState,
-    line: &str,
-) -> Result<(), AllocError> {
-    let text = printed(alloc, state, line.as_bytes())?;
-    write!(found, "global: {}", text.as_str().trim_end())
-}
-
-fn push_instruction(
-    found: &mut String,
-    alloc: Global,
-    state: RandomState,
-    line: &str,
-) -> Result<(), AllocError> {
+/// The global or the instruction of a line.
+pub fn parts(alloc: Global, state: RandomState, line: &str) -> Result<String, AllocError> {
+    if line.starts_with("@") {
+        let text = printed(alloc, state, line.as_bytes())?;
+        return format!(in alloc; "global: {}", text.as_str().trim_end());
+    }
     let text = format!(in alloc; "{BEFORE}{line}{BEHIND}")?;
     let text = printed(alloc, state, text.as_bytes())?;
     let spelled = instruction_of(text.as_str()).unwrap_or("none");
-    write!(found, "instruction: {spelled}")
-}
-
-/// The global or the instruction of a line.
-pub fn push_parts(
-    found: &mut String,
-    alloc: Global,
-    state: RandomState,
-    line: &str,
-) -> Result<(), AllocError> {
-    if line.starts_with("@") {
-        push_global(found, alloc, state, line)
-    } else {
-        push_instruction(found, alloc, state, line)
-    }
+    format!(in alloc; "instruction: {spelled}")
 }

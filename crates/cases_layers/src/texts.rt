@@ -4,7 +4,6 @@
 //!
 //! `==== TITLE` begins some cases that belong together, `# ..` speaks to the reader, and each other line that is not empty is a case: a row
 //! `ANSWER | TEXT`. Texts of tokens and items have the escapes of `escapes`.
-#![tactic(auto)]
 
 mod escapes;
 mod files;
@@ -12,7 +11,7 @@ mod lines;
 mod parts;
 mod questions;
 
-use cases::Lines;
+use cases::Report;
 use questions::Question;
 use std::hash::RandomState;
 use std::rt::Files;
@@ -24,11 +23,12 @@ pub fn answer<R: AllocGlobal + Files>(
     state: RandomState,
     folder: &str,
     file: &str,
-    report: &mut Lines,
+    report: &mut Report,
 ) -> io::Result<()> {
     let Some(question) = Question::of_folder(folder) else {
-        return report.case("a folder of no kind", folder, false);
+        report.case("a folder of no kind", folder, false);
+        return Ok(());
     };
     let text = fs::read_to_string(rt, file)?;
-    files::answer(rt.alloc(), state, question, text.as_str(), report)
+    Ok(files::answer(rt.alloc(), state, question, text.as_str(), report)?)
 }

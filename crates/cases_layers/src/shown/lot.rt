@@ -1,4 +1,4 @@
-use crate::numbers::Numbers;
+use crate::shown::numbers::Numbers;
 use cases::drawn;
 
 /// Numbers without a pattern, the same in each run.
@@ -15,13 +15,7 @@ impl Lot {
 
     /// From -2 to 2.
     fn small(&mut self) -> i64 {
-        match self.next() % 5 {
-            0 => -2,
-            1 => -1,
-            2 => 0,
-            3 => 1,
-            _ => 2,
-        }
+        (self.next() % 5).cast_signed().wrapping_sub(2)
     }
 
     pub fn numbers(&mut self) -> Numbers {

@@ -1,8 +1,7 @@
 //! The count of a region's children, step by step.
 ghost use Rattle.std.specs.Prelude.{◌≡◌};
 
-use cases::Lines;
-use std::io;
+use cases::Report;
 use sync_join::{Outcome, Parent, Passage, RegionCount};
 
 /// The count of a region with two children.
@@ -15,34 +14,34 @@ fn two_children() -> RegionCount
     count
 }
 
-fn answer_stalled(report: &mut Lines) -> io::Result<()> {
+fn answer_stalled(report: &mut Report) {
     let mut count = two_children();
     let stalls = count.at_sync() == Passage::Stall;
-    report.holds("a sync waits for two children", stalls)?;
+    report.holds("a sync waits for two children", stalls);
     let first = count.closed(3, 0, Parent::Stalled { region: 3 });
-    report.holds("the first leaves", first == Outcome::Leave)?;
+    report.holds("the first leaves", first == Outcome::Leave);
     let last = count.closed(3, 1, Parent::Stalled { region: 3 });
     report.holds(
         "the last takes up the stalled parent",
         last == Outcome::ResumeStalled,
-    )?;
+    );
     let passes = count.at_sync() == Passage::Pass;
-    report.holds("then the sync passes", passes)
+    report.holds("then the sync passes", passes);
 }
 
-fn answer_ready(report: &mut Lines) -> io::Result<()> {
+fn answer_ready(report: &mut Report) {
     let mut count = two_children();
     let older = count.closed(3, 0, Parent::Ready { newest: 1 });
-    report.holds("the older child leaves", older == Outcome::Leave)?;
+    report.holds("the older child leaves", older == Outcome::Leave);
     let newest = count.closed(3, 1, Parent::Ready { newest: 1 });
     report.holds(
         "the newest goes on with the ready parent",
         newest == Outcome::ResumeReady,
-    )
+    );
 }
 
-pub fn answer(report: &mut Lines) -> io::Result<()> {
-    report.title("counts of children")?;
-    answer_stalled(report)?;
-    answer_ready(report)
+pub fn answer(report: &mut Report) {
+    report.title("counts of children");
+    answer_stalled(report);
+    answer_ready(report);
 }
