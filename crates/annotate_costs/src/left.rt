@@ -4,7 +4,6 @@ use crate::ring::{Ring, names_inner, ring_of};
 use annotate_facts::{Known, MOST_BLOCKS};
 use annotate_sums::{Edge, Sum, Way, block_at, definition_of, greatest, moved, register_of};
 use lists::Name;
-use std::alloc::{AllocError, Global};
 use syntax::{Block, Instruction, Phi, Step};
 
 /// Self calls and instructions.
@@ -45,15 +44,15 @@ fn cost_of(costs: &[(&str, u128)], callee: &str) -> u128 {
 }
 
 impl<'a> Need<'a> {
-    fn none(alloc: Global) -> Need<'a> {
+    fn none(heap: &'a Heap) -> Need<'a> {
         Need {
-            calls: Sum::number(alloc, 0),
-            instructions: Sum::number(alloc, 0),
+            calls: Sum::number(heap, 0),
+            instructions: Sum::number(heap, 0),
         }
     }
 
-    fn add(&mut self, other: &Need<'a>) -> Result<(), AllocError> {
-        self.calls.add(&other.calls, 1)?;
+    fn add(&mut self, other: &Need<'a>)  {
+        self.calls.add(&other.calls, 1);
         self.instructions.add(&other.instructions, 1)
     }
 
@@ -63,10 +62,9 @@ impl<'a> Need<'a> {
         known: &Known<'a>,
         block: usize,
         other: &Need<'a>,
-    ) -> Result<(), AllocError> {
-        self.calls = known.greater(block, &self.calls, &other.calls)?;
-        self.instructions = known.greater(block, &self.instructions, &other.instructions)?;
-        Ok(())
+    ) {
+        self.calls = known.greater(block, &self.calls, &other.calls);
+        self.instructions = known.greater(block, &self.instructions, &other.instructions);
     }
 
     /// Adds what the instructions of a block do, and its terminator.
@@ -89,101 +87,101 @@ impl<'a> Need<'a> {
 
 /// Puts in what an instruction's register is made of, if the sum has it; whether the sum is still one.
 fn put_in<'a>(
-    alloc: Global,
+    heap: &'a Heap,
     sum: &mut Sum<'a>,
     instruction: &'a Instruction,
-) -> Result<bool, AllocError> {
+) -> bool {
     match register_of(instruction) {
-        Some(name) if sum.has(name) => match definition_of(alloc, instruction)? {
+        Some(name) if sum.has(name) => match definition_of(heap, instruction) {
             Some(value) => {
-                sum.put(name, &value)?;
-                Ok(true)
+                sum.put(name, &value);
+                true
             }
-            None => Ok(false),
+            None => false,
         },
-        _ => Ok(true),
+        _ => true,
     }
 }
 
 /// A sum at a block's start, as it is at the start of another from which an edge leads there: what that block's instructions define is replaced by what it
 /// is made of. None where it is no sum.
 fn sum_along<'a>(
-    alloc: Global,
+    heap: &'a Heap,
     sum: &Sum<'a>,
     from: &'a Block,
     phis: &'a [Phi],
-) -> Result<Option<Sum<'a>>, AllocError> {
-    let mut sum = moved(alloc, sum, &from.label, phis)?;
+) -> Option<Sum<'a>> {
+    let mut sum = moved(heap, sum, &from.label, phis);
     let steps = from.steps.as_slice();
     for index in (0..steps.len()).rev() {
-        if !put_in(alloc, &mut sum, &steps[index].instruction)? {
-            return Ok(None);
+        if !put_in(heap, &mut sum, &steps[index].instruction) {
+            return None;
         }
     }
-    Ok(Some(sum))
+    Some(sum)
 }
 
 /// What a block needs that has these phis, at the start of another from which an edge leads there.
 fn need_along<'a>(
-    alloc: Global,
+    heap: &'a Heap,
     left: &Need<'a>,
     from: &'a Block,
     phis: &'a [Phi],
-) -> Result<Option<Need<'a>>, AllocError> {
-    let Some(calls) = sum_along(alloc, &left.calls, from, phis)? else {
-        return Ok(None);
+) -> Option<Need<'a>> {
+    let Some(calls) = sum_along(heap, &left.calls, from, phis) else {
+        return None;
     };
-    match sum_along(alloc, &left.instructions, from, phis)? {
-        Some(instructions) => Ok(Some(Need {
+    match sum_along(heap, &left.instructions, from, phis) {
+        Some(instructions) => Some(Need {
             calls,
             instructions,
-        })),
-        None => Ok(None),
+        }),
+        None => None,
     }
 }
 
 impl<'a> Finder<'_, 'a> {
     /// What the target of an edge needs, at the start of the block where the edge begins.
-    fn behind(&self, edge: Edge<'a>) -> Result<Option<Need<'a>>, AllocError> {
+    fn behind(&self, edge: Edge<'a>) -> Option<Need<'a>> {
         let blocks = self.known.function.blocks.as_slice();
         if edge.from >= blocks.len() || edge.to >= blocks.len() || edge.to >= self.lefts.len() {
-            return Ok(None);
+            return None;
         }
         match &self.lefts[edge.to] {
             Some(left) => {
                 let phis = blocks[edge.to].phis.as_slice();
-                need_along(self.known.alloc, left, &blocks[edge.from], phis)
+                need_along(self.known.heap, left, &blocks[edge.from], phis)
             }
-            None => Ok(None),
+            None => None,
         }
     }
 
     /// Joins what is needed along one more edge: at a detach that of both targets together, else of that which needs most. Whether it
     /// is known.
-    fn join(&self, edge: Edge<'a>, is_first: bool, all: &mut Need<'a>) -> Result<bool, AllocError> {
-        let Some(next) = self.behind(edge)? else {
-            return Ok(false);
+    fn join(&self, edge: Edge<'a>, is_first: bool, all: &mut Need<'a>) -> bool {
+        let Some(next) = self.behind(edge) else {
+            return false;
         };
         if is_first || matches!(edge.way, Way::Continued(_)) {
-            all.add(&next)?;
+            all.add(&next);
         } else {
-            all.raise(self.known, edge.from, &next)?;
+            all.raise(self.known, edge.from, &next);
         }
-        Ok(true)
+        true
     }
 
     /// Joins what is needed behind all edges of a block to nothing. Whether it is known.
-    fn join_all(&self, block: usize, all: &mut Need<'a>) -> Result<bool, AllocError> {
+    fn join_all(&self, block: usize, all: &mut Need<'a>) -> bool {
         let mut is_first = true;
         for edge in &self.known.edges {
             if edge.from == block {
-                if !self.join(*edge, is_first, all)? {
-                    return Ok(false);
+                if !self.join(*edge, is_first, all) {
+                    return false;
                 }
                 is_first = false;
             }
         }
-        Ok(true)
+        true
     }
 
     /// Joins what is needed behind the edge of this number, if it leads out of a loop, at the loop's head. Whether it is known.
@@ -193,118 +191,116 @@ impl<'a> Finder<'_, 'a> {
         edge: Edge<'a>,
         is_first: bool,
         all: &mut Need<'a>,
-    ) -> Result<bool, AllocError> {
-        let Some(next) = self.behind(edge)? else {
-            return Ok(false);
+    ) -> bool {
+        let Some(next) = self.behind(edge) else {
+            return false;
         };
         let is_inner = names_inner(self.known, ring.head, ring.last, &next.calls)
             || names_inner(self.known, ring.head, ring.last, &next.instructions);
         if is_first {
-            all.add(&next)?;
+            all.add(&next);
         } else {
-            all.raise(self.known, ring.head, &next)?;
+            all.raise(self.known, ring.head, &next);
         }
-        Ok(edge.from == ring.head || !is_inner)
+        edge.from == ring.head || !is_inner
     }
 
     /// Joins what is needed behind all edges out of a loop to nothing. Whether it is known, and whether all of them begin at the head.
-    fn join_exits(&self, ring: &Ring<'a>, all: &mut Need<'a>) -> Result<(bool, bool), AllocError> {
+    fn join_exits(&self, ring: &Ring<'a>, all: &mut Need<'a>) -> (bool, bool) {
         let mut is_first = true;
         let mut is_tested_first = true;
         for edge in &self.known.edges {
             if ring.has(edge.from) && !ring.has(edge.to) {
-                if !self.join_exit(ring, *edge, is_first, all)? {
-                    return Ok((false, false));
+                if !self.join_exit(ring, *edge, is_first, all) {
+                    return (false, false);
                 }
                 is_first = false;
                 is_tested_first = is_tested_first && edge.from == ring.head;
             }
         }
-        Ok((true, is_tested_first))
+        (true, is_tested_first)
     }
 
     /// What is needed at the head of a loop: so many rounds, as the rank says, and what is needed behind it.
-    fn need_of_ring(&self, ring: &Ring<'a>) -> Result<Option<Need<'a>>, AllocError> {
+    fn need_of_ring(&self, ring: &Ring<'a>) -> Option<Need<'a>> {
         let Some(head) = block_at(self.known.function, ring.head) else {
-            return Ok(None);
+            return None;
         };
-        let mut need = Need::none(self.known.alloc);
-        let (is_known, is_tested_first) = self.join_exits(ring, &mut need)?;
+        let mut need = Need::none(self.known.heap);
+        let (is_known, is_tested_first) = self.join_exits(ring, &mut need);
         if is_tested_first {
             need.add_steps(head.steps.as_slice(), &self.known.function.name, self.costs);
         } else {
             need.calls.add_number(ring.calls);
             need.instructions.add_number(ring.instructions);
         }
-        ring.add_rounds(&mut need.calls, ring.calls)?;
-        ring.add_rounds(&mut need.instructions, ring.instructions)?;
-        Ok(if is_known { Some(need) } else { None })
+        ring.add_rounds(&mut need.calls, ring.calls);
+        ring.add_rounds(&mut need.instructions, ring.instructions);
+        if is_known { Some(need) } else { None }
     }
 
     /// What a block needs by the edges behind it, if that is known.
-    fn need_behind(&self, block: usize) -> Result<Option<Need<'a>>, AllocError> {
+    fn need_behind(&self, block: usize) -> Option<Need<'a>> {
         let function = self.known.function;
         let Some(own) = block_at(function, block) else {
-            return Ok(None);
+            return None;
         };
-        let mut need = Need::none(self.known.alloc);
-        let is_known = self.join_all(block, &mut need)?;
+        let mut need = Need::none(self.known.heap);
+        let is_known = self.join_all(block, &mut need);
         need.add_steps(own.steps.as_slice(), &function.name, self.costs);
-        Ok(if is_known { Some(need) } else { None })
+        if is_known { Some(need) } else { None }
     }
 
     /// What a block needs. None where that is not known, or no form of its start's registers.
-    fn need(&self, block: usize) -> Result<Option<Need<'a>>, AllocError> {
+    fn need(&self, block: usize) -> Option<Need<'a>> {
         let need = match ring_at(self.rings, block) {
-            Some(ring) => self.need_of_ring(ring)?,
-            None => self.need_behind(block)?,
+            Some(ring) => self.need_of_ring(ring),
+            None => self.need_behind(block),
         };
         let is_form = match &need {
             Some(need) => need.calls.is_form() && need.instructions.is_form(),
             None => false,
         };
-        Ok(if is_form { need } else { None })
+        if is_form { need } else { None }
     }
 
     /// Finds what a block needs, if that is not known yet; whether it was found.
-    fn draw(&mut self, block: usize) -> Result<bool, AllocError> {
+    fn draw(&mut self, block: usize) -> bool {
         if block >= self.lefts.len() || self.lefts[block].is_some() {
-            return Ok(false);
+            return false;
         }
-        let need = self.need(block)?;
+        let need = self.need(block);
         let is_new = need.is_some();
         self.lefts[block] = need;
-        Ok(is_new)
+        is_new
     }
 
     /// One round over the blocks, the last one first; whether a need was found.
-    fn draw_all(&mut self) -> Result<bool, AllocError> {
+    fn draw_all(&mut self) -> bool {
         let mut is_new = false;
         for block in (0..self.lefts.len()).rev() {
-            if self.draw(block)? {
+            if self.draw(block) {
                 is_new = true;
             }
         }
-        Ok(is_new)
+        is_new
     }
 
     /// Round after round until nothing new is found.
-    fn draw_until_known(&mut self) -> Result<(), AllocError> {
+    fn draw_until_known(&mut self)  {
         for _round in 0..self.lefts.len() {
-            if !self.draw_all()? {
-                return Ok(());
+            if !self.draw_all() {
+                return;
             }
         }
-        Ok(())
     }
 
     /// Begins with what the lines of the blocks say.
-    fn begin(&mut self) -> Result<(), AllocError> {
+    fn begin(&mut self)  {
         for block in self.known.function.blocks.as_slice() {
-            let given = given(self.known.alloc, block)?;
-            self.lefts.push(given)?;
+            let given = given(self.known.heap, block);
+            self.lefts.push(given);
         }
-        Ok(())
     }
 }
 
@@ -323,15 +319,15 @@ fn greatest_at<'a>(
     known: &Known<'a>,
     block: usize,
     sum: &Sum<'a>,
-) -> Result<Option<i128>, AllocError> {
+) -> Option<i128> {
     match sum.as_number() {
-        Some(number) => Ok(Some(number)),
+        Some(number) => Some(number),
         None => {
-            let facts = known.facts_at(block)?;
-            Ok(match greatest(facts.as_slice(), sum)? {
+            let facts = known.facts_at(block);
+            match greatest(facts.as_slice(), sum) {
                 Some(most) => Some(i128::from(most)),
                 None => None,
-            })
+            }
         }
     }
 }
@@ -342,19 +338,19 @@ fn round_need<'w, 'a>(
     costs: &'w [(&'a str, u128)],
     rings: &'w [Ring<'a>],
     ring: &Ring<'a>,
-) -> Result<Option<Need<'a>>, AllocError> {
+) -> Option<Need<'a>> {
     let mut finder = Finder {
         known,
         costs,
         rings,
-        lefts: Vec::new(known.alloc),
+        lefts: known.heap.list(),
     };
     for block in 0..known.function.blocks.len() {
         let is_asked = block != ring.head && ring.has(block);
-        let left = Need::none(known.alloc);
-        finder.lefts.push(if is_asked { None } else { Some(left) })?;
+        let left = Need::none(known.heap);
+        finder.lefts.push(if is_asked { None } else { Some(left) });
     }
-    finder.draw_until_known()?;
+    finder.draw_until_known();
     finder.need_behind(ring.head)
 }
 
@@ -364,44 +360,44 @@ fn count_round<'a>(
     costs: &[(&'a str, u128)],
     rings: &[Ring<'a>],
     ring: &mut Ring<'a>,
-) -> Result<bool, AllocError> {
-    let Some(need) = round_need(known, costs, rings, ring)? else {
-        return Ok(false);
+) -> bool {
+    let Some(need) = round_need(known, costs, rings, ring) else {
+        return false;
     };
-    let calls = greatest_at(known, ring.head, &need.calls)?;
-    let instructions = greatest_at(known, ring.head, &need.instructions)?;
+    let calls = greatest_at(known, ring.head, &need.calls);
+    let instructions = greatest_at(known, ring.head, &need.instructions);
     ring.calls = calls.unwrap_or(0);
     ring.instructions = instructions.unwrap_or(0);
-    Ok(calls.is_some() && instructions.is_some())
+    calls.is_some() && instructions.is_some()
 }
 
 /// The loops whose rounds are counted, the inner ones first.
-fn rings_of<'a>(known: &Known<'a>, costs: &[(&'a str, u128)]) -> Result<Vec<Ring<'a>>, AllocError> {
-    let mut rings = Vec::new(known.alloc);
+fn rings_of<'a>(known: &Known<'a>, costs: &[(&'a str, u128)]) -> Vec<Ring<'a>> {
+    let mut rings = known.heap.list();
     let count = known.function.blocks.len();
     if count > MOST_BLOCKS {
-        return Ok(rings);
+        return rings;
     }
     for head in (0..count).rev() {
-        if let Some(mut ring) = ring_of(known, head)? {
-            if count_round(known, costs, rings.as_slice(), &mut ring)? {
-                rings.push(ring)?;
+        if let Some(mut ring) = ring_of(known, head) {
+            if count_round(known, costs, rings.as_slice(), &mut ring) {
+                rings.push(ring);
             }
         }
     }
-    Ok(rings)
+    rings
 }
 
 /// The `left` line of a block, where it has one.
-fn given<'a>(alloc: Global, block: &'a Block) -> Result<Option<Need<'a>>, AllocError> {
+fn given<'a>(heap: &'a Heap, block: &'a Block) -> Option<Need<'a>> {
     let left = &block.notes.left;
     if left.line == block.line {
-        return Ok(None);
+        return None;
     }
-    Ok(Some(Need {
-        calls: Sum::of_form(alloc, &left.self_calls)?,
-        instructions: Sum::of_form(alloc, &left.instructions)?,
-    }))
+    Some(Need {
+        calls: Sum::of_form(heap, &left.self_calls),
+        instructions: Sum::of_form(heap, &left.instructions),
+    })
 }
 
 /// The same, where the rounds of loops are counted.
@@ -409,23 +405,23 @@ fn needs_by<'w, 'a>(
     known: &'w Known<'a>,
     costs: &'w [(&'a str, u128)],
     rings: &'w [Ring<'a>],
-) -> Result<Vec<Option<Need<'a>>>, AllocError> {
+) -> Vec<Option<Need<'a>>> {
     let mut finder = Finder {
         known,
         costs,
         rings,
-        lefts: Vec::new(known.alloc),
+        lefts: known.heap.list(),
     };
-    finder.begin()?;
-    finder.draw_until_known()?;
-    Ok(finder.lefts)
+    finder.begin();
+    finder.draw_until_known();
+    finder.lefts
 }
 
 /// What each block needs: what its line says, and where it has none what follows, from the ends back. None where that is not known.
 pub fn needs_of<'a>(
     known: &Known<'a>,
     costs: &[(&'a str, u128)],
-) -> Result<Vec<Option<Need<'a>>>, AllocError> {
-    let rings = rings_of(known, costs)?;
+) -> Vec<Option<Need<'a>>> {
+    let rings = rings_of(known, costs);
     needs_by(known, costs, rings.as_slice())
 }

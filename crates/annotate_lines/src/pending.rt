@@ -4,7 +4,6 @@ use crate::hull::Hull;
 use annotate_facts::{Place, dominators_of, names_own};
 use annotate_steps::is_same_object;
 use annotate_sums::{Edge, Sum, Way, block_at, edges_of};
-use std::alloc::{AllocError, Global};
 use syntax::{Block, Form, Function, Pending, Zone};
 
 /// A zone that is pending of a region.
@@ -15,49 +14,45 @@ pub struct Handed<'a> {
 }
 
 /// Whether two forms are the same number whatever the registers hold.
-fn are_same(alloc: Global, one: &Form, other: &Form) -> Result<bool, AllocError> {
-    let mut difference = Sum::of_form(alloc, one)?;
-    difference.add_form(other, -1)?;
-    Ok(matches!(difference.as_number(), Some(0)))
+fn are_same(heap: &'a Heap, one: &Form, other: &Form) -> bool {
+    let mut difference = Sum::of_form(heap, one);
+    difference.add_form(other, -1);
+    matches!(difference.as_number(), Some(0))
 }
 
 /// Whether a form names a register that the block defines.
-fn form_names_own(alloc: Global, block: &Block, form: &Form) -> Result<bool, AllocError> {
-    let sum = Sum::of_form(alloc, form)?;
-    Ok(names_own(block, &sum))
+fn form_names_own(heap: &'a Heap, block: &Block, form: &Form) -> bool {
+    let sum = Sum::of_form(heap, form);
+    names_own(block, &sum)
 }
 
 /// Whether each register of a form has its value at a place.
-fn has_values(place: Place<'_, '_>, form: &Form) -> Result<bool, AllocError> {
-    let sum = Sum::of_form(place.alloc, form)?;
-    Ok(place.has_values(&sum))
+fn has_values(place: Place<'_, '_>, form: &Form) -> bool {
+    let sum = Sum::of_form(place.heap, form);
+    place.has_values(&sum)
 }
 
 impl<'a> Handed<'a> {
     /// Whether both are of one region and zone.
-    fn is_same(self, alloc: Global, other: Handed<'a>) -> Result<bool, AllocError> {
+    fn is_same(self, heap: &'a Heap, other: Handed<'a>) -> bool {
         let one = self.zone;
         let two = other.zone;
-        Ok(
-            self.region == other.region
+        self.region == other.region
                 && one.mode == two.mode
                 && is_same_object(&one.object, &two.object)
-                && are_same(alloc, &one.low, &two.low)?
-                && are_same(alloc, &one.high, &two.high)?,
-        )
+                && are_same(heap, &one.low, &two.low)
+                && are_same(heap, &one.high, &two.high),
     }
 
     /// Whether an end of the zone names a register that the block defines.
-    fn is_renamed(self, alloc: Global, block: &Block) -> Result<bool, AllocError> {
-        Ok(
-            form_names_own(alloc, block, &self.zone.low)?
-                || form_names_own(alloc, block, &self.zone.high)?,
-        )
+    fn is_renamed(self, heap: &'a Heap, block: &Block) -> bool {
+        form_names_own(heap, block, &self.zone.low)
+                || form_names_own(heap, block, &self.zone.high),
     }
 
     /// Whether the registers of both ends have their values at a place.
-    fn may_stand(self, place: Place<'_, '_>) -> Result<bool, AllocError> {
-        Ok(has_values(place, &self.zone.low)? && has_values(place, &self.zone.high)?)
+    fn may_stand(self, place: Place<'_, '_>) -> bool {
+        has_values(place, &self.zone.low) && has_values(place, &self.zone.high)
     }
 
     /// Whether a block says itself what is pending of the region's object.
@@ -73,8 +68,8 @@ impl<'a> Handed<'a> {
     }
 
     /// Whether a block says that itself, or a register of the zone is another one there, or has no value.
-    fn is_kept_out(self, place: Place<'_, '_>, block: &Block) -> Result<bool, AllocError> {
-        Ok(self.is_said(block) || self.is_renamed(place.alloc, block)? || !self.may_stand(place)?)
+    fn is_kept_out(self, place: Place<'_, '_>, block: &Block) -> bool {
+        self.is_said(block) || self.is_renamed(place.heap, block) || !self.may_stand(place)
     }
 }
 
@@ -89,7 +84,7 @@ fn goes_on(way: Way<'_>, region: &str) -> bool {
 
 /// What is handed on to each block beside what it says itself.
 pub struct Waiting<'a> {
-    alloc: Global,
+    heap: &'a Heap,
     function: &'a Function,
     edges: Vec<Edge<'a>>,
     /// For each block one that is on all ways to it.
@@ -101,7 +96,7 @@ pub struct Waiting<'a> {
 impl Drop for Waiting<'_> {
     fn drop(self) {
         let Waiting {
-            alloc: _,
+            heap: _,
             function: _,
             edges: _,
             above: _,
@@ -114,7 +109,7 @@ impl<'a> Waiting<'a> {
     /// Where a block begins.
     fn place(&self, block: usize) -> Place<'_, 'a> {
         Place {
-            alloc: self.alloc,
+            heap: self.heap,
             function: self.function,
             above: self.above.as_slice(),
             block,
@@ -122,18 +117,18 @@ impl<'a> Waiting<'a> {
     }
 
     /// Hands a zone on to a block; whether that is new.
-    fn put(&mut self, to: usize, next: Handed<'a>) -> Result<bool, AllocError> {
+    fn put(&mut self, to: usize, next: Handed<'a>) -> bool {
         let blocks = self.function.blocks.as_slice();
         if to >= blocks.len() || to >= self.handed.len() {
-            return Ok(false);
+            return false;
         }
-        if next.is_kept_out(self.place(to), &blocks[to])?
-            || is_put(self.alloc, self.handed[to].as_slice(), next)?
+        if next.is_kept_out(self.place(to), &blocks[to])
+            || is_put(self.heap, self.handed[to].as_slice(), next)
         {
-            return Ok(false);
+            return false;
         }
-        self.handed[to].push(next)?;
-        Ok(true)
+        self.handed[to].push(next);
+        true
     }
 
     /// Adds the feet of the children that a block detaches.
@@ -142,169 +137,160 @@ impl<'a> Waiting<'a> {
         along: &mut Vec<Handed<'a>>,
         from: usize,
         region: &'a str,
-    ) -> Result<(), AllocError> {
+    ) {
         for edge in &self.edges {
             if edge.from == from && matches!(edge.way, Way::Detached) {
                 if let Some(child) = block_at(self.function, edge.to) {
-                    push_foot(along, region, child.notes.foot.as_slice())?;
+                    push_foot(along, region, child.notes.foot.as_slice());
                 }
             }
         }
-        Ok(())
     }
 
     /// Adds the zones that go on along an edge.
-    fn push_along(&self, along: &mut Vec<Handed<'a>>, edge: Edge<'a>) -> Result<(), AllocError> {
+    fn push_along(&self, along: &mut Vec<Handed<'a>>, edge: Edge<'a>)  {
         if let Some(from) = block_at(self.function, edge.from) {
-            push_pending(along, edge.way, from.notes.pending.as_slice())?;
+            push_pending(along, edge.way, from.notes.pending.as_slice());
         }
         if edge.from < self.handed.len() {
-            push_handed(along, edge.way, self.handed[edge.from].as_slice())?;
+            push_handed(along, edge.way, self.handed[edge.from].as_slice());
         }
         if let Way::Continued(region) = edge.way {
-            self.push_feet(along, edge.from, region)?;
+            self.push_feet(along, edge.from, region);
         }
-        Ok(())
     }
 
     /// Hands zones on to a block; whether one of them was new.
-    fn put_all(&mut self, to: usize, along: &[Handed<'a>]) -> Result<bool, AllocError> {
+    fn put_all(&mut self, to: usize, along: &[Handed<'a>]) -> bool {
         let mut is_new = false;
         for next in along {
-            if self.put(to, *next)? {
+            if self.put(to, *next) {
                 is_new = true;
             }
         }
-        Ok(is_new)
+        is_new
     }
 
     /// Hands on what goes along the edge of this number; whether something was new.
-    fn hand_on(&mut self, number: usize) -> Result<bool, AllocError> {
+    fn hand_on(&mut self, number: usize) -> bool {
         if number >= self.edges.len() {
-            return Ok(false);
+            return false;
         }
         let edge = self.edges[number];
-        let mut along = Vec::new(self.alloc);
-        self.push_along(&mut along, edge)?;
+        let mut along = self.heap.list();
+        self.push_along(&mut along, edge);
         self.put_all(edge.to, along.as_slice())
     }
 
     /// One round along all edges; whether something was new.
-    fn hand_all_on(&mut self) -> Result<bool, AllocError> {
+    fn hand_all_on(&mut self) -> bool {
         let mut is_new = false;
         for number in 0..self.edges.len() {
-            if self.hand_on(number)? {
+            if self.hand_on(number) {
                 is_new = true;
             }
         }
-        Ok(is_new)
+        is_new
     }
 
     /// Round after round until nothing is new.
-    fn hand_down(&mut self) -> Result<(), AllocError> {
+    fn hand_down(&mut self)  {
         for _round in 0..self.handed.len() {
-            if !self.hand_all_on()? {
-                return Ok(());
+            if !self.hand_all_on() {
+                return;
             }
         }
-        Ok(())
     }
 
     /// Begins with nothing at each block.
-    fn begin(&mut self) -> Result<(), AllocError> {
+    fn begin(&mut self)  {
         for _block in self.function.blocks.as_slice() {
-            self.handed.push(Vec::new(self.alloc))?;
+            self.handed.push(self.heap.list());
         }
-        Ok(())
     }
 
     /// Puts in what may be pending at the heads of loops.
-    fn guess(&mut self, hulls: &'a [Hull<'a>]) -> Result<(), AllocError> {
+    fn guess(&mut self, hulls: &'a [Hull<'a>])  {
         for hull in hulls {
             let region = hull.region;
             let zone = &hull.zone;
-            self.put_guess(hull.block, Handed { region, zone })?;
+            self.put_guess(hull.block, Handed { region, zone });
         }
-        Ok(())
     }
 
     /// Puts a zone to a block that does not say itself what is pending.
-    fn put_guess(&mut self, to: usize, next: Handed<'a>) -> Result<(), AllocError> {
+    fn put_guess(&mut self, to: usize, next: Handed<'a>)  {
         let blocks = self.function.blocks.as_slice();
         if to < blocks.len() && to < self.handed.len() && !next.is_said(&blocks[to]) {
-            if next.may_stand(self.place(to))? {
-                self.handed[to].push(next)?;
+            if next.may_stand(self.place(to)) {
+                self.handed[to].push(next);
             }
         }
-        Ok(())
     }
 }
 
-fn is_put<'a>(alloc: Global, handed: &[Handed<'a>], next: Handed<'a>) -> Result<bool, AllocError> {
+fn is_put<'a>(heap: &'a Heap, handed: &[Handed<'a>], next: Handed<'a>) -> bool {
     for other in handed {
-        if other.is_same(alloc, next)? {
-            return Ok(true);
+        if other.is_same(heap, next) {
+            return true;
         }
     }
-    Ok(false)
+    false
 }
 
 fn push_pending<'a>(
     along: &mut Vec<Handed<'a>>,
     way: Way<'a>,
     all: &'a [Pending],
-) -> Result<(), AllocError> {
+) {
     for pending in all {
         let region = pending.region.as_str();
         if goes_on(way, region) {
             let zone = &pending.zone;
-            along.push(Handed { region, zone })?;
+            along.push(Handed { region, zone });
         }
     }
-    Ok(())
 }
 
 fn push_handed<'a>(
     along: &mut Vec<Handed<'a>>,
     way: Way<'a>,
     all: &[Handed<'a>],
-) -> Result<(), AllocError> {
+) {
     for next in all {
         if goes_on(way, next.region) {
-            along.push(*next)?;
+            along.push(*next);
         }
     }
-    Ok(())
 }
 
 fn push_foot<'a>(
     along: &mut Vec<Handed<'a>>,
     region: &'a str,
     foot: &'a [Zone],
-) -> Result<(), AllocError> {
+) {
     for zone in foot {
-        along.push(Handed { region, zone })?;
+        along.push(Handed { region, zone });
     }
-    Ok(())
 }
 
 /// What is handed on along the edges of a function, again and again until nothing is new.
 pub fn waiting_of<'a>(
-    alloc: Global,
+    heap: &'a Heap,
     function: &'a Function,
     hulls: &'a [Hull<'a>],
-) -> Result<Waiting<'a>, AllocError> {
-    let edges = edges_of(alloc, function)?;
-    let above = dominators_of(alloc, edges.as_slice(), function.blocks.len())?;
+) -> Waiting<'a> {
+    let edges = edges_of(heap, function);
+    let above = dominators_of(heap, edges.as_slice(), function.blocks.len());
     let mut waiting = Waiting {
-        alloc,
+        heap,
         function,
         edges,
         above,
-        handed: Vec::new(alloc),
+        handed: heap.list(),
     };
-    waiting.begin()?;
-    waiting.guess(hulls)?;
-    waiting.hand_down()?;
-    Ok(waiting)
+    waiting.begin();
+    waiting.guess(hulls);
+    waiting.hand_down();
+    waiting
 }

@@ -9,7 +9,6 @@ use annotate_sums::Sum;
 use ir_annotation::push_zone;
 use ir_reader::read;
 use refusal::Refused;
-use std::alloc::{AllocError, Global};
 use std::hash::RandomState;
 use syntax::{Block, Ending, Function, Module, Step};
 
@@ -44,7 +43,7 @@ struct Proposal {
 /// What is put in, and what calls of the functions so far cost.
 #[derive(Drop)]
 struct Draft<'a> {
-    alloc: Global,
+    heap: &'a Heap,
     module: &'a Module,
     kind: Kind,
     /// What is left of the effort for `shows` lines.
@@ -68,60 +67,57 @@ fn push_keeps(
     known: &Known<'_>,
     index: usize,
     block: &Block,
-) -> Result<(), AllocError> {
+) {
     let mut lines = block.notes.keeps.len();
     for number in 0..known.facts.sums.len() {
         let fact = &known.facts.sums[number];
         if lines < MOST_LINES && is_kept(known, index, number, fact) {
-            out.push_str("  ;! keeps ")?;
-            fact.spell_inequality(out)?;
-            out.push_str("\n")?;
+            out.push_str("  ;! keeps ");
+            fact.spell_inequality(out);
+            out.push_str("\n");
             lines = lines.saturating_add(1);
         }
     }
-    Ok(())
 }
 
-fn push_handed(out: &mut String, handed: Handed<'_>) -> Result<(), AllocError> {
-    out.push_str("  ;! pending %")?;
-    out.push_str(handed.region)?;
-    out.push_str(" ")?;
-    push_zone(out, handed.zone)?;
+fn push_handed(out: &mut String, handed: Handed<'_>)  {
+    out.push_str("  ;! pending %");
+    out.push_str(handed.region);
+    out.push_str(" ");
+    push_zone(out, handed.zone);
     out.push_str("\n")
 }
 
-fn push_pending(out: &mut String, handed: &[Handed<'_>], block: &Block) -> Result<(), AllocError> {
+fn push_pending(out: &mut String, handed: &[Handed<'_>], block: &Block)  {
     let mut lines = block.notes.pending.len();
     for next in handed {
         if lines < MOST_LINES {
-            push_handed(out, *next)?;
+            push_handed(out, *next);
             lines = lines.saturating_add(1);
         }
     }
-    Ok(())
 }
 
-fn push_left(out: &mut String, block: &Block, need: &Need<'_>) -> Result<(), AllocError> {
+fn push_left(out: &mut String, block: &Block, need: &Need<'_>)  {
     if block.notes.left.line != block.line {
-        return Ok(());
+        return;
     }
-    out.push_str("  ;! left ")?;
-    need.calls.spell(out)?;
-    out.push_str(" ")?;
-    need.instructions.spell(out)?;
+    out.push_str("  ;! left ");
+    need.calls.spell(out);
+    out.push_str(" ");
+    need.instructions.spell(out);
     out.push_str("\n")
 }
 
 /// Adds what a function's head states of its parameters.
 fn push_requirements<'a>(
     facts: &mut Vec<Sum<'a>>,
-    alloc: Global,
+    heap: &'a Heap,
     function: &'a Function,
-) -> Result<(), AllocError> {
+) {
     for inequality in function.notes.requirements.as_slice() {
-        facts.push(Sum::of_inequality(alloc, inequality)?)?;
+        facts.push(Sum::of_inequality(heap, inequality));
     }
-    Ok(())
 }
 
 /// The last of a block's `keeps` lines, or its label.
@@ -143,18 +139,17 @@ fn end_of_pending(block: &Block) -> u32 {
 }
 
 impl<'a> Draft<'a> {
-    fn propose(&mut self, behind: u32, lines: String) -> Result<(), AllocError> {
+    fn propose(&mut self, behind: u32, lines: String)  {
         if !lines.is_empty() {
-            self.proposals.push(Proposal { behind, lines })?;
+            self.proposals.push(Proposal { behind, lines });
         }
-        Ok(())
     }
 
-    fn propose_total(&mut self, behind: u32, total: Total) -> Result<(), AllocError> {
+    fn propose_total(&mut self, behind: u32, total: Total)  {
         let calls = total.self_calls;
         let instructions = total.instructions;
-        let mut line = String::new(self.alloc);
-        write!(line, "  ;! budget {calls} {instructions}\n")?;
+        let mut line = String::new(self.heap);
+        write!(line, "  ;! budget {calls} {instructions}\n");
         self.propose(behind, line)
     }
 
@@ -163,14 +158,14 @@ impl<'a> Draft<'a> {
         &mut self,
         function: &'a Function,
         entry: &Need<'a>,
-    ) -> Result<Option<Total>, AllocError> {
-        let mut facts = Vec::new(self.alloc);
-        push_requirements(&mut facts, self.alloc, function)?;
-        let total = Total::of_need(facts.as_slice(), entry)?;
+    ) -> Option<Total> {
+        let mut facts = self.heap.list();
+        push_requirements(&mut facts, self.heap, function);
+        let total = Total::of_need(facts.as_slice(), entry);
         if let Some(new) = total {
-            self.propose_total(function.line, new)?;
+            self.propose_total(function.line, new);
         }
-        Ok(total)
+        total
     }
 
     /// Proposes the budget, where the function has none, and keeps what calls of it cost.
@@ -178,16 +173,15 @@ impl<'a> Draft<'a> {
         &mut self,
         function: &'a Function,
         entry: &Option<Need<'a>>,
-    ) -> Result<(), AllocError> {
+    ) {
         let total = match (Total::given(function), entry) {
-            (None, Some(entry)) => self.propose_budget(function, entry)?,
+            (None, Some(entry)) => self.propose_budget(function, entry),
             (total, _) => total,
         };
         if let Some(total) = total {
             let cost = total.cost(function.notes.measure.bound);
-            self.costs.push((function.name.as_str(), cost))?;
+            self.costs.push((function.name.as_str(), cost));
         }
-        Ok(())
     }
 
     /// Proposes what follows of facts at the head of a block.
@@ -196,29 +190,27 @@ impl<'a> Draft<'a> {
         known: &Known<'a>,
         index: usize,
         block: &Block,
-    ) -> Result<(), AllocError> {
-        let mut lines = String::new(self.alloc);
-        push_keeps(&mut lines, known, index, block)?;
+    ) {
+        let mut lines = String::new(self.heap);
+        push_keeps(&mut lines, known, index, block);
         self.propose(block.line, lines)
     }
 
     /// The same of all blocks; what an entry knows stands at the function's head already.
-    fn add_facts(&mut self, function: &'a Function) -> Result<(), AllocError> {
-        let known = known_of(self.alloc, function, self.kind == Kind::Guesses)?;
+    fn add_facts(&mut self, function: &'a Function)  {
+        let known = known_of(self.heap, function, self.kind == Kind::Guesses);
         let blocks = function.blocks.as_slice();
         for index in 1..blocks.len() {
-            self.propose_keeps(&known, index, &blocks[index])?;
+            self.propose_keeps(&known, index, &blocks[index]);
         }
-        Ok(())
     }
 
     /// Proposes how facts show what the steps of a block ask.
-    fn propose_steps(&mut self, walk: &mut Walk<'a>, steps: &'a [Step]) -> Result<(), AllocError> {
+    fn propose_steps(&mut self, walk: &mut Walk<'a>, steps: &'a [Step])  {
         for step in steps {
-            let lines = walk.pass(step)?;
-            self.propose(step.line.saturating_sub(1), lines)?;
+            let lines = walk.pass(step);
+            self.propose(step.line.saturating_sub(1), lines);
         }
-        Ok(())
     }
 
     /// The same of its end.
@@ -227,13 +219,13 @@ impl<'a> Draft<'a> {
         walk: &mut Walk<'a>,
         known: &Known<'a>,
         ending: &'a Ending,
-    ) -> Result<(), AllocError> {
+    ) {
         let ways = Ways {
             edges: known.edges.as_slice(),
             facts: known.facts.sums.as_slice(),
             added: known.added.as_slice(),
         };
-        let lines = walk.end(ways, ending)?;
+        let lines = walk.end(ways, ending);
         self.propose(ending.line.saturating_sub(1), lines)
     }
 
@@ -244,67 +236,64 @@ impl<'a> Draft<'a> {
         index: usize,
         block: &'a Block,
         first: usize,
-    ) -> Result<(), AllocError> {
+    ) {
         let scope = Scope {
-            alloc: self.alloc,
+            heap: self.heap,
             module: self.module,
             function: known.function,
         };
-        let mut walk = Walk::new(scope, index, block, first, self.effort)?;
-        self.propose_steps(&mut walk, block.steps.as_slice())?;
+        let mut walk = Walk::new(scope, index, block, first, self.effort);
+        self.propose_steps(&mut walk, block.steps.as_slice());
         if let Some(ending) = &block.ending {
-            self.propose_end(&mut walk, known, ending)?;
+            self.propose_end(&mut walk, known, ending);
         }
         self.effort = walk.effort;
-        Ok(())
     }
 
     /// The same of all blocks.
-    fn add_steps(&mut self, function: &'a Function) -> Result<(), AllocError> {
-        let known = known_of(self.alloc, function, false)?;
+    fn add_steps(&mut self, function: &'a Function)  {
+        let known = known_of(self.heap, function, false);
         let blocks = function.blocks.as_slice();
-        let firsts = firsts_of(self.alloc, known.edges.as_slice(), blocks.len())?;
+        let firsts = firsts_of(self.heap, known.edges.as_slice(), blocks.len());
         for (index, block) in blocks.iter().enumerate() {
             let first = firsts.get(index).copied().flatten().unwrap_or(0);
-            self.add_steps_of(&known, index, block, first)?;
+            self.add_steps_of(&known, index, block, first);
         }
-        Ok(())
     }
 
     /// Proposes what is handed on to the head of a block.
-    fn propose_pending(&mut self, block: &Block, handed: &[Handed<'_>]) -> Result<(), AllocError> {
-        let mut lines = String::new(self.alloc);
-        push_pending(&mut lines, handed, block)?;
+    fn propose_pending(&mut self, block: &Block, handed: &[Handed<'_>])  {
+        let mut lines = String::new(self.heap);
+        push_pending(&mut lines, handed, block);
         self.propose(end_of_keeps(block), lines)
     }
 
     /// The same of all blocks.
-    fn add_zones(&mut self, function: &'a Function) -> Result<(), AllocError> {
-        let hulls = hulls_of(self.alloc, function)?;
-        let waiting = waiting_of(self.alloc, function, hulls.as_slice())?;
+    fn add_zones(&mut self, function: &'a Function)  {
+        let hulls = hulls_of(self.heap, function);
+        let waiting = waiting_of(self.heap, function, hulls.as_slice());
         let blocks = function.blocks.as_slice();
         for (block, handed) in blocks.iter().zip(&waiting.handed) {
-            self.propose_pending(block, handed.as_slice())?;
+            self.propose_pending(block, handed.as_slice());
         }
-        Ok(())
     }
 
     /// Proposes that the budget is left at the head of the entry.
-    fn propose_whole(&mut self, entry: &Block, total: Total) -> Result<(), AllocError> {
-        let mut lines = String::new(self.alloc);
+    fn propose_whole(&mut self, entry: &Block, total: Total)  {
+        let mut lines = String::new(self.heap);
         if entry.notes.left.line == entry.line {
             let calls = total.self_calls;
             let instructions = total.instructions;
-            write!(lines, "  ;! left {calls} {instructions}\n")?;
+            write!(lines, "  ;! left {calls} {instructions}\n");
         }
         self.propose(end_of_pending(entry), lines)
     }
 
     /// Proposes what is left at the head of a block, if it is known.
-    fn propose_left(&mut self, block: &Block, need: &Option<Need<'a>>) -> Result<(), AllocError> {
-        let mut lines = String::new(self.alloc);
+    fn propose_left(&mut self, block: &Block, need: &Option<Need<'a>>)  {
+        let mut lines = String::new(self.heap);
         if let Some(need) = need {
-            push_left(&mut lines, block, need)?;
+            push_left(&mut lines, block, need);
         }
         self.propose(end_of_pending(block), lines)
     }
@@ -314,86 +303,83 @@ impl<'a> Draft<'a> {
         &mut self,
         function: &Function,
         needs: &[Option<Need<'a>>],
-    ) -> Result<(), AllocError> {
+    ) {
         for (index, block) in function.blocks.as_slice().iter().enumerate() {
             match (Total::given(function), needs.get(index)) {
-                (Some(total), _) if index == 0 => self.propose_whole(block, total)?,
-                (_, Some(need)) => self.propose_left(block, need)?,
+                (Some(total), _) if index == 0 => self.propose_whole(block, total),
+                (_, Some(need)) => self.propose_left(block, need),
                 _ => {}
             }
         }
-        Ok(())
     }
 
     /// What the blocks of a function need, by what calls of those before it cost.
-    fn needs(&self, function: &'a Function) -> Result<Vec<Option<Need<'a>>>, AllocError> {
-        let known = known_of(self.alloc, function, false)?;
+    fn needs(&self, function: &'a Function) -> Vec<Option<Need<'a>>> {
+        let known = known_of(self.heap, function, false);
         needs_of(&known, self.costs.as_slice())
     }
 
     /// Proposes what is left at the heads of the blocks, and the budget.
-    fn add_costs(&mut self, function: &'a Function) -> Result<(), AllocError> {
-        let needs = self.needs(function)?;
+    fn add_costs(&mut self, function: &'a Function)  {
+        let needs = self.needs(function);
         if let [entry, ..] = needs.as_slice() {
-            self.add_budget(function, entry)?;
+            self.add_budget(function, entry);
         }
         self.propose_lefts(function, needs.as_slice())
     }
 
-    fn add_functions(&mut self, functions: &'a [Function]) -> Result<(), AllocError> {
+    fn add_functions(&mut self, functions: &'a [Function])  {
         for function in functions {
             match self.kind {
-                Kind::Facts | Kind::Guesses => self.add_facts(function)?,
-                Kind::Steps => self.add_steps(function)?,
-                Kind::Zones => self.add_zones(function)?,
-                Kind::Costs => self.add_costs(function)?,
+                Kind::Facts | Kind::Guesses => self.add_facts(function),
+                Kind::Steps => self.add_steps(function),
+                Kind::Zones => self.add_zones(function),
+                Kind::Costs => self.add_costs(function),
             }
         }
-        Ok(())
     }
 
     /// Adds the lines of the proposal of this index if they belong behind this line of the text; the index of the one that comes next.
-    fn put_behind(&self, out: &mut String, number: u32, index: usize) -> Result<usize, AllocError> {
+    fn put_behind(&self, out: &mut String, number: u32, index: usize) -> usize {
         if index < self.proposals.len() && self.proposals[index].behind == number {
-            out.push_str(self.proposals[index].lines.as_str())?;
-            return Ok(index.saturating_add(1));
+            out.push_str(self.proposals[index].lines.as_str());
+            return index.saturating_add(1);
         }
-        Ok(index)
+        index
     }
 
     /// Adds the text with the lines put in.
-    fn put_in(&self, out: &mut String, text: &str) -> Result<(), AllocError> {
+    fn put_in(&self, out: &mut String, text: &str)  {
         let mut number = 0u32;
         let mut index = 0usize;
         for line in text.lines() {
             number = number.saturating_add(1);
-            out.push_str(line)?;
-            out.push_str("\n")?;
-            index = self.put_behind(out, number, index)?;
+            out.push_str(line);
+            out.push_str("\n");
+            index = self.put_behind(out, number, index);
         }
-        Ok(())
     }
 }
 
 /// The module's text with the lines put in.
 fn with_lines(
-    alloc: Global,
+    heap: &'a Heap,
     module: &Module,
     text: &str,
     kind: Kind,
-) -> Result<String, AllocError> {
+) -> String {
     let mut draft = Draft {
-        alloc,
+        heap,
         module,
         kind,
         effort: MOST_EFFORT,
-        proposals: Vec::new(alloc),
-        costs: Vec::new(alloc),
+        proposals: heap.list(),
+        costs: heap.list(),
     };
-    draft.add_functions(module.functions.as_slice())?;
-    let mut out = String::new(alloc);
-    draft.put_in(&mut out, text)?;
-    Ok(out)
+    draft.add_functions(module.functions.as_slice());
+    let mut out = String::new(heap);
+    draft.put_in(&mut out, text);
+    out
 }
 
 /// A module's text with lines of a kind put in that follow from others; none is changed or taken away, and a last line without an end gets one. The
@@ -403,12 +389,12 @@ fn with_lines(
 ///
 /// The first fault of the text, from 101 to 107, at its line; or memory was refused.
 pub fn proposed(
-    alloc: Global,
+    heap: &'a Heap,
     state: RandomState,
     text: &[u8],
     kind: Kind,
 ) -> Result<String, Refused> {
-    let module = read(alloc, state, text)?;
+    let module = read(heap, state, text);
     let text = str::from_utf8(text).unwrap_or("");
-    Ok(with_lines(alloc, &module, text, kind)?)
+    with_lines(heap, &module, text, kind)
 }

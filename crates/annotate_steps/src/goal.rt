@@ -2,7 +2,6 @@
 
 use annotate_sums::{Sum, block_at, definition_of, moved};
 use lists::Name;
-use std::alloc::{AllocError, Global};
 use syntax::{
     Address, Argument, BinaryOperator, Block, Form, Function, Inequality, Instruction, Module,
     Operand, Parameter, Step, Width,
@@ -11,7 +10,7 @@ use syntax::{
 /// A function of a module.
 #[derive(Clone, Copy)]
 pub struct Scope<'a> {
-    pub alloc: Global,
+    pub heap: &'a Heap,
     pub module: &'a Module,
     pub function: &'a Function,
 }
@@ -43,43 +42,42 @@ impl<'a> Call<'a> {
         None
     }
 
-    fn put_term(self, placed: &mut Sum<'a>, name: &str, times: i128) -> Result<(), AllocError> {
+    fn put_term(self, placed: &mut Sum<'a>, name: &str, times: i128)  {
         match (self.argument(name), self.result) {
             (Some(Argument::Number(value)), _) => placed.add_operand(value, times),
             (None, Some(result)) => placed.add_term(result.as_str(), times),
-            _ => Ok(()),
+            _ => {},
         }
     }
 
     /// A sum over the callee's parameters and result, with the call's in their place.
-    pub fn put_in(self, alloc: Global, sum: &Sum<'a>) -> Result<Sum<'a>, AllocError> {
-        let mut placed = Sum::number(alloc, sum.constant);
+    pub fn put_in(self, heap: &'a Heap, sum: &Sum<'a>) -> Sum<'a> {
+        let mut placed = Sum::number(heap, sum.constant);
         for (name, coefficient) in &sum.terms {
             if *coefficient != 0 {
-                self.put_term(&mut placed, name, *coefficient)?;
+                self.put_term(&mut placed, name, *coefficient);
             }
         }
-        Ok(placed)
+        placed
     }
 
     /// The same of a form.
-    pub fn put_in_form(self, alloc: Global, form: &'a Form) -> Result<Sum<'a>, AllocError> {
-        let sum = Sum::of_form(alloc, form)?;
-        self.put_in(alloc, &sum)
+    pub fn put_in_form(self, heap: &'a Heap, form: &'a Form) -> Sum<'a> {
+        let sum = Sum::of_form(heap, form);
+        self.put_in(heap, &sum)
     }
 
     /// What inequalities of the callee say of the call.
     pub fn push_said(
         self,
-        alloc: Global,
+        heap: &'a Heap,
         inequalities: &'a [Inequality],
         out: &mut Vec<Sum<'a>>,
-    ) -> Result<(), AllocError> {
+    ) {
         for inequality in inequalities {
-            let sum = Sum::of_inequality(alloc, inequality)?;
-            out.push(self.put_in(alloc, &sum)?)?;
+            let sum = Sum::of_inequality(heap, inequality);
+            out.push(self.put_in(heap, &sum));
         }
-        Ok(())
     }
 }
 
@@ -109,10 +107,9 @@ fn push_between<'a>(
     low: i128,
     high: i128,
     out: &mut Vec<Sum<'a>>,
-) -> Result<(), AllocError> {
-    out.push(value.raised(0i128.saturating_sub(low))?)?;
-    out.push(value.below(high)?)?;
-    Ok(())
+) {
+    out.push(value.raised(0i128.saturating_sub(low)));
+    out.push(value.below(high));
 }
 
 impl<'a> Scope<'a> {
@@ -185,8 +182,8 @@ impl<'a> Scope<'a> {
         low: i128,
         high: i128,
         out: &mut Vec<Sum<'a>>,
-    ) -> Result<(), AllocError> {
-        let value = Sum::of_operand(self.alloc, operand, 1)?;
+    ) {
+        let value = Sum::of_operand(self.heap, operand, 1);
         push_between(&value, low, high, out)
     }
 
@@ -195,7 +192,7 @@ impl<'a> Scope<'a> {
         self,
         instruction: &'a Instruction,
         out: &mut Vec<Sum<'a>>,
-    ) -> Result<(), AllocError> {
+    ) {
         let Instruction::Binary {
             operator,
             width,
@@ -204,18 +201,18 @@ impl<'a> Scope<'a> {
             ..
         } = instruction
         else {
-            return Ok(());
+            return;
         };
         let (low, high) = ends_of(*width);
         match operator {
             BinaryOperator::AddNoWrap
             | BinaryOperator::SubtractNoWrap
-            | BinaryOperator::MultiplyNoWrap => match definition_of(self.alloc, instruction)? {
+            | BinaryOperator::MultiplyNoWrap => match definition_of(self.heap, instruction) {
                 Some(sum) => push_between(&sum, low, high, out),
-                None => Ok(()),
+                None => {},
             },
             BinaryOperator::SignedDivide | BinaryOperator::SignedRemainder => {
-                self.push_operand(left, 0, high, out)?;
+                self.push_operand(left, 0, high, out);
                 self.push_operand(right, 1, high, out)
             }
             BinaryOperator::UnsignedDivide | BinaryOperator::UnsignedRemainder => {
@@ -227,23 +224,22 @@ impl<'a> Scope<'a> {
                 let most = if *width == Width::Bits64 { 63 } else { 31 };
                 self.push_operand(right, 0, most, out)
             }
-            _ => Ok(()),
+            _ => {},
         }
     }
 
     /// Asks that the measure falls at a self call, and is not below 0.
-    fn push_measure(self, call: Call<'a>, out: &mut Vec<Sum<'a>>) -> Result<(), AllocError> {
+    fn push_measure(self, call: Call<'a>, out: &mut Vec<Sum<'a>>)  {
         if !call.callee.name.is_same(&self.function.name) {
-            return Ok(());
+            return;
         }
         let measure = &self.function.notes.measure.form;
-        let next = call.put_in_form(self.alloc, measure)?;
-        let mut fallen = Sum::of_form(self.alloc, measure)?;
-        fallen.add(&next, -1)?;
+        let next = call.put_in_form(self.heap, measure);
+        let mut fallen = Sum::of_form(self.heap, measure);
+        fallen.add(&next, -1);
         fallen.add_number(-1);
-        out.push(fallen)?;
-        out.push(next)?;
-        Ok(())
+        out.push(fallen);
+        out.push(next);
     }
 
     /// Asks what an instruction asks of its operands.
@@ -251,13 +247,13 @@ impl<'a> Scope<'a> {
         self,
         instruction: &'a Instruction,
         out: &mut Vec<Sum<'a>>,
-    ) -> Result<(), AllocError> {
+    ) {
         match instruction {
             Instruction::ElementPointer { base, index, .. } => match self.cells_of(base) {
                 Some(cells) => {
                     self.push_operand(index, 0, i128::from(cells).saturating_sub(1), out)
                 }
-                None => Ok(()),
+                None => {},
             },
             Instruction::Convert { value, .. } => {
                 let (low, high) = ends_of(Width::Bits32);
@@ -268,36 +264,36 @@ impl<'a> Scope<'a> {
     }
 
     /// What an instruction asks to be at least 0.
-    pub fn goals(self, instruction: &'a Instruction) -> Result<Vec<Sum<'a>>, AllocError> {
-        let mut out = Vec::new(self.alloc);
-        self.push_own(instruction, &mut out)?;
+    pub fn goals(self, instruction: &'a Instruction) -> Vec<Sum<'a>> {
+        let mut out = self.heap.list();
+        self.push_own(instruction, &mut out);
         if let Some(call) = self.call_of(instruction) {
             let asked = call.callee.notes.requirements.as_slice();
-            call.push_said(self.alloc, asked, &mut out)?;
-            self.push_measure(call, &mut out)?;
+            call.push_said(self.heap, asked, &mut out);
+            self.push_measure(call, &mut out);
         }
-        Ok(out)
+        out
     }
 
     /// What a block's head asks along an edge from another block.
-    pub fn goals_along(self, from: &Block, to: &'a Block) -> Result<Vec<Sum<'a>>, AllocError> {
-        let mut out = Vec::new(self.alloc);
+    pub fn goals_along(self, from: &Block, to: &'a Block) -> Vec<Sum<'a>> {
+        let mut out = self.heap.list();
         for inequality in to.notes.keeps.as_slice() {
-            let sum = Sum::of_inequality(self.alloc, inequality)?;
-            out.push(moved(self.alloc, &sum, &from.label, to.phis.as_slice())?)?;
+            let sum = Sum::of_inequality(self.heap, inequality);
+            out.push(moved(self.heap, &sum, &from.label, to.phis.as_slice()));
         }
-        Ok(out)
+        out
     }
 
     /// What a return of this value asks.
-    pub fn goals_at_return(self, value: &'a Operand) -> Result<Vec<Sum<'a>>, AllocError> {
-        let result = Sum::of_operand(self.alloc, value, 1)?;
-        let mut out = Vec::new(self.alloc);
+    pub fn goals_at_return(self, value: &'a Operand) -> Vec<Sum<'a>> {
+        let result = Sum::of_operand(self.heap, value, 1);
+        let mut out = self.heap.list();
         for inequality in self.function.notes.guarantees.as_slice() {
-            let mut sum = Sum::of_inequality(self.alloc, inequality)?;
-            sum.put(".ret", &result)?;
-            out.push(sum)?;
+            let mut sum = Sum::of_inequality(self.heap, inequality);
+            sum.put(".ret", &result);
+            out.push(sum);
         }
-        Ok(out)
+        out
     }
 }

@@ -5,7 +5,6 @@ use crate::goal::{Call, Scope, ends_of};
 use annotate_sums::{
     Edge, Equation, Sum, Way, block_at, definition_of, is_exact, lines_between, register_of,
 };
-use std::alloc::AllocError;
 use syntax::{
     BinaryOperator, Block, Conversion, Ending, Inequality, Instruction, Operand, Step, Terminator,
     Width, Zone,
@@ -78,105 +77,101 @@ impl<'a> Walk<'a> {
         block: &'a Block,
         first: usize,
         effort: usize,
-    ) -> Result<Walk<'a>, AllocError> {
+    ) -> Walk<'a> {
         let mut walk = Walk {
             scope,
             place,
             block,
             is_function: first == 0,
-            facts: Vec::new(scope.alloc),
+            facts: scope.heap.list(),
             effort,
-            covering: scope.covering(first)?,
-            told: Vec::new(scope.alloc),
+            covering: scope.covering(first),
+            told: scope.heap.list(),
             stated: 0,
         };
         walk.learn_all(if place == 0 {
             scope.function.notes.requirements.as_slice()
         } else {
             block.notes.keeps.as_slice()
-        })?;
-        Ok(walk)
+        });
+        walk
     }
 
-    fn learn(&mut self, fact: Sum<'a>) -> Result<(), AllocError> {
+    fn learn(&mut self, fact: Sum<'a>)  {
         if self.facts.len() < MOST_FACTS {
-            self.facts.push(fact)?;
+            self.facts.push(fact);
         }
-        Ok(())
     }
 
     /// States what the text says.
-    fn learn_all(&mut self, inequalities: &'a [Inequality]) -> Result<(), AllocError> {
+    fn learn_all(&mut self, inequalities: &'a [Inequality])  {
         for inequality in inequalities {
-            let sum = Sum::of_inequality(self.scope.alloc, inequality)?;
-            self.learn(sum)?;
+            let sum = Sum::of_inequality(self.scope.heap, inequality);
+            self.learn(sum);
         }
-        Ok(())
     }
 
     /// States that a sum lies from one number to another.
-    fn learn_between(&mut self, value: &Sum<'a>, low: i128, high: i128) -> Result<(), AllocError> {
-        self.learn(value.raised(0i128.saturating_sub(low))?)?;
-        self.learn(value.below(high)?)
+    fn learn_between(&mut self, value: &Sum<'a>, low: i128, high: i128)  {
+        self.learn(value.raised(0i128.saturating_sub(low)));
+        self.learn(value.below(high))
     }
 
     /// States that a register does.
-    fn learn_bounds(&mut self, name: &'a str, low: i128, high: i128) -> Result<(), AllocError> {
-        let own = Sum::of_register(self.scope.alloc, name, 1)?;
+    fn learn_bounds(&mut self, name: &'a str, low: i128, high: i128)  {
+        let own = Sum::of_register(self.scope.heap, name, 1);
         self.learn_between(&own, low, high)
     }
 
     /// States that a register is this sum.
-    fn learn_equal(&mut self, name: &'a str, value: &Sum<'a>) -> Result<(), AllocError> {
-        let equation = Equation::of(self.scope.alloc, name, value)?;
-        self.learn(equation.most)?;
+    fn learn_equal(&mut self, name: &'a str, value: &Sum<'a>)  {
+        let equation = Equation::of(self.scope.heap, name, value);
+        self.learn(equation.most);
         self.learn(equation.least)
     }
 
     /// Says in lines that sums are at least 0, and states them, if there is room for the lines.
-    fn tell_all(&mut self, lines: Vec<Sum<'a>>) -> Result<(), AllocError> {
+    fn tell_all(&mut self, lines: Vec<Sum<'a>>)  {
         let count = self.stated.saturating_add(self.told.len());
         if count.saturating_add(lines.len()) > MOST_LINES {
-            return Ok(());
+            return;
         }
         for line in lines {
-            self.learn(line.copy()?)?;
-            self.told.push(line)?;
+            self.learn(line.copy());
+            self.told.push(line);
         }
-        Ok(())
     }
 
     /// Tells how the facts show a sum; whether they do.
-    fn reach(&mut self, sum: &Sum<'a>, is_stated: bool) -> Result<bool, AllocError> {
+    fn reach(&mut self, sum: &Sum<'a>, is_stated: bool) -> bool {
         if let Some(number) = sum.as_number() {
-            return Ok(number >= 0);
+            return number >= 0;
         }
         let facts = self.facts.as_slice();
-        match lines_between(self.scope.alloc, facts, sum, is_stated, &mut self.effort)? {
+        match lines_between(self.scope.heap, facts, sum, is_stated, &mut self.effort) {
             Some(lines) => {
-                self.tell_all(lines)?;
-                Ok(true)
+                self.tell_all(lines);
+                true
             }
-            None => Ok(false),
+            None => false,
         }
     }
 
-    fn reach_all(&mut self, goals: Vec<Sum<'a>>) -> Result<(), AllocError> {
+    fn reach_all(&mut self, goals: Vec<Sum<'a>>)  {
         for goal in goals {
-            self.reach(&goal, false)?;
+            self.reach(&goal, false);
         }
-        Ok(())
     }
 
     /// Whether it is known that an operand is at least a number.
-    fn is_at_least(&mut self, operand: &'a Operand, number: i128) -> Result<bool, AllocError> {
-        let mut sum = Sum::of_operand(self.scope.alloc, operand, 1)?;
+    fn is_at_least(&mut self, operand: &'a Operand, number: i128) -> bool {
+        let mut sum = Sum::of_operand(self.scope.heap, operand, 1);
         sum.add_number(0i128.saturating_sub(number));
         self.reach(&sum, false)
     }
 
-    fn is_at_most(&mut self, operand: &'a Operand, number: i128) -> Result<bool, AllocError> {
-        let mut sum = Sum::of_operand(self.scope.alloc, operand, -1)?;
+    fn is_at_most(&mut self, operand: &'a Operand, number: i128) -> bool {
+        let mut sum = Sum::of_operand(self.scope.heap, operand, -1);
         sum.add_number(number);
         self.reach(&sum, false)
     }
@@ -188,14 +183,14 @@ impl<'a> Walk<'a> {
         operator: BinaryOperator,
         whole: &'a Operand,
         divisor: i128,
-    ) -> Result<(), AllocError> {
+    ) {
         if operator == BinaryOperator::SignedRemainder {
             return self.learn_bounds(name, 0, divisor.saturating_sub(1));
         }
-        let mut rest = Sum::of_operand(self.scope.alloc, whole, 1)?;
-        rest.add_term(name, 0i128.saturating_sub(divisor))?;
-        self.learn_between(&rest, 0, divisor.saturating_sub(1))?;
-        self.learn(Sum::of_register(self.scope.alloc, name, 1)?)
+        let mut rest = Sum::of_operand(self.scope.heap, whole, 1);
+        rest.add_term(name, 0i128.saturating_sub(divisor));
+        self.learn_between(&rest, 0, divisor.saturating_sub(1));
+        self.learn(Sum::of_register(self.scope.heap, name, 1))
     }
 
     /// States what an operation with a number on its right makes known.
@@ -205,17 +200,16 @@ impl<'a> Walk<'a> {
         operator: BinaryOperator,
         left: &'a Operand,
         right: i128,
-    ) -> Result<(), AllocError> {
+    ) {
         match operator {
             BinaryOperator::And if right >= 0 => self.learn_bounds(name, 0, right),
             BinaryOperator::SignedDivide | BinaryOperator::SignedRemainder
                 if right >= 1 && right <= 1_000_000 => {
-                if self.is_at_least(left, 0)? {
-                    self.learn_part(name, operator, left, right)?;
+                if self.is_at_least(left, 0) {
+                    self.learn_part(name, operator, left, right);
                 }
-                Ok(())
             }
-            _ => Ok(()),
+            _ => {},
         }
     }
 
@@ -224,13 +218,13 @@ impl<'a> Walk<'a> {
         &mut self,
         conversion: Conversion,
         operand: &'a Operand,
-    ) -> Result<bool, AllocError> {
+    ) -> bool {
         match conversion {
-            Conversion::SignExtend => Ok(true),
+            Conversion::SignExtend => true,
             Conversion::ZeroExtend => self.is_at_least(operand, 0),
             Conversion::Truncate => {
                 let (low, high) = ends_of(Width::Bits32);
-                Ok(self.is_at_least(operand, low)? && self.is_at_most(operand, high)?)
+                self.is_at_least(operand, low) && self.is_at_most(operand, high)
             }
         }
     }
@@ -240,10 +234,10 @@ impl<'a> Walk<'a> {
         name: &'a str,
         conversion: Conversion,
         operand: &'a Operand,
-    ) -> Result<(), AllocError> {
-        if self.is_same(conversion, operand)? {
-            let value = Sum::of_operand(self.scope.alloc, operand, 1)?;
-            self.learn_equal(name, &value)?;
+    ) {
+        if self.is_same(conversion, operand) {
+            let value = Sum::of_operand(self.scope.heap, operand, 1);
+            self.learn_equal(name, &value);
         }
         let (low, high) = match conversion {
             Conversion::ZeroExtend => (0, 4_294_967_295),
@@ -257,12 +251,12 @@ impl<'a> Walk<'a> {
         &mut self,
         name: &'a str,
         instruction: &'a Instruction,
-    ) -> Result<(), AllocError> {
+    ) {
         match instruction {
             Instruction::Binary { .. } if is_exact(instruction) => {
-                match definition_of(self.scope.alloc, instruction)? {
+                match definition_of(self.scope.heap, instruction) {
                     Some(value) => self.learn_equal(name, &value),
-                    None => Ok(()),
+                    None => {},
                 }
             }
             Instruction::Binary {
@@ -276,117 +270,114 @@ impl<'a> Walk<'a> {
                 value,
                 ..
             } => self.learn_conversion(name, *conversion, value),
-            _ => Ok(()),
+            _ => {},
         }
     }
 
     /// States what the callee says of a call.
-    fn learn_call(&mut self, call: Call<'a>) -> Result<(), AllocError> {
-        let mut said = Vec::new(self.scope.alloc);
+    fn learn_call(&mut self, call: Call<'a>)  {
+        let mut said = self.scope.heap.list();
         let guarantees = call.callee.notes.guarantees.as_slice();
-        call.push_said(self.scope.alloc, guarantees, &mut said)?;
+        call.push_said(self.scope.heap, guarantees, &mut said);
         for fact in said {
-            self.learn(fact)?;
+            self.learn(fact);
         }
-        Ok(())
     }
 
     /// States what an instruction makes known.
-    fn learn_step(&mut self, instruction: &'a Instruction) -> Result<(), AllocError> {
+    fn learn_step(&mut self, instruction: &'a Instruction)  {
         if let Some(call) = self.scope.call_of(instruction) {
-            self.learn_call(call)?;
+            self.learn_call(call);
         }
         match register_of(instruction) {
             Some(name) => self.learn_register(name, instruction),
-            None => Ok(()),
+            None => {},
         }
     }
 
     /// Begins with the lines of the text before an instruction.
-    fn begin(&mut self, shows: &'a [Inequality]) -> Result<(), AllocError> {
+    fn begin(&mut self, shows: &'a [Inequality])  {
         self.told.clear();
         self.stated = shows.len();
         self.learn_all(shows)
     }
 
     /// The lines before an instruction.
-    fn spell_told(&self) -> Result<String, AllocError> {
-        let mut lines = String::new(self.scope.alloc);
+    fn spell_told(&self) -> String {
+        let mut lines = String::new(self.scope.heap);
         for fact in &self.told {
-            lines.push_str("  ;! shows ")?;
-            fact.spell_inequality(&mut lines)?;
-            lines.push_str("\n")?;
+            lines.push_str("  ;! shows ");
+            fact.spell_inequality(&mut lines);
+            lines.push_str("\n");
         }
-        Ok(lines)
+        lines
     }
 
     /// Tells how the facts show that cells lie in a zone. Whether they do.
-    fn reach_ends(&mut self, cells: &Cells<'a>, zone: &'a Zone) -> Result<bool, AllocError> {
-        let mut low = cells.low.copy()?;
-        low.add_form(&zone.low, -1)?;
-        let mut high = Sum::of_form(self.scope.alloc, &zone.high)?;
-        high.add(&cells.high, -1)?;
-        Ok(self.reach(&low, false)? && self.reach(&high, false)?)
+    fn reach_ends(&mut self, cells: &Cells<'a>, zone: &'a Zone) -> bool {
+        let mut low = cells.low.copy();
+        low.add_form(&zone.low, -1);
+        let mut high = Sum::of_form(self.scope.heap, &zone.high);
+        high.add(&cells.high, -1);
+        self.reach(&low, false) && self.reach(&high, false)
     }
 
     /// The same; nothing is told where they do not.
-    fn reach_zone(&mut self, cells: &Cells<'a>, zone: &'a Zone) -> Result<bool, AllocError> {
+    fn reach_zone(&mut self, cells: &Cells<'a>, zone: &'a Zone) -> bool {
         let facts = self.facts.len();
         let told = self.told.len();
-        let is_covered = self.reach_ends(cells, zone)?;
+        let is_covered = self.reach_ends(cells, zone);
         if !is_covered {
             self.facts.truncate(facts);
             self.told.truncate(told);
         }
-        Ok(is_covered)
+        is_covered
     }
 
     /// Tells how the facts show that one of the covering zones has these cells.
-    fn reach_cover(&mut self, cells: &Cells<'a>) -> Result<(), AllocError> {
+    fn reach_cover(&mut self, cells: &Cells<'a>)  {
         for place in 0..self.covering.len() {
             if place < self.covering.len() {
                 let zone = self.covering[place];
-                if cells.may_lie_in(zone) && self.reach_zone(cells, zone)? {
-                    return Ok(());
+                if cells.may_lie_in(zone) && self.reach_zone(cells, zone) {
+                    return;
                 }
             }
         }
-        Ok(())
     }
 
     /// The same of all cells that are touched, but for the function's own where it touches them itself.
-    fn reach_covers(&mut self, touched: Vec<Cells<'a>>) -> Result<(), AllocError> {
+    fn reach_covers(&mut self, touched: Vec<Cells<'a>>)  {
         for cells in touched {
             if !self.is_function || !cells.is_own(self.scope.function) {
-                self.reach_cover(&cells)?;
+                self.reach_cover(&cells);
             }
         }
-        Ok(())
     }
 
     /// Tells how the facts show that the zones of new children are covered.
-    fn reach_foot(&mut self, child: &'a Block) -> Result<(), AllocError> {
-        let mut touched = Vec::new(self.scope.alloc);
+    fn reach_foot(&mut self, child: &'a Block)  {
+        let mut touched = self.scope.heap.list();
         for zone in child.notes.foot.as_slice() {
-            touched.push(Cells::of_zone(self.scope.alloc, zone)?)?;
+            touched.push(Cells::of_zone(self.scope.heap, zone));
         }
         self.reach_covers(touched)
     }
 
     /// Goes over a step; the lines that may stand before it.
-    pub fn pass(&mut self, step: &'a Step) -> Result<String, AllocError> {
-        self.begin(step.shows.as_slice())?;
+    pub fn pass(&mut self, step: &'a Step) -> String {
+        self.begin(step.shows.as_slice());
         if self.effort == 0 {
             return self.spell_told();
         }
-        let goals = self.scope.goals(&step.instruction)?;
-        self.reach_all(goals)?;
+        let goals = self.scope.goals(&step.instruction);
+        self.reach_all(goals);
         self.effort = self.effort.saturating_sub(self.block.steps.len());
         let touched = self
             .scope
-            .touched(self.block.steps.as_slice(), &step.instruction)?;
-        self.reach_covers(touched)?;
-        self.learn_step(&step.instruction)?;
+            .touched(self.block.steps.as_slice(), &step.instruction);
+        self.reach_covers(touched);
+        self.learn_step(&step.instruction);
         self.spell_told()
     }
 
@@ -396,19 +387,18 @@ impl<'a> Walk<'a> {
         ways: Ways<'_, 'a>,
         edge: usize,
         goal: &Sum<'a>,
-    ) -> Result<(), AllocError> {
-        if self.reach(goal, false)? {
-            return Ok(());
+    ) {
+        if self.reach(goal, false) {
+            return;
         }
         for number in ways.facts_on(edge) {
             if let Some(fact) = ways.facts.get(*number) {
-                let rest = goal.with(fact, -1)?;
-                if self.reach(&rest, true)? {
-                    return Ok(());
+                let rest = goal.with(fact, -1);
+                if self.reach(&rest, true) {
+                    return;
                 }
             }
         }
-        Ok(())
     }
 
     fn reach_edge(
@@ -416,35 +406,33 @@ impl<'a> Walk<'a> {
         ways: Ways<'_, 'a>,
         edge: usize,
         to: &'a Block,
-    ) -> Result<(), AllocError> {
-        for goal in self.scope.goals_along(self.block, to)? {
-            self.reach_along(ways, edge, &goal)?;
+    ) {
+        for goal in self.scope.goals_along(self.block, to) {
+            self.reach_along(ways, edge, &goal);
         }
-        Ok(())
     }
 
-    fn reach_edges(&mut self, ways: Ways<'_, 'a>) -> Result<(), AllocError> {
+    fn reach_edges(&mut self, ways: Ways<'_, 'a>)  {
         for (number, edge) in ways.edges.iter().enumerate() {
             if edge.from == self.place {
                 if let Some(to) = block_at(self.scope.function, edge.to) {
-                    self.reach_edge(ways, number, to)?;
+                    self.reach_edge(ways, number, to);
                     if matches!(edge.way, Way::Detached) {
-                        self.reach_foot(to)?;
+                        self.reach_foot(to);
                     }
                 }
             }
         }
-        Ok(())
     }
 
     /// Goes over the end of the block; the lines that may stand before it.
-    pub fn end(&mut self, ways: Ways<'_, 'a>, ending: &'a Ending) -> Result<String, AllocError> {
-        self.begin(ending.shows.as_slice())?;
+    pub fn end(&mut self, ways: Ways<'_, 'a>, ending: &'a Ending) -> String {
+        self.begin(ending.shows.as_slice());
         if let Terminator::Return { value: Some(value) } = &ending.terminator {
-            let goals = self.scope.goals_at_return(value)?;
-            self.reach_all(goals)?;
+            let goals = self.scope.goals_at_return(value);
+            self.reach_all(goals);
         }
-        self.reach_edges(ways)?;
+        self.reach_edges(ways);
         self.spell_told()
     }
 }
