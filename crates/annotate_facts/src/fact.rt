@@ -1,8 +1,9 @@
 //! What inequalities, and the conditions of branches, say.
 
-use annotate_sums::{
-    Edge, Equation, Sum, Way, block_at, definition_of, is_exact, is_used_beside, register_of,
-};
+use crate::definition::{Equation, definition_of, is_exact};
+use crate::edge::{Edge, Way, block_at, is_used_beside, register_of};
+use crate::heap::Heap;
+use crate::sum::Sum;
 use std::mem::replace;
 use syntax::{Function, Inequality, Instruction, Operand, Predicate, Step};
 
@@ -49,24 +50,24 @@ impl<'a> Facts<'a> {
     }
 
     /// States that a sum is at least 0, if it is stated already or there is room.
-    pub fn add(&mut self, sum: Sum<'a>)  {
+    pub fn add(&mut self, sum: Sum<'a>) {
         if let Some(number) = self.find(&sum) {
-            self.stated.push(number);
+            self.heap.push(&mut self.stated, number);
         } else if self.sums.len() < MOST_FACTS {
-            self.stated.push(self.sums.len());
-            self.sums.push(sum);
+            self.heap.push(&mut self.stated, self.sums.len());
+            self.heap.push(&mut self.sums, sum);
         }
     }
 
     /// States that these sums are at least 0.
-    pub fn add_all(&mut self, sums: Vec<Sum<'a>>)  {
+    pub fn add_all(&mut self, sums: Vec<Sum<'a>>) {
         for sum in sums {
             self.add(sum);
         }
     }
 
     /// States what these inequalities say.
-    pub fn state(&mut self, inequalities: &'a [Inequality])  {
+    pub fn state(&mut self, inequalities: &'a [Inequality]) {
         for inequality in inequalities {
             let sum = Sum::of_inequality(self.heap, inequality);
             self.add(sum);
@@ -74,16 +75,11 @@ impl<'a> Facts<'a> {
     }
 
     /// States `low <= high`, or `low < high`.
-    fn order(
-        &mut self,
-        low: &'a Operand,
-        high: &'a Operand,
-        is_strict: bool,
-    ) {
+    fn order(&mut self, low: &'a Operand, high: &'a Operand, is_strict: bool) {
         let mut sum = Sum::of_operand(self.heap, high, 1);
         sum.add_operand(low, -1);
         sum.add_number(if is_strict { -1 } else { 0 });
-        self.add(sum)
+        self.add(sum);
     }
 
     /// States what a comparison says of signed numbers where it holds, or where it does not.
@@ -103,12 +99,7 @@ impl<'a> Facts<'a> {
     }
 
     /// States what the comparisons into this register say where they have this outcome.
-    fn decide_all(
-        &mut self,
-        steps: &'a [Step],
-        condition: &str,
-        holds: bool,
-    ) {
+    fn decide_all(&mut self, steps: &'a [Step], condition: &str, holds: bool) {
         for step in steps {
             if let Instruction::Compare {
                 register,
@@ -125,28 +116,22 @@ impl<'a> Facts<'a> {
         }
     }
 
-    /// States that a register is this sum.
-    fn equate(&mut self, name: &'a str, value: &Sum<'a>)  {
-        let equation = Equation::of(self.heap, name, value);
-        self.add(equation.most);
-        self.add(equation.least)
-    }
-
     /// States what an instruction says of a register that blocks beside its own take.
-    fn make(&mut self, index: usize, instruction: &'a Instruction)  {
-        match register_of(instruction) {
-            Some(name) if is_exact(instruction) && is_used_beside(self.function, index, name) => {
-                match definition_of(self.heap, instruction) {
-                    Some(value) => self.equate(name, &value),
-                    None => {},
-                }
+    fn make(&mut self, index: usize, instruction: &'a Instruction) {
+        let Some(name) = register_of(instruction) else {
+            return;
+        };
+        if is_exact(instruction) && is_used_beside(self.function, index, name) {
+            if let Some(value) = definition_of(self.heap, instruction) {
+                let equation = Equation::of(self.heap, name, &value);
+                self.add(equation.most);
+                self.add(equation.least);
             }
-            _ => {},
         }
     }
 
     /// States what a block's own instructions make of registers that other blocks take, unless the function has many.
-    pub fn make_all(&mut self, index: usize)  {
+    pub fn make_all(&mut self, index: usize) {
         if is_long(self.function) {
             return;
         }
@@ -158,7 +143,7 @@ impl<'a> Facts<'a> {
     }
 
     /// States the outcome of a branch along an edge.
-    fn branch(&mut self, steps: &'a [Step], way: Way<'a>)  {
+    fn branch(&mut self, steps: &'a [Step], way: Way<'a>) {
         match way {
             Way::WhenTrue(condition) => self.decide_all(steps, condition, true),
             Way::WhenFalse(condition) => self.decide_all(steps, condition, false),
@@ -167,7 +152,7 @@ impl<'a> Facts<'a> {
     }
 
     /// States what a block adds on one of its edges: its `shows`, and the outcome of its branch.
-    pub fn pass(&mut self, edge: Edge<'a>)  {
+    pub fn pass(&mut self, edge: Edge<'a>) {
         let Some(block) = block_at(self.function, edge.from) else {
             return;
         };

@@ -1,8 +1,11 @@
 //! What is known wherever a block begins, because all ways to it bring it along.
 
+use crate::bound::bound_among;
+use crate::edge::{Edge, defines, edges_of};
 use crate::fact::Facts;
 use crate::guess::{Place, dominators_of};
-use annotate_sums::{Edge, Sum, defines, edges_of};
+use crate::heap::Heap;
+use crate::sum::Sum;
 use syntax::{Block, Function};
 
 /// The most blocks of a function in which something is guessed, and rounds are counted.
@@ -65,76 +68,48 @@ fn row_has(rows: &[Vec<usize>], row: usize, number: usize) -> bool {
 }
 
 /// For each block the numbers of the edges that lead to it.
-fn into_blocks(
-    heap: &'a Heap,
-    edges: &[Edge<'_>],
-    count: usize,
-) -> Vec<Vec<usize>> {
+fn into_blocks(heap: &Heap, edges: &[Edge<'_>], count: usize) -> Vec<Vec<usize>> {
     let mut into = heap.list();
     for _block in 0..count {
-        into.push(heap.list());
+        heap.push(&mut into, heap.list());
     }
     for (number, edge) in edges.iter().enumerate() {
         if edge.to < into.len() {
-            into[edge.to].push(number);
+            heap.push(&mut into[edge.to], number);
         }
     }
     into
 }
 
 impl<'a> Known<'a> {
-    /// Nothing, of these edges.
-    fn new(
-        heap: &'a Heap,
-        function: &'a Function,
-        edges: Vec<Edge<'a>>,
-        into: Vec<Vec<usize>>,
-    ) -> Known<'a> {
-        Known {
-            heap,
-            function,
-            edges,
-            into,
-            facts: Facts::new(heap, function),
-            given: heap.list(),
-            guessed: heap.list(),
-            added: heap.list(),
-            made: heap.list(),
-            marks: heap.list(),
-        }
-    }
-
     /// States what the blocks' heads say; at the entry what the function asks of its parameters too.
-    fn give_all(&mut self)  {
+    fn give_all(&mut self) {
         let function = self.function;
         self.facts.state(function.notes.requirements.as_slice());
         for block in function.blocks.as_slice() {
             self.facts.state(block.notes.keeps.as_slice());
-            let given = self.facts.take();
-            self.given.push(given);
+            self.heap.push(&mut self.given, self.facts.take());
         }
     }
 
     /// States what the edges add.
-    fn add_all(&mut self)  {
+    fn add_all(&mut self) {
         for edge in &self.edges {
             self.facts.pass(*edge);
-            let added = self.facts.take();
-            self.added.push(added);
+            self.heap.push(&mut self.added, self.facts.take());
         }
     }
 
     /// States what the instructions of the blocks make.
-    fn make_all(&mut self)  {
+    fn make_all(&mut self) {
         for block in 0..self.function.blocks.len() {
             self.facts.make_all(block);
-            let made = self.facts.take();
-            self.made.push(made);
+            self.heap.push(&mut self.made, self.facts.take());
         }
     }
 
     /// States what may be so of a block's counters, by the facts from this number on.
-    fn guess(&mut self, above: &[usize], block: usize, first: usize)  {
+    fn guess(&mut self, above: &[usize], block: usize, first: usize) {
         let place = Place {
             heap: self.heap,
             function: self.function,
@@ -147,22 +122,23 @@ impl<'a> Known<'a> {
         self.facts.add_all(guesses);
         let stated = self.facts.take();
         if block < self.guessed.len() {
-            self.guessed[block].extend_from_slice(stated.as_slice());
+            let added = self.guessed[block].extend_from_slice(stated.as_slice());
+            self.heap.kept(added);
         }
     }
 
     /// The same of all blocks.
-    fn guess_from(&mut self, above: &[usize], first: usize)  {
+    fn guess_from(&mut self, above: &[usize], first: usize) {
         for block in 0..self.function.blocks.len() {
             self.guess(above, block, first);
         }
     }
 
     /// States what may be so at the heads of loops, unless the function has many blocks; then what may be so if that is.
-    fn guess_all(&mut self)  {
+    fn guess_all(&mut self) {
         let count = self.function.blocks.len();
         for _block in 0..count {
-            self.guessed.push(self.heap.list());
+            self.heap.push(&mut self.guessed, self.heap.list());
         }
         if count > MOST_BLOCKS {
             return;
@@ -183,7 +159,7 @@ impl<'a> Known<'a> {
         let mut facts = self.heap.list();
         for number in 0..self.facts.sums.len() {
             if self.is_known(block, number) {
-                facts.push(self.facts.sums[number].copy());
+                self.heap.push(&mut facts, self.facts.sums[number].copy());
             }
         }
         facts
@@ -239,19 +215,14 @@ impl<'a> Known<'a> {
         for number in 0..self.facts.sums.len() {
             if self.is_known(block, number) {
                 let lack = lack_by(sum, &self.facts.sums[number]);
-                least = lesser(least, lack);
+                least = bound_among(least, lack, true);
             }
         }
         least
     }
 
     /// How much one sum lacks to be no less than the other.
-    pub fn lack_of(
-        &self,
-        block: usize,
-        one: &Sum<'a>,
-        other: &Sum<'a>,
-    ) -> Option<i128> {
+    pub fn lack_of(&self, block: usize, one: &Sum<'a>, other: &Sum<'a>) -> Option<i128> {
         let difference = one.with(other, -1);
         match difference.as_number() {
             Some(number) => Some(number.saturating_neg().max(0)),
@@ -260,19 +231,15 @@ impl<'a> Known<'a> {
     }
 
     /// The greater of two sums, or one with what it may lack, or their sum where nothing is known of that.
-    pub fn greater(
-        &self,
-        block: usize,
-        one: &Sum<'a>,
-        other: &Sum<'a>,
-    ) -> Sum<'a> {
-        let second = self.lack_of(block, other, one);
-        match self.lack_of(block, one, other) {
-            Some(first) => raised_less(one, first, other, second),
-            None => match second {
-                Some(second) => other.raised(second),
-                None => one.with(other, 1),
-            },
+    pub fn greater(&self, block: usize, one: &Sum<'a>, other: &Sum<'a>) -> Sum<'a> {
+        match (
+            self.lack_of(block, one, other),
+            self.lack_of(block, other, one),
+        ) {
+            (Some(first), Some(second)) if second < first => other.raised(second),
+            (Some(first), _) => one.raised(first),
+            (None, Some(second)) => other.raised(second),
+            (None, None) => one.with(other, 1),
         }
     }
 
@@ -280,15 +247,16 @@ impl<'a> Known<'a> {
     fn first_marks(&self, block: usize) -> Vec<bool> {
         let mut marks = self.heap.list();
         for fact in 0..self.facts.sums.len() {
-            marks.push(block != 0 || self.is_given(block, fact));
+            let is_marked = block != 0 || self.is_given(block, fact);
+            self.heap.push(&mut marks, is_marked);
         }
         marks
     }
 
-    fn mark_all(&mut self)  {
+    fn mark_all(&mut self) {
         for block in 0..self.function.blocks.len() {
             let marks = self.first_marks(block);
-            self.marks.push(marks);
+            self.heap.push(&mut self.marks, marks);
         }
     }
 
@@ -361,7 +329,7 @@ impl<'a> Known<'a> {
     }
 
     /// Finds the facts, and marks what is known at each block.
-    fn find(&mut self, has_guesses: bool)  {
+    fn find(&mut self, has_guesses: bool) {
         self.give_all();
         self.add_all();
         self.make_all();
@@ -392,28 +360,6 @@ fn lack_by<'a>(sum: &Sum<'a>, fact: &Sum<'a>) -> Option<i128> {
     }
 }
 
-/// One sum and what it lacks, or the other, whichever lacks less.
-fn raised_less<'a>(
-    one: &Sum<'a>,
-    first: i128,
-    other: &Sum<'a>,
-    second: Option<i128>,
-) -> Sum<'a> {
-    match second {
-        Some(second) if second < first => other.raised(second),
-        _ => one.raised(first),
-    }
-}
-
-/// The lesser of two numbers; the one that there is.
-fn lesser(one: Option<i128>, other: Option<i128>) -> Option<i128> {
-    match (one, other) {
-        (Some(one), Some(other)) => Some(one.min(other)),
-        (None, other) => other,
-        (one, None) => one,
-    }
-}
-
 /// Whether a sum names a register that the block defines.
 pub fn names_own(block: &Block, sum: &Sum<'_>) -> bool {
     for (name, coefficient) in &sum.terms {
@@ -426,14 +372,21 @@ pub fn names_own(block: &Block, sum: &Sum<'_>) -> bool {
 
 /// What is known at each block, by what heads state, `shows` and the outcomes of branches. A fact about registers that the block defines
 /// anew is not brought along to it. What may be so of counters is among it, if guesses are asked for.
-pub fn known_of<'a>(
-    heap: &'a Heap,
-    function: &'a Function,
-    has_guesses: bool,
-) -> Known<'a> {
+pub fn known_of<'a>(heap: &'a Heap, function: &'a Function, has_guesses: bool) -> Known<'a> {
     let edges = edges_of(heap, function);
     let into = into_blocks(heap, edges.as_slice(), function.blocks.len());
-    let mut known = Known::new(heap, function, edges, into);
+    let mut known = Known {
+        heap,
+        function,
+        edges,
+        into,
+        facts: Facts::new(heap, function),
+        given: heap.list(),
+        guessed: heap.list(),
+        added: heap.list(),
+        made: heap.list(),
+        marks: heap.list(),
+    };
     known.find(has_guesses);
     known
 }

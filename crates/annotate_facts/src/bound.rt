@@ -42,7 +42,7 @@ pub fn greatest_apart(facts: &[Sum<'_>], sum: &Sum<'_>) -> Option<i128> {
 }
 
 /// The lesser of two bounds, or the greater one; the one that there is.
-fn bound_among(one: Option<i128>, other: Option<i128>, is_lesser: bool) -> Option<i128> {
+pub fn bound_among(one: Option<i128>, other: Option<i128>, is_lesser: bool) -> Option<i128> {
     match (one, other) {
         (Some(one), Some(other)) if is_lesser => Some(one.min(other)),
         (Some(one), Some(other)) => Some(one.max(other)),
