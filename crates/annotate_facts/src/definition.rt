@@ -1,10 +1,10 @@
 //! What instructions and phis make of registers.
 
-use crate::edge::phi_value;
+use crate::edge::{definition_in, phi_value};
 use crate::heap::Heap;
 use crate::sum::Sum;
 use lists::Name;
-use syntax::{BinaryOperator, Instruction, Operand, Phi};
+use syntax::{BinaryOperator, Function, Instruction, Operand, Phi};
 
 /// How often an operator's left and right operand stand in the sum that it makes, but for what its width cannot hold; none where it makes
 /// no sum.
@@ -37,6 +37,14 @@ pub fn definition_of<'a>(heap: &'a Heap, instruction: &'a Instruction) -> Option
     let mut sum = Sum::of_operand(heap, left, of_left);
     sum.add_operand(right, of_right);
     Some(sum)
+}
+
+/// The sum that a function's instruction makes of a register; none where that makes no sum, or none defines the register.
+pub fn value_of<'a>(heap: &'a Heap, function: &'a Function, name: &str) -> Option<Sum<'a>> {
+    match definition_in(function, name) {
+        Some(instruction) => definition_of(heap, instruction),
+        None => None,
+    }
 }
 
 /// Whether an instruction makes its sum or product as it is, without a remainder by the width.

@@ -30,6 +30,15 @@ impl Heap {
         TextBuffer::new(self.alloc)
     }
 
+    /// A copy of a text.
+    pub fn string(&self, text: &str) -> String {
+        let mut copy = String::new(self.alloc);
+        if copy.push_str(text).is_err() {
+            self.is_refused.set(true);
+        }
+        copy
+    }
+
     /// Adds an element at the end of a list.
     pub fn push<T: Drop>(&self, list: &mut Vec<T>, value: T) {
         if list.push(value).is_err() {

@@ -16,7 +16,7 @@ mod search;
 mod sum;
 
 pub use bound::{greatest, greatest_apart};
-pub use definition::{Equation, definition_of, is_exact, moved};
+pub use definition::{Equation, definition_of, is_exact, moved, value_of};
 pub use edge::{Edge, Way, block_at, definition_in, edges_of, last_of, phi_value, register_of};
 pub use fact::Facts;
 pub use guess::{Place, Rise, dominators_of, rise_of};

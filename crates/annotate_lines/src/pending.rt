@@ -1,9 +1,8 @@
 //! The zones that children may still touch where a block begins, because they are handed on to it.
 
+use crate::cells::is_same_object;
 use crate::hull::Hull;
-use annotate_facts::{Place, dominators_of, names_own};
-use annotate_steps::is_same_object;
-use annotate_sums::{Edge, Sum, Way, block_at, edges_of};
+use annotate_facts::{Edge, Heap, Place, Sum, Way, block_at, dominators_of, names_own};
 use syntax::{Block, Form, Function, Pending, Zone};
 
 /// A zone that is pending of a region.
@@ -14,22 +13,10 @@ pub struct Handed<'a> {
 }
 
 /// Whether two forms are the same number whatever the registers hold.
-fn are_same(heap: &'a Heap, one: &Form, other: &Form) -> bool {
+fn are_same<'a>(heap: &'a Heap, one: &'a Form, other: &'a Form) -> bool {
     let mut difference = Sum::of_form(heap, one);
     difference.add_form(other, -1);
     matches!(difference.as_number(), Some(0))
-}
-
-/// Whether a form names a register that the block defines.
-fn form_names_own(heap: &'a Heap, block: &Block, form: &Form) -> bool {
-    let sum = Sum::of_form(heap, form);
-    names_own(block, &sum)
-}
-
-/// Whether each register of a form has its value at a place.
-fn has_values(place: Place<'_, '_>, form: &Form) -> bool {
-    let sum = Sum::of_form(place.heap, form);
-    place.has_values(&sum)
 }
 
 impl<'a> Handed<'a> {
@@ -38,21 +25,22 @@ impl<'a> Handed<'a> {
         let one = self.zone;
         let two = other.zone;
         self.region == other.region
-                && one.mode == two.mode
-                && is_same_object(&one.object, &two.object)
-                && are_same(heap, &one.low, &two.low)
-                && are_same(heap, &one.high, &two.high),
+            && one.mode == two.mode
+            && is_same_object(&one.object, &two.object)
+            && are_same(heap, &one.low, &two.low)
+            && are_same(heap, &one.high, &two.high)
     }
 
     /// Whether an end of the zone names a register that the block defines.
     fn is_renamed(self, heap: &'a Heap, block: &Block) -> bool {
-        form_names_own(heap, block, &self.zone.low)
-                || form_names_own(heap, block, &self.zone.high),
+        names_own(block, &Sum::of_form(heap, &self.zone.low))
+            || names_own(block, &Sum::of_form(heap, &self.zone.high))
     }
 
     /// Whether the registers of both ends have their values at a place.
-    fn may_stand(self, place: Place<'_, '_>) -> bool {
-        has_values(place, &self.zone.low) && has_values(place, &self.zone.high)
+    fn may_stand(self, place: Place<'_, 'a>) -> bool {
+        place.has_values(&Sum::of_form(place.heap, &self.zone.low))
+            && place.has_values(&Sum::of_form(place.heap, &self.zone.high))
     }
 
     /// Whether a block says itself what is pending of the region's object.
@@ -68,7 +56,7 @@ impl<'a> Handed<'a> {
     }
 
     /// Whether a block says that itself, or a register of the zone is another one there, or has no value.
-    fn is_kept_out(self, place: Place<'_, '_>, block: &Block) -> bool {
+    fn is_kept_out(self, place: Place<'_, 'a>, block: &Block) -> bool {
         self.is_said(block) || self.is_renamed(place.heap, block) || !self.may_stand(place)
     }
 }
@@ -83,26 +71,14 @@ fn goes_on(way: Way<'_>, region: &str) -> bool {
 }
 
 /// What is handed on to each block beside what it says itself.
-pub struct Waiting<'a> {
+#[derive(Drop)]
+struct Waiting<'a> {
     heap: &'a Heap,
     function: &'a Function,
-    edges: Vec<Edge<'a>>,
+    edges: &'a [Edge<'a>],
     /// For each block one that is on all ways to it.
     above: Vec<usize>,
-    pub handed: Vec<Vec<Handed<'a>>>,
-}
-
-/// Written out, so that each path that lets go of it is short.
-impl Drop for Waiting<'_> {
-    fn drop(self) {
-        let Waiting {
-            heap: _,
-            function: _,
-            edges: _,
-            above: _,
-            handed: _,
-        } = self;
-    }
+    handed: Vec<Vec<Handed<'a>>>,
 }
 
 impl<'a> Waiting<'a> {
@@ -118,75 +94,86 @@ impl<'a> Waiting<'a> {
 
     /// Hands a zone on to a block; whether that is new.
     fn put(&mut self, to: usize, next: Handed<'a>) -> bool {
-        let blocks = self.function.blocks.as_slice();
-        if to >= blocks.len() || to >= self.handed.len() {
+        let Some(block) = block_at(self.function, to) else {
             return false;
-        }
-        if next.is_kept_out(self.place(to), &blocks[to])
+        };
+        if to >= self.handed.len()
+            || next.is_kept_out(self.place(to), block)
             || is_put(self.heap, self.handed[to].as_slice(), next)
         {
             return false;
         }
-        self.handed[to].push(next);
+        self.heap.push(&mut self.handed[to], next);
         true
     }
 
     /// Adds the feet of the children that a block detaches.
-    fn push_feet(
-        &self,
-        along: &mut Vec<Handed<'a>>,
-        from: usize,
-        region: &'a str,
-    ) {
-        for edge in &self.edges {
+    fn push_feet(&self, along: &mut Vec<Handed<'a>>, from: usize, region: &'a str) {
+        for edge in self.edges {
             if edge.from == from && matches!(edge.way, Way::Detached) {
                 if let Some(child) = block_at(self.function, edge.to) {
-                    push_foot(along, region, child.notes.foot.as_slice());
+                    self.push_foot(along, region, child.notes.foot.as_slice());
                 }
             }
         }
     }
 
-    /// Adds the zones that go on along an edge.
-    fn push_along(&self, along: &mut Vec<Handed<'a>>, edge: Edge<'a>)  {
-        if let Some(from) = block_at(self.function, edge.from) {
-            push_pending(along, edge.way, from.notes.pending.as_slice());
-        }
-        if edge.from < self.handed.len() {
-            push_handed(along, edge.way, self.handed[edge.from].as_slice());
-        }
-        if let Way::Continued(region) = edge.way {
-            self.push_feet(along, edge.from, region);
+    fn push_foot(&self, along: &mut Vec<Handed<'a>>, region: &'a str, foot: &'a [Zone]) {
+        for zone in foot {
+            self.heap.push(along, Handed { region, zone });
         }
     }
 
-    /// Hands zones on to a block; whether one of them was new.
-    fn put_all(&mut self, to: usize, along: &[Handed<'a>]) -> bool {
+    fn push_pending(&self, along: &mut Vec<Handed<'a>>, way: Way<'a>, all: &'a [Pending]) {
+        for pending in all {
+            let region = pending.region.as_str();
+            if goes_on(way, region) {
+                let zone = &pending.zone;
+                self.heap.push(along, Handed { region, zone });
+            }
+        }
+    }
+
+    fn push_handed(&self, along: &mut Vec<Handed<'a>>, way: Way<'a>, all: &[Handed<'a>]) {
+        for next in all {
+            if goes_on(way, next.region) {
+                self.heap.push(along, *next);
+            }
+        }
+    }
+
+    /// The zones that go on along an edge.
+    fn along(&self, edge: Edge<'a>) -> Vec<Handed<'a>> {
+        let mut along = self.heap.list();
+        if let Some(from) = block_at(self.function, edge.from) {
+            self.push_pending(&mut along, edge.way, from.notes.pending.as_slice());
+        }
+        if let Some(handed) = self.handed.get(edge.from) {
+            self.push_handed(&mut along, edge.way, handed.as_slice());
+        }
+        if let Way::Continued(region) = edge.way {
+            self.push_feet(&mut along, edge.from, region);
+        }
+        along
+    }
+
+    /// Hands on what goes along an edge; whether something was new.
+    fn hand_on(&mut self, edge: Edge<'a>) -> bool {
         let mut is_new = false;
-        for next in along {
-            if self.put(to, *next) {
+        for next in self.along(edge) {
+            if self.put(edge.to, next) {
                 is_new = true;
             }
         }
         is_new
     }
 
-    /// Hands on what goes along the edge of this number; whether something was new.
-    fn hand_on(&mut self, number: usize) -> bool {
-        if number >= self.edges.len() {
-            return false;
-        }
-        let edge = self.edges[number];
-        let mut along = self.heap.list();
-        self.push_along(&mut along, edge);
-        self.put_all(edge.to, along.as_slice())
-    }
-
     /// One round along all edges; whether something was new.
     fn hand_all_on(&mut self) -> bool {
         let mut is_new = false;
-        for number in 0..self.edges.len() {
-            if self.hand_on(number) {
+        let edges = self.edges;
+        for edge in edges {
+            if self.hand_on(*edge) {
                 is_new = true;
             }
         }
@@ -194,7 +181,7 @@ impl<'a> Waiting<'a> {
     }
 
     /// Round after round until nothing is new.
-    fn hand_down(&mut self)  {
+    fn hand_down(&mut self) {
         for _round in 0..self.handed.len() {
             if !self.hand_all_on() {
                 return;
@@ -203,27 +190,22 @@ impl<'a> Waiting<'a> {
     }
 
     /// Begins with nothing at each block.
-    fn begin(&mut self)  {
+    fn begin(&mut self) {
         for _block in self.function.blocks.as_slice() {
-            self.handed.push(self.heap.list());
+            self.heap.push(&mut self.handed, self.heap.list());
         }
     }
 
-    /// Puts in what may be pending at the heads of loops.
-    fn guess(&mut self, hulls: &'a [Hull<'a>])  {
-        for hull in hulls {
-            let region = hull.region;
-            let zone = &hull.zone;
-            self.put_guess(hull.block, Handed { region, zone });
-        }
-    }
-
-    /// Puts a zone to a block that does not say itself what is pending.
-    fn put_guess(&mut self, to: usize, next: Handed<'a>)  {
-        let blocks = self.function.blocks.as_slice();
-        if to < blocks.len() && to < self.handed.len() && !next.is_said(&blocks[to]) {
-            if next.may_stand(self.place(to)) {
-                self.handed[to].push(next);
+    /// Puts what may be pending at the head of a loop to it, if it does not say itself what is pending.
+    fn guess(&mut self, hull: &'a Hull<'a>) {
+        let to = hull.block;
+        let next = Handed {
+            region: hull.region,
+            zone: &hull.zone,
+        };
+        if let Some(block) = block_at(self.function, to) {
+            if to < self.handed.len() && !next.is_said(block) && next.may_stand(self.place(to)) {
+                self.heap.push(&mut self.handed[to], next);
             }
         }
     }
@@ -238,59 +220,24 @@ fn is_put<'a>(heap: &'a Heap, handed: &[Handed<'a>], next: Handed<'a>) -> bool {
     false
 }
 
-fn push_pending<'a>(
-    along: &mut Vec<Handed<'a>>,
-    way: Way<'a>,
-    all: &'a [Pending],
-) {
-    for pending in all {
-        let region = pending.region.as_str();
-        if goes_on(way, region) {
-            let zone = &pending.zone;
-            along.push(Handed { region, zone });
-        }
-    }
-}
-
-fn push_handed<'a>(
-    along: &mut Vec<Handed<'a>>,
-    way: Way<'a>,
-    all: &[Handed<'a>],
-) {
-    for next in all {
-        if goes_on(way, next.region) {
-            along.push(*next);
-        }
-    }
-}
-
-fn push_foot<'a>(
-    along: &mut Vec<Handed<'a>>,
-    region: &'a str,
-    foot: &'a [Zone],
-) {
-    for zone in foot {
-        along.push(Handed { region, zone });
-    }
-}
-
-/// What is handed on along the edges of a function, again and again until nothing is new.
-pub fn waiting_of<'a>(
+/// What is handed on to each block along the edges of a function, again and again until nothing is new.
+pub fn handed_of<'a>(
     heap: &'a Heap,
     function: &'a Function,
+    edges: &'a [Edge<'a>],
     hulls: &'a [Hull<'a>],
-) -> Waiting<'a> {
-    let edges = edges_of(heap, function);
-    let above = dominators_of(heap, edges.as_slice(), function.blocks.len());
+) -> Vec<Vec<Handed<'a>>> {
     let mut waiting = Waiting {
         heap,
         function,
         edges,
-        above,
+        above: dominators_of(heap, edges, function.blocks.len()),
         handed: heap.list(),
     };
     waiting.begin();
-    waiting.guess(hulls);
+    for hull in hulls {
+        waiting.guess(hull);
+    }
     waiting.hand_down();
-    waiting
+    waiting.handed
 }

@@ -2,9 +2,10 @@
 
 use crate::cells::Cells;
 use crate::goal::{Call, Scope, ends_of};
-use annotate_sums::{
-    Edge, Equation, Sum, Way, block_at, definition_of, is_exact, lines_between, register_of,
+use annotate_facts::{
+    Equation, Known, Sum, Way, block_at, definition_of, is_exact, lines_between, moved, register_of,
 };
+use buffers::TextBuffer;
 use syntax::{
     BinaryOperator, Block, Conversion, Ending, Inequality, Instruction, Operand, Step, Terminator,
     Width, Zone,
@@ -14,26 +15,6 @@ use syntax::{
 const MOST_FACTS: usize = 1_024;
 
 const MOST_LINES: usize = 32;
-
-/// The edges of a function, and what being taken says of each.
-#[derive(Clone, Copy)]
-pub struct Ways<'w, 'a> {
-    pub edges: &'w [Edge<'a>],
-    /// The facts of the function.
-    pub facts: &'w [Sum<'a>],
-    /// For each edge the numbers of the facts that hold along it.
-    pub added: &'w [Vec<usize>],
-}
-
-impl<'w> Ways<'w, '_> {
-    /// The numbers of the facts that hold along the edge of this number.
-    fn facts_on(self, edge: usize) -> &'w [usize] {
-        match self.added.get(edge) {
-            Some(numbers) => numbers.as_slice(),
-            None => &[],
-        }
-    }
-}
 
 /// What is known in a block as far as one has come.
 pub struct Walk<'a> {
@@ -46,7 +27,7 @@ pub struct Walk<'a> {
     /// What is left of the effort.
     pub effort: usize,
     /// The zones that cover what the block may touch.
-    covering: Vec<&'a Zone>,
+    covering: [&'a [Zone]; 3],
     /// What is told before an instruction, beside so many lines of the text.
     told: Vec<Sum<'a>>,
     stated: usize,
@@ -97,14 +78,14 @@ impl<'a> Walk<'a> {
         walk
     }
 
-    fn learn(&mut self, fact: Sum<'a>)  {
+    fn learn(&mut self, fact: Sum<'a>) {
         if self.facts.len() < MOST_FACTS {
-            self.facts.push(fact);
+            self.scope.heap.push(&mut self.facts, fact);
         }
     }
 
     /// States what the text says.
-    fn learn_all(&mut self, inequalities: &'a [Inequality])  {
+    fn learn_all(&mut self, inequalities: &'a [Inequality]) {
         for inequality in inequalities {
             let sum = Sum::of_inequality(self.scope.heap, inequality);
             self.learn(sum);
@@ -112,33 +93,33 @@ impl<'a> Walk<'a> {
     }
 
     /// States that a sum lies from one number to another.
-    fn learn_between(&mut self, value: &Sum<'a>, low: i128, high: i128)  {
+    fn learn_between(&mut self, value: &Sum<'a>, low: i128, high: i128) {
         self.learn(value.raised(0i128.saturating_sub(low)));
         self.learn(value.below(high))
     }
 
     /// States that a register does.
-    fn learn_bounds(&mut self, name: &'a str, low: i128, high: i128)  {
+    fn learn_bounds(&mut self, name: &'a str, low: i128, high: i128) {
         let own = Sum::of_register(self.scope.heap, name, 1);
         self.learn_between(&own, low, high)
     }
 
     /// States that a register is this sum.
-    fn learn_equal(&mut self, name: &'a str, value: &Sum<'a>)  {
+    fn learn_equal(&mut self, name: &'a str, value: &Sum<'a>) {
         let equation = Equation::of(self.scope.heap, name, value);
         self.learn(equation.most);
         self.learn(equation.least)
     }
 
     /// Says in lines that sums are at least 0, and states them, if there is room for the lines.
-    fn tell_all(&mut self, lines: Vec<Sum<'a>>)  {
+    fn tell_all(&mut self, lines: Vec<Sum<'a>>) {
         let count = self.stated.saturating_add(self.told.len());
         if count.saturating_add(lines.len()) > MOST_LINES {
             return;
         }
         for line in lines {
             self.learn(line.copy());
-            self.told.push(line);
+            self.scope.heap.push(&mut self.told, line);
         }
     }
 
@@ -157,22 +138,27 @@ impl<'a> Walk<'a> {
         }
     }
 
-    fn reach_all(&mut self, goals: Vec<Sum<'a>>)  {
-        for goal in goals {
+    /// Tells how the facts show what an instruction asks.
+    fn reach_goals(&mut self, instruction: &'a Instruction) {
+        for goal in self.scope.goals(instruction) {
             self.reach(&goal, false);
         }
     }
 
-    /// Whether it is known that an operand is at least a number.
-    fn is_at_least(&mut self, operand: &'a Operand, number: i128) -> bool {
-        let mut sum = Sum::of_operand(self.scope.heap, operand, 1);
-        sum.add_number(0i128.saturating_sub(number));
-        self.reach(&sum, false)
+    /// Tells how they show what a return of this value asks.
+    fn reach_return(&mut self, value: &'a Operand) {
+        let result = Sum::of_operand(self.scope.heap, value, 1);
+        for inequality in self.scope.function.notes.guarantees.as_slice() {
+            let mut goal = Sum::of_inequality(self.scope.heap, inequality);
+            goal.put(".ret", &result);
+            self.reach(&goal, false);
+        }
     }
 
-    fn is_at_most(&mut self, operand: &'a Operand, number: i128) -> bool {
-        let mut sum = Sum::of_operand(self.scope.heap, operand, -1);
-        sum.add_number(number);
+    /// Whether it is known that so many times an operand is at least a number.
+    fn is_at_least(&mut self, times: i128, operand: &'a Operand, number: i128) -> bool {
+        let mut sum = Sum::of_operand(self.scope.heap, operand, times);
+        sum.add_number(0i128.saturating_sub(number));
         self.reach(&sum, false)
     }
 
@@ -205,7 +191,7 @@ impl<'a> Walk<'a> {
             BinaryOperator::And if right >= 0 => self.learn_bounds(name, 0, right),
             BinaryOperator::SignedDivide | BinaryOperator::SignedRemainder
                 if right >= 1 && right <= 1_000_000 => {
-                if self.is_at_least(left, 0) {
+                if self.is_at_least(1, left, 0) {
                     self.learn_part(name, operator, left, right);
                 }
             }
@@ -214,27 +200,19 @@ impl<'a> Walk<'a> {
     }
 
     /// Whether it is known that a conversion changes no number.
-    fn is_same(
-        &mut self,
-        conversion: Conversion,
-        operand: &'a Operand,
-    ) -> bool {
+    fn is_same(&mut self, conversion: Conversion, operand: &'a Operand) -> bool {
         match conversion {
             Conversion::SignExtend => true,
-            Conversion::ZeroExtend => self.is_at_least(operand, 0),
+            Conversion::ZeroExtend => self.is_at_least(1, operand, 0),
             Conversion::Truncate => {
                 let (low, high) = ends_of(Width::Bits32);
-                self.is_at_least(operand, low) && self.is_at_most(operand, high)
+                self.is_at_least(1, operand, low)
+                    && self.is_at_least(-1, operand, 0i128.saturating_sub(high))
             }
         }
     }
 
-    fn learn_conversion(
-        &mut self,
-        name: &'a str,
-        conversion: Conversion,
-        operand: &'a Operand,
-    ) {
+    fn learn_conversion(&mut self, name: &'a str, conversion: Conversion, operand: &'a Operand) {
         if self.is_same(conversion, operand) {
             let value = Sum::of_operand(self.scope.heap, operand, 1);
             self.learn_equal(name, &value);
@@ -247,16 +225,11 @@ impl<'a> Walk<'a> {
     }
 
     /// States what an instruction makes known of the register that it defines.
-    fn learn_register(
-        &mut self,
-        name: &'a str,
-        instruction: &'a Instruction,
-    ) {
+    fn learn_register(&mut self, name: &'a str, instruction: &'a Instruction) {
         match instruction {
             Instruction::Binary { .. } if is_exact(instruction) => {
-                match definition_of(self.scope.heap, instruction) {
-                    Some(value) => self.learn_equal(name, &value),
-                    None => {},
+                if let Some(value) = definition_of(self.scope.heap, instruction) {
+                    self.learn_equal(name, &value);
                 }
             }
             Instruction::Binary {
@@ -275,36 +248,32 @@ impl<'a> Walk<'a> {
     }
 
     /// States what the callee says of a call.
-    fn learn_call(&mut self, call: Call<'a>)  {
-        let mut said = self.scope.heap.list();
-        let guarantees = call.callee.notes.guarantees.as_slice();
-        call.push_said(self.scope.heap, guarantees, &mut said);
-        for fact in said {
-            self.learn(fact);
+    fn learn_call(&mut self, call: Call<'a>) {
+        for inequality in call.callee.notes.guarantees.as_slice() {
+            self.learn(call.said(inequality));
         }
     }
 
     /// States what an instruction makes known.
-    fn learn_step(&mut self, instruction: &'a Instruction)  {
+    fn learn_step(&mut self, instruction: &'a Instruction) {
         if let Some(call) = self.scope.call_of(instruction) {
             self.learn_call(call);
         }
-        match register_of(instruction) {
-            Some(name) => self.learn_register(name, instruction),
-            None => {},
+        if let Some(name) = register_of(instruction) {
+            self.learn_register(name, instruction);
         }
     }
 
     /// Begins with the lines of the text before an instruction.
-    fn begin(&mut self, shows: &'a [Inequality])  {
+    fn begin(&mut self, shows: &'a [Inequality]) {
         self.told.clear();
         self.stated = shows.len();
         self.learn_all(shows)
     }
 
     /// The lines before an instruction.
-    fn spell_told(&self) -> String {
-        let mut lines = String::new(self.scope.heap);
+    fn spell_told(&self) -> TextBuffer {
+        let mut lines = self.scope.heap.text();
         for fact in &self.told {
             lines.push_str("  ;! shows ");
             fact.spell_inequality(&mut lines);
@@ -334,65 +303,64 @@ impl<'a> Walk<'a> {
         is_covered
     }
 
-    /// Tells how the facts show that one of the covering zones has these cells.
-    fn reach_cover(&mut self, cells: &Cells<'a>)  {
-        for place in 0..self.covering.len() {
-            if place < self.covering.len() {
-                let zone = self.covering[place];
-                if cells.may_lie_in(zone) && self.reach_zone(cells, zone) {
-                    return;
-                }
+    /// Tells how the facts show that one of these zones has the cells; whether they do.
+    fn reach_among(&mut self, cells: &Cells<'a>, zones: &'a [Zone]) -> bool {
+        for zone in zones {
+            if cells.may_lie_in(zone) && self.reach_zone(cells, zone) {
+                return true;
+            }
+        }
+        false
+    }
+
+    /// The same of the covering zones; of the function's own cells nothing where it touches them itself.
+    fn reach_cover(&mut self, cells: &Cells<'a>) {
+        if self.is_function && cells.is_own(self.scope.function) {
+            return;
+        }
+        let covering = self.covering;
+        for zones in &covering {
+            if self.reach_among(cells, zones) {
+                return;
             }
         }
     }
 
-    /// The same of all cells that are touched, but for the function's own where it touches them itself.
-    fn reach_covers(&mut self, touched: Vec<Cells<'a>>)  {
-        for cells in touched {
-            if !self.is_function || !cells.is_own(self.scope.function) {
-                self.reach_cover(&cells);
-            }
+    /// The same of all cells that an instruction touches.
+    fn reach_covers(&mut self, instruction: &'a Instruction) {
+        let steps = self.block.steps.as_slice();
+        for cells in self.scope.touched(steps, instruction) {
+            self.reach_cover(&cells);
         }
     }
 
     /// Tells how the facts show that the zones of new children are covered.
-    fn reach_foot(&mut self, child: &'a Block)  {
-        let mut touched = self.scope.heap.list();
+    fn reach_foot(&mut self, child: &'a Block) {
         for zone in child.notes.foot.as_slice() {
-            touched.push(Cells::of_zone(self.scope.heap, zone));
+            self.reach_cover(&Cells::of_zone(self.scope.heap, zone));
         }
-        self.reach_covers(touched)
     }
 
     /// Goes over a step; the lines that may stand before it.
-    pub fn pass(&mut self, step: &'a Step) -> String {
+    pub fn pass(&mut self, step: &'a Step) -> TextBuffer {
         self.begin(step.shows.as_slice());
         if self.effort == 0 {
             return self.spell_told();
         }
-        let goals = self.scope.goals(&step.instruction);
-        self.reach_all(goals);
+        self.reach_goals(&step.instruction);
         self.effort = self.effort.saturating_sub(self.block.steps.len());
-        let touched = self
-            .scope
-            .touched(self.block.steps.as_slice(), &step.instruction);
-        self.reach_covers(touched);
+        self.reach_covers(&step.instruction);
         self.learn_step(&step.instruction);
         self.spell_told()
     }
 
     /// Tells how the facts show a sum along an edge, with what being taken says of it, or without.
-    fn reach_along(
-        &mut self,
-        ways: Ways<'_, 'a>,
-        edge: usize,
-        goal: &Sum<'a>,
-    ) {
+    fn reach_along(&mut self, known: &Known<'a>, edge: usize, goal: &Sum<'a>) {
         if self.reach(goal, false) {
             return;
         }
-        for number in ways.facts_on(edge) {
-            if let Some(fact) = ways.facts.get(*number) {
+        for number in known.facts_on(edge) {
+            if let Some(fact) = known.facts.sums.get(*number) {
                 let rest = goal.with(fact, -1);
                 if self.reach(&rest, true) {
                     return;
@@ -401,22 +369,25 @@ impl<'a> Walk<'a> {
         }
     }
 
-    fn reach_edge(
-        &mut self,
-        ways: Ways<'_, 'a>,
-        edge: usize,
-        to: &'a Block,
-    ) {
-        for goal in self.scope.goals_along(self.block, to) {
-            self.reach_along(ways, edge, &goal);
+    /// Tells how the facts show what a block's head asks along an edge.
+    fn reach_edge(&mut self, known: &Known<'a>, edge: usize, to: &'a Block) {
+        for inequality in to.notes.keeps.as_slice() {
+            let goal = Sum::of_inequality(self.scope.heap, inequality);
+            let goal = moved(
+                self.scope.heap,
+                &goal,
+                &self.block.label,
+                to.phis.as_slice(),
+            );
+            self.reach_along(known, edge, &goal);
         }
     }
 
-    fn reach_edges(&mut self, ways: Ways<'_, 'a>)  {
-        for (number, edge) in ways.edges.iter().enumerate() {
+    fn reach_edges(&mut self, known: &Known<'a>) {
+        for (number, edge) in known.edges.iter().enumerate() {
             if edge.from == self.place {
                 if let Some(to) = block_at(self.scope.function, edge.to) {
-                    self.reach_edge(ways, number, to);
+                    self.reach_edge(known, number, to);
                     if matches!(edge.way, Way::Detached) {
                         self.reach_foot(to);
                     }
@@ -426,13 +397,12 @@ impl<'a> Walk<'a> {
     }
 
     /// Goes over the end of the block; the lines that may stand before it.
-    pub fn end(&mut self, ways: Ways<'_, 'a>, ending: &'a Ending) -> String {
+    pub fn end(&mut self, known: &Known<'a>, ending: &'a Ending) -> TextBuffer {
         self.begin(ending.shows.as_slice());
         if let Terminator::Return { value: Some(value) } = &ending.terminator {
-            let goals = self.scope.goals_at_return(value);
-            self.reach_all(goals);
+            self.reach_return(value);
         }
-        self.reach_edges(ways);
+        self.reach_edges(known);
         self.spell_told()
     }
 }

@@ -1,8 +1,8 @@
 //! Loops that a counter leads round: what falls each time, and what a round needs.
 
-use annotate_facts::{Known, names_own};
-use annotate_sums::{
-    Edge, Sum, block_at, definition_in, definition_of, greatest_apart, last_of, phi_value,
+use annotate_facts::{
+    Edge, Known, Sum, block_at, definition_in, definition_of, greatest_apart, last_of, names_own,
+    phi_value,
 };
 use syntax::{Block, Function, Operand};
 
@@ -27,7 +27,7 @@ impl<'a> Ring<'a> {
     }
 
     /// Adds a round's cost to a sum as often as rounds are left.
-    pub fn add_rounds(&self, sum: &mut Sum<'a>, cost: i128)  {
+    pub fn add_rounds(&self, sum: &mut Sum<'a>, cost: i128) {
         let over = cost.saturating_add(self.step).saturating_sub(1);
         let times = over.checked_div(self.step).unwrap_or(0);
         sum.add(&self.rank, times);
@@ -48,12 +48,7 @@ pub fn names_inner(known: &Known<'_>, head: usize, last: usize, sum: &Sum<'_>) -
 }
 
 /// Adds what a phi takes next so many times, by what its instruction makes of it.
-fn add_next<'a>(
-    known: &Known<'a>,
-    fall: &mut Sum<'a>,
-    value: &'a Operand,
-    times: i128,
-) {
+fn add_next<'a>(known: &Known<'a>, fall: &mut Sum<'a>, value: &'a Operand, times: i128) {
     if let Operand::Register(next) = value {
         if let Some(instruction) = definition_in(known.function, next.as_str()) {
             if let Some(sum) = definition_of(known.heap, instruction) {
@@ -65,12 +60,7 @@ fn add_next<'a>(
 }
 
 /// By how much a sum at the head falls along an edge that leads back from this block.
-fn fall_along<'a>(
-    known: &Known<'a>,
-    head: &'a Block,
-    from: &'a Block,
-    rank: &Sum<'a>,
-) -> Sum<'a> {
+fn fall_along<'a>(known: &Known<'a>, head: &'a Block, from: &'a Block, rank: &Sum<'a>) -> Sum<'a> {
     let mut fall = Sum::number(known.heap, 0);
     for (name, coefficient) in &rank.terms {
         if let Some(value) = phi_value(head.phis.as_slice(), name, &from.label) {
@@ -82,11 +72,7 @@ fn fall_along<'a>(
 }
 
 /// The least number that a sum may come to at a block, by the bounds of its registers.
-fn least_of<'a>(
-    known: &Known<'a>,
-    block: usize,
-    sum: &Sum<'a>,
-) -> Option<i128> {
+fn least_of<'a>(known: &Known<'a>, block: usize, sum: &Sum<'a>) -> Option<i128> {
     let opposite = sum.times(-1);
     let facts = known.facts_at(block);
     match greatest_apart(facts.as_slice(), &opposite) {
@@ -110,11 +96,7 @@ fn fall_of<'a>(known: &Known<'a>, head: usize, rank: &Sum<'a>) -> Option<i128> {
     found
 }
 
-fn fall_by<'a>(
-    known: &Known<'a>,
-    edge: Edge<'a>,
-    rank: &Sum<'a>,
-) -> Option<i128> {
+fn fall_by<'a>(known: &Known<'a>, edge: Edge<'a>, rank: &Sum<'a>) -> Option<i128> {
     let (Some(head), Some(from)) = (
         block_at(known.function, edge.to),
         block_at(known.function, edge.from),
@@ -141,12 +123,7 @@ fn at_head<'a>(head: &'a Block, from: &Block, fact: &Sum<'a>) -> Sum<'a> {
 }
 
 /// The same of an edge within the loop; where it does not lead back to the head, the fact itself.
-fn rank_by<'a>(
-    function: &'a Function,
-    head: usize,
-    edge: Edge<'a>,
-    fact: &Sum<'a>,
-) -> Sum<'a> {
+fn rank_by<'a>(function: &'a Function, head: usize, edge: Edge<'a>, fact: &Sum<'a>) -> Sum<'a> {
     match (block_at(function, edge.to), block_at(function, edge.from)) {
         (Some(to), Some(from)) if edge.to == head => at_head(to, from, fact),
         _ => fact.copy(),
@@ -154,12 +131,7 @@ fn rank_by<'a>(
 }
 
 /// The least number that a rank has at the head where it falls by `step`.
-fn least_at<'a>(
-    known: &Known<'a>,
-    head: usize,
-    rank: &Sum<'a>,
-    step: i128,
-) -> i128 {
+fn least_at<'a>(known: &Known<'a>, head: usize, rank: &Sum<'a>, step: i128) -> i128 {
     let nothing = Sum::number(known.heap, 0);
     let lack = known.lack_of(head, rank, &nothing);
     0i128.saturating_sub(lack.unwrap_or(step))

@@ -1,8 +1,9 @@
 //! What a block needs, from its own instructions and from what is left behind it.
 
 use crate::ring::{Ring, names_inner, ring_of};
-use annotate_facts::{Known, MOST_BLOCKS};
-use annotate_sums::{Edge, Sum, Way, block_at, definition_of, greatest, moved, register_of};
+use annotate_facts::{
+    Edge, Heap, Known, MOST_BLOCKS, Sum, Way, block_at, definition_of, greatest, moved, register_of,
+};
 use lists::Name;
 use syntax::{Block, Instruction, Phi, Step};
 
@@ -51,46 +52,20 @@ impl<'a> Need<'a> {
         }
     }
 
-    fn add(&mut self, other: &Need<'a>)  {
+    fn add(&mut self, other: &Need<'a>) {
         self.calls.add(&other.calls, 1);
-        self.instructions.add(&other.instructions, 1)
+        self.instructions.add(&other.instructions, 1);
     }
 
     /// Makes each of its sums the greater one of it and the other's, as far as that is known at the block.
-    fn raise(
-        &mut self,
-        known: &Known<'a>,
-        block: usize,
-        other: &Need<'a>,
-    ) {
+    fn raise(&mut self, known: &Known<'a>, block: usize, other: &Need<'a>) {
         self.calls = known.greater(block, &self.calls, &other.calls);
         self.instructions = known.greater(block, &self.instructions, &other.instructions);
-    }
-
-    /// Adds what the instructions of a block do, and its terminator.
-    fn add_steps(&mut self, steps: &[Step], own: &Name, costs: &[(&str, u128)]) {
-        self.instructions.add_number(1);
-        for step in steps {
-            self.instructions.add_number(1);
-            if let Instruction::Call { callee, .. } = &step.instruction {
-                if callee.is_same(own) {
-                    self.calls.add_number(1);
-                } else {
-                    let cost = cost_of(costs, callee.as_str());
-                    self.instructions
-                        .add_number(i128::try_from(cost).unwrap_or(i128::MAX));
-                }
-            }
-        }
     }
 }
 
 /// Puts in what an instruction's register is made of, if the sum has it; whether the sum is still one.
-fn put_in<'a>(
-    heap: &'a Heap,
-    sum: &mut Sum<'a>,
-    instruction: &'a Instruction,
-) -> bool {
+fn put_in<'a>(heap: &'a Heap, sum: &mut Sum<'a>, instruction: &'a Instruction) -> bool {
     match register_of(instruction) {
         Some(name) if sum.has(name) => match definition_of(heap, instruction) {
             Some(value) => {
@@ -121,38 +96,28 @@ fn sum_along<'a>(
     Some(sum)
 }
 
-/// What a block needs that has these phis, at the start of another from which an edge leads there.
-fn need_along<'a>(
-    heap: &'a Heap,
-    left: &Need<'a>,
-    from: &'a Block,
-    phis: &'a [Phi],
-) -> Option<Need<'a>> {
-    let Some(calls) = sum_along(heap, &left.calls, from, phis) else {
-        return None;
-    };
-    match sum_along(heap, &left.instructions, from, phis) {
-        Some(instructions) => Some(Need {
-            calls,
-            instructions,
-        }),
-        None => None,
-    }
-}
-
 impl<'a> Finder<'_, 'a> {
     /// What the target of an edge needs, at the start of the block where the edge begins.
     fn behind(&self, edge: Edge<'a>) -> Option<Need<'a>> {
-        let blocks = self.known.function.blocks.as_slice();
-        if edge.from >= blocks.len() || edge.to >= blocks.len() || edge.to >= self.lefts.len() {
+        let heap = self.known.heap;
+        let function = self.known.function;
+        let (Some(from), Some(to), Some(Some(left))) = (
+            block_at(function, edge.from),
+            block_at(function, edge.to),
+            self.lefts.get(edge.to),
+        ) else {
             return None;
-        }
-        match &self.lefts[edge.to] {
-            Some(left) => {
-                let phis = blocks[edge.to].phis.as_slice();
-                need_along(self.known.heap, left, &blocks[edge.from], phis)
-            }
-            None => None,
+        };
+        let phis = to.phis.as_slice();
+        match (
+            sum_along(heap, &left.calls, from, phis),
+            sum_along(heap, &left.instructions, from, phis),
+        ) {
+            (Some(calls), Some(instructions)) => Some(Need {
+                calls,
+                instructions,
+            }),
+            _ => None,
         }
     }
 
@@ -184,7 +149,7 @@ impl<'a> Finder<'_, 'a> {
         true
     }
 
-    /// Joins what is needed behind the edge of this number, if it leads out of a loop, at the loop's head. Whether it is known.
+    /// Joins what is needed behind an edge that leads out of a loop, at the loop's head. Whether it is known there.
     fn join_exit(
         &self,
         ring: &Ring<'a>,
@@ -195,73 +160,93 @@ impl<'a> Finder<'_, 'a> {
         let Some(next) = self.behind(edge) else {
             return false;
         };
-        let is_inner = names_inner(self.known, ring.head, ring.last, &next.calls)
-            || names_inner(self.known, ring.head, ring.last, &next.instructions);
         if is_first {
             all.add(&next);
         } else {
             all.raise(self.known, ring.head, &next);
         }
-        edge.from == ring.head || !is_inner
+        edge.from == ring.head
+            || !names_inner(self.known, ring.head, ring.last, &next.calls)
+                && !names_inner(self.known, ring.head, ring.last, &next.instructions)
     }
 
-    /// Joins what is needed behind all edges out of a loop to nothing. Whether it is known, and whether all of them begin at the head.
-    fn join_exits(&self, ring: &Ring<'a>, all: &mut Need<'a>) -> (bool, bool) {
+    /// Joins what is needed behind all edges out of a loop to nothing. Whether all of them begin at the head; none where it is not known.
+    fn join_exits(&self, ring: &Ring<'a>, all: &mut Need<'a>) -> Option<bool> {
         let mut is_first = true;
         let mut is_tested_first = true;
         for edge in &self.known.edges {
             if ring.has(edge.from) && !ring.has(edge.to) {
                 if !self.join_exit(ring, *edge, is_first, all) {
-                    return (false, false);
+                    return None;
                 }
                 is_first = false;
                 is_tested_first = is_tested_first && edge.from == ring.head;
             }
         }
-        (true, is_tested_first)
+        Some(is_tested_first)
+    }
+
+    /// Adds what the instructions of a block do, and its terminator.
+    fn add_steps(&self, need: &mut Need<'a>, block: &Block) {
+        need.instructions.add_number(1);
+        for step in block.steps.as_slice() {
+            need.instructions.add_number(1);
+            if let Instruction::Call { callee, .. } = &step.instruction {
+                if callee.is_same(&self.known.function.name) {
+                    need.calls.add_number(1);
+                } else {
+                    let cost = cost_of(self.costs, callee.as_str());
+                    let cost = i128::try_from(cost).unwrap_or(i128::MAX);
+                    need.instructions.add_number(cost);
+                }
+            }
+        }
     }
 
     /// What is needed at the head of a loop: so many rounds, as the rank says, and what is needed behind it.
-    fn need_of_ring(&self, ring: &Ring<'a>) -> Option<Need<'a>> {
-        let Some(head) = block_at(self.known.function, ring.head) else {
-            return None;
-        };
+    fn need_of_ring(&self, ring: &Ring<'a>, head: &Block) -> Option<Need<'a>> {
         let mut need = Need::none(self.known.heap);
-        let (is_known, is_tested_first) = self.join_exits(ring, &mut need);
-        if is_tested_first {
-            need.add_steps(head.steps.as_slice(), &self.known.function.name, self.costs);
-        } else {
-            need.calls.add_number(ring.calls);
-            need.instructions.add_number(ring.instructions);
+        match self.join_exits(ring, &mut need) {
+            Some(true) => self.add_steps(&mut need, head),
+            Some(false) => {
+                need.calls.add_number(ring.calls);
+                need.instructions.add_number(ring.instructions);
+            }
+            None => return None,
         }
         ring.add_rounds(&mut need.calls, ring.calls);
         ring.add_rounds(&mut need.instructions, ring.instructions);
-        if is_known { Some(need) } else { None }
+        Some(need)
     }
 
     /// What a block needs by the edges behind it, if that is known.
-    fn need_behind(&self, block: usize) -> Option<Need<'a>> {
-        let function = self.known.function;
-        let Some(own) = block_at(function, block) else {
-            return None;
-        };
+    fn need_behind(&self, number: usize, block: &Block) -> Option<Need<'a>> {
         let mut need = Need::none(self.known.heap);
-        let is_known = self.join_all(block, &mut need);
-        need.add_steps(own.steps.as_slice(), &function.name, self.costs);
-        if is_known { Some(need) } else { None }
+        if self.join_all(number, &mut need) {
+            self.add_steps(&mut need, block);
+            Some(need)
+        } else {
+            None
+        }
     }
 
     /// What a block needs. None where that is not known, or no form of its start's registers.
-    fn need(&self, block: usize) -> Option<Need<'a>> {
-        let need = match ring_at(self.rings, block) {
-            Some(ring) => self.need_of_ring(ring),
-            None => self.need_behind(block),
+    fn need(&self, number: usize) -> Option<Need<'a>> {
+        let Some(block) = block_at(self.known.function, number) else {
+            return None;
         };
-        let is_form = match &need {
-            Some(need) => need.calls.is_form() && need.instructions.is_form(),
-            None => false,
+        let found = match ring_at(self.rings, number) {
+            Some(ring) => self.need_of_ring(ring, block),
+            None => self.need_behind(number, block),
         };
-        if is_form { need } else { None }
+        let Some(need) = found else {
+            return None;
+        };
+        if need.calls.is_form() && need.instructions.is_form() {
+            Some(need)
+        } else {
+            None
+        }
     }
 
     /// Finds what a block needs, if that is not known yet; whether it was found.
@@ -287,7 +272,7 @@ impl<'a> Finder<'_, 'a> {
     }
 
     /// Round after round until nothing new is found.
-    fn draw_until_known(&mut self)  {
+    fn draw_until_known(&mut self) {
         for _round in 0..self.lefts.len() {
             if !self.draw_all() {
                 return;
@@ -296,10 +281,10 @@ impl<'a> Finder<'_, 'a> {
     }
 
     /// Begins with what the lines of the blocks say.
-    fn begin(&mut self)  {
+    fn begin(&mut self) {
         for block in self.known.function.blocks.as_slice() {
             let given = given(self.known.heap, block);
-            self.lefts.push(given);
+            self.known.heap.push(&mut self.lefts, given);
         }
     }
 }
@@ -315,11 +300,7 @@ fn ring_at<'w, 'a>(rings: &'w [Ring<'a>], head: usize) -> Option<&'w Ring<'a>> {
 }
 
 /// The greatest number that a sum may come to at a block.
-fn greatest_at<'a>(
-    known: &Known<'a>,
-    block: usize,
-    sum: &Sum<'a>,
-) -> Option<i128> {
+fn greatest_at<'a>(known: &Known<'a>, block: usize, sum: &Sum<'a>) -> Option<i128> {
     match sum.as_number() {
         Some(number) => Some(number),
         None => {
@@ -347,11 +328,18 @@ fn round_need<'w, 'a>(
     };
     for block in 0..known.function.blocks.len() {
         let is_asked = block != ring.head && ring.has(block);
-        let left = Need::none(known.heap);
-        finder.lefts.push(if is_asked { None } else { Some(left) });
+        let left = if is_asked {
+            None
+        } else {
+            Some(Need::none(known.heap))
+        };
+        known.heap.push(&mut finder.lefts, left);
     }
     finder.draw_until_known();
-    finder.need_behind(ring.head)
+    match block_at(known.function, ring.head) {
+        Some(head) => finder.need_behind(ring.head, head),
+        None => None,
+    }
 }
 
 /// Counts what a round needs. Whether that is known.
@@ -381,7 +369,7 @@ fn rings_of<'a>(known: &Known<'a>, costs: &[(&'a str, u128)]) -> Vec<Ring<'a>> {
     for head in (0..count).rev() {
         if let Some(mut ring) = ring_of(known, head) {
             if count_round(known, costs, rings.as_slice(), &mut ring) {
-                rings.push(ring);
+                known.heap.push(&mut rings, ring);
             }
         }
     }
@@ -418,10 +406,7 @@ fn needs_by<'w, 'a>(
 }
 
 /// What each block needs: what its line says, and where it has none what follows, from the ends back. None where that is not known.
-pub fn needs_of<'a>(
-    known: &Known<'a>,
-    costs: &[(&'a str, u128)],
-) -> Vec<Option<Need<'a>>> {
+pub fn needs_of<'a>(known: &Known<'a>, costs: &[(&'a str, u128)]) -> Vec<Option<Need<'a>>> {
     let rings = rings_of(known, costs);
     needs_by(known, costs, rings.as_slice())
 }

@@ -1,7 +1,7 @@
 //! What a function may use in all, by what is left at its entry.
 
 use crate::left::Need;
-use annotate_sums::{Sum, greatest};
+use annotate_facts::{Heap, Sum, greatest};
 use syntax::Function;
 
 /// Self calls and instructions, as numbers.
@@ -22,6 +22,14 @@ impl Total {
                 instructions,
             }),
             _ => None,
+        }
+    }
+
+    /// What is left at the entry, where that is the whole budget.
+    pub fn as_need(self, heap: &Heap) -> Need<'_> {
+        Need {
+            calls: Sum::number(heap, i128::from(self.self_calls)),
+            instructions: Sum::number(heap, i128::from(self.instructions)),
         }
     }
 
