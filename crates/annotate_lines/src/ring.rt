@@ -1,8 +1,7 @@
 //! Loops that a counter leads round: what falls each time, and what a round needs.
 
 use annotate_facts::{
-    Edge, Known, Sum, block_at, definition_in, definition_of, greatest_apart, last_of, names_own,
-    phi_value,
+    Edge, Known, Sum, block_at, greatest_apart, last_of, names_own, phi_value, value_of,
 };
 use syntax::{Block, Function, Operand};
 
@@ -50,13 +49,12 @@ pub fn names_inner(known: &Known<'_>, head: usize, last: usize, sum: &Sum<'_>) -
 /// Adds what a phi takes next so many times, by what its instruction makes of it.
 fn add_next<'a>(known: &Known<'a>, fall: &mut Sum<'a>, value: &'a Operand, times: i128) {
     if let Operand::Register(next) = value {
-        if let Some(instruction) = definition_in(known.function, next.as_str()) {
-            if let Some(sum) = definition_of(known.heap, instruction) {
-                return fall.add(&sum, times);
-            }
+        if let Some(sum) = value_of(known.heap, known.function, next.as_str()) {
+            fall.add(&sum, times);
+            return;
         }
     }
-    fall.add_operand(value, times)
+    fall.add_operand(value, times);
 }
 
 /// By how much a sum at the head falls along an edge that leads back from this block.

@@ -128,8 +128,11 @@ impl<'a> Walk<'a> {
         if let Some(number) = sum.as_number() {
             return number >= 0;
         }
-        let facts = self.facts.as_slice();
-        match lines_between(self.scope.heap, facts, sum, is_stated, &mut self.effort) {
+        let heap = self.scope.heap;
+        let mut effort = self.effort;
+        let found = lines_between(heap, self.facts.as_slice(), sum, is_stated, &mut effort);
+        self.effort = effort;
+        match found {
             Some(lines) => {
                 self.tell_all(lines);
                 true
