@@ -72,16 +72,16 @@ fn stop_for_memory(rt: &impl Print) -> Status {
 
 /// Prints why words are no request, and answers the status.
 fn refuse_words(rt: &(impl Print + Eprint), fault: &WordsFault) -> Status {
-    match &fault.text {
-        Some(text) if fault.is_asked => match rt.print(text) {
+    match fault {
+        WordsFault::Asked(text) => match rt.print(text) {
             Ok(()) => Status::Done,
             Err(_) => Status::Stream,
         },
-        Some(text) => {
+        WordsFault::Told(text) => {
             let _ = rt.eprint(text);
             Status::Words
         }
-        None => stop_for_memory(rt),
+        WordsFault::OutOfMemory => stop_for_memory(rt),
     }
 }
 

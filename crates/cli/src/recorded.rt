@@ -1,6 +1,7 @@
 //! Runs on threads of which more is told than the answer.
 
 use crate::clocks::microseconds_since;
+use buffers::ListBuffer;
 use cli_answers::{
     Beside, Course, Crew, Effort, Event, Job, Machine, Status, prepared, print_run,
     print_unprepared, tell_course,
@@ -59,7 +60,7 @@ impl Course for Kept<'_> {
 
 /// What each worker did beside its events.
 fn efforts_of(alloc: Global, figures: &[Figures]) -> Result<Vec<Effort>, AllocError> {
-    let mut efforts = Vec::new(alloc);
+    let mut efforts = ListBuffer::new(alloc);
     for worker in figures {
         efforts.push(Effort {
             strands: worker.strands,
@@ -70,9 +71,9 @@ fn efforts_of(alloc: Global, figures: &[Figures]) -> Result<Vec<Effort>, AllocEr
             at_full_logs: worker.at_full_logs,
             at_limits: worker.at_limits,
             for_others: worker.for_others,
-        })?;
+        });
     }
-    Ok(efforts)
+    efforts.finish()
 }
 
 /// Tells of a run that was recorded: its events are done once more.

@@ -1,9 +1,9 @@
 //! How long runs on threads take by the number of their workers.
 
 use crate::clocks::microseconds_since;
+use buffers::TextBuffer;
 use cli_answers::{Beside, Finished, Job, Status, prepared, print_run, print_unprepared};
 use deque_pool::OpenGate;
-use std::alloc::AllocError;
 use std::io;
 use std::io::Write;
 use std::sync::Wait;
@@ -49,14 +49,14 @@ fn run_least<T: Threads + Wait + Clock + Sync, W: Write>(
 }
 
 /// A row of the table: how much faster a run was than the first, with two digits behind the point.
-fn push_row(out: &mut String, workers: usize, took: u64, first: u64) -> Result<(), AllocError> {
+fn push_row(out: &mut TextBuffer, workers: usize, took: u64, first: u64) {
     let hundredths = first.saturating_mul(100) / took.max(1);
     let ones = hundredths / 100;
     let rest = hundredths % 100;
     writeln!(
         out,
         "workers {workers} microseconds {took} speedup {ones}.{rest:02}"
-    )
+    );
 }
 
 /// Times runs on each of the numbers of workers, and prints the answer and a table.
@@ -66,20 +66,21 @@ pub fn run_speedup<T: Threads + Wait + Clock + Sync, W: Write>(
     output: &mut W,
     beside: &mut Beside,
 ) -> io::Result<Status> {
-    let mut table = String::new(job.alloc);
+    let mut table = TextBuffer::new(job.alloc);
     let mut first = None;
     let mut answer = None;
     for workers in &job.request.speedup {
         match run_least(rt, job, *workers, output, beside)? {
             Ok((finished, took)) => {
                 let base = first.unwrap_or(took);
-                push_row(&mut table, *workers, took, base)?;
+                push_row(&mut table, *workers, took, base);
                 first = Some(base);
                 answer = finished;
             }
             Err(status) => return Ok(status),
         }
     }
+    let table = table.finish()?;
     if let Some(finished) = answer {
         print_run(job, &Ok(finished), output, beside)?;
     }

@@ -4,6 +4,7 @@ ghost use Rattle.program.specs.declared.function.Program.{Program};
 ghost use Rattle.serial_machine.specs.store.Made.{HasGlobalCells, IsMadeFor};
 
 use crate::job::Job;
+use buffers::ListBuffer;
 use cli_data::{DataFault, print_numbers, read_numbers, read_words, write_words};
 use cli_modules::{Beside, Dump, Status};
 use cli_words::{DataWord, DataWords, RowWord};
@@ -184,13 +185,13 @@ fn print_row<W: Write>(memory: &Memory, row: &RowWord, output: &mut W) -> io::Re
 
 /// The numbers of a global.
 fn numbers_of(alloc: Global, memory: &Memory, name: &str) -> Result<Vec<i64>, AllocError> {
-    let mut numbers = Vec::new(alloc);
+    let mut numbers = ListBuffer::new(alloc);
     if let Some((global, cells)) = memory.place_of(name) {
         for index in 0..cells {
-            numbers.push(memory.cell(GlobalId(global), index).unwrap_or(0))?;
+            numbers.push(memory.cell(GlobalId(global), index).unwrap_or(0));
         }
     }
-    Ok(numbers)
+    numbers.finish()
 }
 
 fn bytes_of(alloc: Global, numbers: &[i64], is_raw: bool) -> Result<Vec<u8>, AllocError> {

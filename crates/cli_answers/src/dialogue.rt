@@ -1,5 +1,6 @@
 //! The dialogue of `tapirvm debug`: a command a line, and a line in answer.
 
+use buffers::TextBuffer;
 use cli_modules::Status;
 use cli_words::is_name;
 use debugger::{Debugger, Status as Standing, TaskView, read_number, read_task};
@@ -70,13 +71,7 @@ fn read_command(alloc: Global, line: &[u8]) -> Result<Option<Command<'_>>, OutOf
     }
 }
 
-fn position_line(alloc: Global, debugger: &Debugger<'_>) -> Result<String, OutOfMemory> {
-    let position = debugger.position();
-    let length = debugger.len();
-    Ok(format!(in alloc; "at {position} of {length}\n")?)
-}
-
-fn push_standing(out: &mut String, standing: Standing) -> Result<(), AllocError> {
+fn push_standing(out: &mut TextBuffer, standing: Standing) {
     match standing {
         Standing::Running(worker) => write!(out, "running {worker}"),
         Standing::Ready => out.push_str("ready"),
@@ -85,67 +80,64 @@ fn push_standing(out: &mut String, standing: Standing) -> Result<(), AllocError>
 }
 
 /// How a task stands and where, or that there is none.
-fn push_task(out: &mut String, task: Option<TaskView<'_>>) -> Result<(), AllocError> {
+fn push_task(out: &mut TextBuffer, name: &str, task: Option<TaskView<'_>>) {
+    write!(out, "task {name} ");
     let Some(task) = task else {
-        return out.push_str("none\n");
+        out.push_str("none\n");
+        return;
     };
+    push_standing(out, task.status);
     let line = task.line;
-    push_standing(out, task.status)?;
-    writeln!(out, " line {line}")
+    writeln!(out, " line {line}");
 }
 
-fn task_line(
-    alloc: Global,
-    debugger: &Debugger<'_>,
-    name: &str,
-    path: &Path,
-) -> Result<String, OutOfMemory> {
-    let mut line = format!(in alloc; "task {name} ")?;
-    push_task(&mut line, debugger.show_task(path))?;
-    Ok(line)
-}
-
-fn cell_line(
-    alloc: Global,
-    debugger: &Debugger<'_>,
-    name: &str,
-    index: u64,
-) -> Result<String, OutOfMemory> {
-    match debugger.show_cell(name, index) {
-        Some(value) => Ok(format!(in alloc; "cell @{name}:{index} {value}\n")?),
-        None => Ok(String::from_str(alloc, "cell none\n")?),
+fn push_cell(out: &mut TextBuffer, name: &str, index: u64, value: Option<i64>) {
+    match value {
+        Some(value) => writeln!(out, "cell @{name}:{index} {value}"),
+        None => out.push_str("cell none\n"),
     }
 }
 
-/// Obeys a command that does not end the dialogue; the answer is the line to write.
+/// Obeys a command that does not end the dialogue, and adds the line that answers it.
 fn obey_command(
-    alloc: Global,
     debugger: &mut Debugger<'_>,
     command: &Command<'_>,
-) -> Result<String, OutOfMemory> {
+    out: &mut TextBuffer,
+) -> Result<(), OutOfMemory> {
     match command {
         Command::To(position) => debugger.to(*position as usize)?,
         Command::Forward => debugger.forward()?,
         Command::Back => debugger.back()?,
         Command::Break(line) => debugger.break_at(*line)?,
-        Command::Task { name, path } => return task_line(alloc, debugger, name, path),
-        Command::Cell { name, index } => return cell_line(alloc, debugger, name, *index),
+        Command::Task { name, path } => {
+            push_task(out, name, debugger.show_task(path));
+            return Ok(());
+        }
+        Command::Cell { name, index } => {
+            push_cell(out, name, *index, debugger.show_cell(name, *index));
+            return Ok(());
+        }
         Command::Quit => {}
     }
-    position_line(alloc, debugger)
+    let position = debugger.position();
+    let length = debugger.len();
+    writeln!(out, "at {position} of {length}");
+    Ok(())
 }
 
-/// Obeys a line; the answer is the line to write, and none at `quit`.
+/// Obeys a line, and adds the line that answers it; false at `quit`.
 fn obey(
     alloc: Global,
     debugger: &mut Debugger<'_>,
     line: &[u8],
-) -> Result<Option<String>, OutOfMemory> {
+    out: &mut TextBuffer,
+) -> Result<bool, OutOfMemory> {
     match read_command(alloc, line)? {
-        Some(Command::Quit) => Ok(None),
-        Some(command) => Ok(Some(obey_command(alloc, debugger, &command)?)),
-        None => Ok(Some(String::from_str(alloc, "unknown\n")?)),
+        Some(Command::Quit) => return Ok(false),
+        Some(command) => obey_command(debugger, &command, out)?,
+        None => out.push_str("unknown\n"),
     }
+    Ok(true)
 }
 
 /// The next line without its LF; none at the end. The last line may lack the LF.
@@ -165,9 +157,10 @@ fn answer_line<W: Write>(
     line: &[u8],
     output: &mut W,
 ) -> io::Result<bool> {
-    match obey(alloc, debugger, line) {
-        Ok(Some(answer)) => output.write_all(answer.as_bytes())?,
-        Ok(None) => return Ok(false),
+    let mut answer = TextBuffer::new(alloc);
+    match obey(alloc, debugger, line, &mut answer) {
+        Ok(true) => output.write_all(answer.finish()?.as_bytes())?,
+        Ok(false) => return Ok(false),
         Err(OutOfMemory) => return Err(io::Error::from(AllocError)),
     }
     output.flush()?;

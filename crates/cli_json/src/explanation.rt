@@ -3,6 +3,7 @@
 use crate::fault::{push_place, words_of};
 use crate::list::{push_member, push_separator, push_text};
 use crate::verdict::UNDECIDED;
+use buffers::TextBuffer;
 use explain::{Explanation, Finding};
 use explain_findings::line_at;
 use lists::OutOfMemory;
@@ -40,19 +41,20 @@ fn parted(line: &str) -> (Kind, &str) {
 /// The lines of this kind, as a list.
 fn push_kind(
     alloc: Global,
-    out: &mut String,
+    out: &mut TextBuffer,
     key: &str,
     notes: &str,
     kind: Kind,
 ) -> Result<(), AllocError> {
-    write!(out, ",\"{key}\":[")?;
+    write!(out, ",\"{key}\":[");
     for line in notes.lines() {
         let (its, text) = parted(line);
         if its == kind {
             push_text(alloc, out, text)?;
         }
     }
-    out.push_str("]")
+    out.push(']');
+    Ok(())
 }
 
 /// What there is to say of a fault, with the mends of its rule behind its own.
@@ -65,12 +67,12 @@ fn notes_of(alloc: Global, text: &str, finding: &Finding) -> Result<String, OutO
 
 fn push_fault(
     alloc: Global,
-    out: &mut String,
+    out: &mut TextBuffer,
     text: &str,
     finding: &Finding,
 ) -> Result<(), OutOfMemory> {
-    push_separator(out)?;
-    out.push_str("{")?;
+    push_separator(out);
+    out.push('{');
     push_place(alloc, out, text, finding.number, finding.line)?;
     let words = words_of(alloc, text, finding.number, finding.line)?;
     push_member(alloc, out, "words", words.as_str())?;
@@ -82,32 +84,33 @@ fn push_fault(
     push_kind(alloc, out, "facts", notes.as_str(), Kind::Fact)?;
     push_kind(alloc, out, "mends", notes.as_str(), Kind::Mend)?;
     push_kind(alloc, out, "notes", notes.as_str(), Kind::Note)?;
-    out.push_str("}")?;
+    out.push('}');
     Ok(())
 }
 
 fn push_faults(
     alloc: Global,
-    out: &mut String,
+    out: &mut TextBuffer,
     text: &str,
     first: &Finding,
     others: &[Finding],
 ) -> Result<(), OutOfMemory> {
-    out.push_str("{\"verdict\":\"refused\",\"faults\":[")?;
+    out.push_str("{\"verdict\":\"refused\",\"faults\":[");
     push_fault(alloc, out, text, first)?;
     for other in others {
         push_fault(alloc, out, text, other)?;
     }
-    out.push_str("]}\n")?;
+    out.push_str("]}\n");
     Ok(())
 }
 
-fn push_remarks(alloc: Global, out: &mut String, remarks: &str) -> Result<(), AllocError> {
-    out.push_str("{\"verdict\":\"accepted\",\"remarks\":[")?;
+fn push_remarks(alloc: Global, out: &mut TextBuffer, remarks: &str) -> Result<(), AllocError> {
+    out.push_str("{\"verdict\":\"accepted\",\"remarks\":[");
     for remark in remarks.lines() {
         push_text(alloc, out, remark.trim())?;
     }
-    out.push_str("]}\n")
+    out.push_str("]}\n");
+    Ok(())
 }
 
 /// An explanation of a text.
@@ -120,14 +123,14 @@ pub fn explanation_json(
     text: &[u8],
     explanation: &Explanation,
 ) -> Result<String, OutOfMemory> {
-    let mut out = String::new(alloc);
+    let mut out = TextBuffer::new(alloc);
     let text = str::from_utf8(text).unwrap_or("");
     match explanation {
         Explanation::Accepted { remarks } => push_remarks(alloc, &mut out, remarks.as_str())?,
         Explanation::Refused { first, others } => {
             push_faults(alloc, &mut out, text, first, others.as_slice())?
         }
-        Explanation::Undecided => out.push_str(UNDECIDED)?,
+        Explanation::Undecided => out.push_str(UNDECIDED),
     }
-    Ok(out)
+    Ok(out.finish()?)
 }

@@ -1,6 +1,7 @@
 //! A broken rule.
 
 use crate::list::push_member;
+use buffers::TextBuffer;
 use explain_findings::line_at;
 use lists::OutOfMemory;
 use rules::push_heads;
@@ -24,7 +25,7 @@ fn code_of(line: &str) -> &str {
 /// The number of the rule, the line that breaks it, its columns and its text: the first members of a fault.
 pub fn push_place(
     alloc: Global,
-    out: &mut String,
+    out: &mut TextBuffer,
     text: &str,
     number: u16,
     line: u32,
@@ -34,7 +35,7 @@ pub fn push_place(
     write!(
         out,
         "\"rule\":{number},\"line\":{line},\"columns\":[{first},{last}]"
-    )?;
+    );
     push_member(alloc, out, "text", broken.trim())
 }
 
@@ -44,10 +45,11 @@ pub fn words_of(alloc: Global, text: &str, number: u16, line: u32) -> Result<Str
     let mut heads = String::new(alloc);
     push_heads(&mut heads, number, broken)?;
     let head = heads.as_str().trim();
-    match head.split_once(": ") {
-        Some((_number, words)) => Ok(String::from_str(alloc, words)?),
-        None => Ok(String::from_str(alloc, head)?),
-    }
+    let words = match head.split_once(": ") {
+        Some((_number, words)) => words,
+        None => head,
+    };
+    Ok(String::from_str(alloc, words)?)
 }
 
 /// The verdict on a module that is refused.
@@ -62,10 +64,11 @@ pub fn refusal_json(
     line: u32,
 ) -> Result<String, OutOfMemory> {
     let text = str::from_utf8(text).unwrap_or("");
-    let mut out = String::from_str(alloc, "{\"verdict\":\"refused\",")?;
+    let mut out = TextBuffer::new(alloc);
+    out.push_str("{\"verdict\":\"refused\",");
     push_place(alloc, &mut out, text, number, line)?;
     let words = words_of(alloc, text, number, line)?;
     push_member(alloc, &mut out, "words", words.as_str())?;
-    out.push_str("}\n")?;
-    Ok(out)
+    out.push_str("}\n");
+    Ok(out.finish()?)
 }

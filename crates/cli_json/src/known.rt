@@ -1,8 +1,10 @@
 //! What the verifier knows of each block, from the lines that `show` prints.
 
 use crate::list::{push_member, push_separator, push_text};
+use buffers::TextBuffer;
 use lists::OutOfMemory;
 use std::alloc::{AllocError, Global};
+use std::mem;
 
 /// What stands around the line of a function or a block.
 #[derive(Clone, Copy, PartialEq, Eq)]
@@ -16,7 +18,7 @@ enum Inside {
 #[derive(Drop)]
 struct Reading {
     alloc: Global,
-    out: String,
+    out: TextBuffer,
     inside: Inside,
     lists: Lists,
 }
@@ -24,27 +26,43 @@ struct Reading {
 /// The lines of a block that may come more than once, each as the members of a list.
 #[derive(Drop)]
 struct Lists {
-    opened: String,
-    pending: String,
-    foot: String,
-    knows: String,
+    opened: TextBuffer,
+    pending: TextBuffer,
+    foot: TextBuffer,
+    knows: TextBuffer,
 }
 
-/// Closes a list, and opens it for the next block.
-fn close_list(out: &mut String, key: &str, list: &mut String) -> Result<(), AllocError> {
-    write!(out, ",\"{key}\":{list}]")?;
-    list.clear();
-    list.push_str("[")
+/// A list without members, which is not closed.
+fn open_list(alloc: Global) -> TextBuffer {
+    let mut list = TextBuffer::new(alloc);
+    list.push('[');
+    list
+}
+
+impl Lists {
+    fn open(alloc: Global) -> Lists {
+        Lists {
+            opened: open_list(alloc),
+            pending: open_list(alloc),
+            foot: open_list(alloc),
+            knows: open_list(alloc),
+        }
+    }
 }
 
 impl Reading {
-    /// Closes the block, with its lists.
+    /// Closes the block, with its lists, and opens these for the next one.
     fn close_block(&mut self) -> Result<(), AllocError> {
-        close_list(&mut self.out, "open", &mut self.lists.opened)?;
-        close_list(&mut self.out, "pending", &mut self.lists.pending)?;
-        close_list(&mut self.out, "foot", &mut self.lists.foot)?;
-        close_list(&mut self.out, "knows", &mut self.lists.knows)?;
-        self.out.push_str("}")
+        let lists = mem::replace(&mut self.lists, Lists::open(self.alloc));
+        let opened = lists.opened.finish()?;
+        let pending = lists.pending.finish()?;
+        let foot = lists.foot.finish()?;
+        let knows = lists.knows.finish()?;
+        write!(
+            self.out,
+            ",\"open\":{opened}],\"pending\":{pending}],\"foot\":{foot}],\"knows\":{knows}]}}"
+        );
+        Ok(())
     }
 
     /// Closes what is open, down to the module.
@@ -53,7 +71,7 @@ impl Reading {
             self.close_block()?;
         }
         if self.inside != Inside::Module {
-            self.out.push_str("]}")?;
+            self.out.push_str("]}");
         }
         self.inside = Inside::Module;
         Ok(())
@@ -63,12 +81,13 @@ impl Reading {
     fn function(&mut self, rest: &str) -> Result<(), AllocError> {
         self.close()?;
         let (name, line) = rest.split_once(" line ").unwrap_or((rest, "0"));
-        push_separator(&mut self.out)?;
+        push_separator(&mut self.out);
         self.inside = Inside::Function;
         write!(
             self.out,
             "{{\"name\":\"{name}\",\"line\":{line},\"blocks\":["
-        )
+        );
+        Ok(())
     }
 
     /// `block %b line 3`
@@ -77,9 +96,10 @@ impl Reading {
             self.close_block()?;
         }
         let (label, line) = rest.split_once(" line ").unwrap_or((rest, "0"));
-        push_separator(&mut self.out)?;
+        push_separator(&mut self.out);
         self.inside = Inside::Block;
-        write!(self.out, "{{\"label\":\"{label}\",\"line\":{line}")
+        write!(self.out, "{{\"label\":\"{label}\",\"line\":{line}");
+        Ok(())
     }
 
     /// A line of a block.
@@ -105,7 +125,7 @@ impl Reading {
 
     /// All functions.
     fn functions(&mut self, shown: &str) -> Result<(), AllocError> {
-        self.out.push_str(",\"functions\":[")?;
+        self.out.push_str(",\"functions\":[");
         for line in shown.lines() {
             let line = line.trim();
             match line.split_once(" ") {
@@ -114,57 +134,57 @@ impl Reading {
             }
         }
         self.close()?;
-        self.out.push_str("]")
-    }
-
-    /// `budget 14`, `depth 2`, `cells of frames 0 for each worker`
-    fn totals(&mut self, shown: &str) -> Result<(), AllocError> {
-        for line in shown.lines() {
-            if let Some(budget) = line.strip_prefix("budget ") {
-                write!(self.out, ",\"budget\":{budget}")?;
-            }
-            if let Some(depth) = line.strip_prefix("depth ") {
-                write!(self.out, ",\"depth\":{depth}")?;
-            }
-            if let Some(rest) = line.strip_prefix("cells of frames ") {
-                if let Some((cells, _)) = rest.split_once(" ") {
-                    write!(self.out, ",\"cells\":{cells}")?;
-                }
-            }
-        }
+        self.out.push(']');
         Ok(())
     }
 
-    /// `global @a cells 2`
-    fn globals(&mut self, shown: &str) -> Result<(), AllocError> {
-        self.out.push_str(",\"globals\":[")?;
+    /// `budget 14`, `depth 2`, `cells of frames 0 for each worker`
+    fn totals(&mut self, shown: &str) {
         for line in shown.lines() {
-            if let Some(rest) = line.strip_prefix("global ") {
-                if let Some((name, cells)) = rest.split_once(" cells ") {
-                    push_separator(&mut self.out)?;
-                    write!(self.out, "{{\"name\":\"{name}\",\"cells\":{cells}}}")?;
+            if let Some(budget) = line.strip_prefix("budget ") {
+                write!(self.out, ",\"budget\":{budget}");
+            }
+            if let Some(depth) = line.strip_prefix("depth ") {
+                write!(self.out, ",\"depth\":{depth}");
+            }
+            if let Some(rest) = line.strip_prefix("cells of frames ") {
+                if let Some((cells, _)) = rest.split_once(" ") {
+                    write!(self.out, ",\"cells\":{cells}");
                 }
             }
         }
-        self.out.push_str("]")
+    }
+
+    /// `global @a cells 2`
+    fn globals(&mut self, shown: &str) {
+        self.out.push_str(",\"globals\":[");
+        for line in shown.lines() {
+            if let Some(rest) = line.strip_prefix("global ") {
+                if let Some((name, cells)) = rest.split_once(" cells ") {
+                    push_separator(&mut self.out);
+                    write!(self.out, "{{\"name\":\"{name}\",\"cells\":{cells}}}");
+                }
+            }
+        }
+        self.out.push(']');
     }
 
     /// `argument %n from 0 to 100`: the ends are texts, since they may be past what readers of JSON keep.
-    fn arguments(&mut self, shown: &str) -> Result<(), AllocError> {
-        self.out.push_str(",\"arguments\":[")?;
+    fn arguments(&mut self, shown: &str) {
+        self.out.push_str(",\"arguments\":[");
         for line in shown.lines() {
             if let Some(rest) = line.strip_prefix("argument ") {
                 if let Some((name, range)) = rest.split_once(" from ") {
                     let (from, to) = range.split_once(" to ").unwrap_or((range, ""));
-                    push_separator(&mut self.out)?;
+                    push_separator(&mut self.out);
                     write!(
                         self.out,
                         "{{\"name\":\"{name}\",\"from\":\"{from}\",\"to\":\"{to}\"}}"
-                    )?;
+                    );
                 }
             }
         }
-        self.out.push_str("]")
+        self.out.push(']');
     }
 }
 
@@ -176,19 +196,15 @@ impl Reading {
 pub fn known_json(alloc: Global, shown: &str) -> Result<String, OutOfMemory> {
     let mut reading = Reading {
         alloc,
-        out: String::from_str(alloc, "{\"verdict\":\"accepted\"")?,
+        out: TextBuffer::new(alloc),
         inside: Inside::Module,
-        lists: Lists {
-            opened: String::from_str(alloc, "[")?,
-            pending: String::from_str(alloc, "[")?,
-            foot: String::from_str(alloc, "[")?,
-            knows: String::from_str(alloc, "[")?,
-        },
+        lists: Lists::open(alloc),
     };
-    reading.totals(shown)?;
-    reading.globals(shown)?;
-    reading.arguments(shown)?;
+    reading.out.push_str("{\"verdict\":\"accepted\"");
+    reading.totals(shown);
+    reading.globals(shown);
+    reading.arguments(shown);
     reading.functions(shown)?;
-    reading.out.push_str("}\n")?;
-    Ok(reading.out)
+    reading.out.push_str("}\n");
+    Ok(reading.out.finish()?)
 }

@@ -1,13 +1,14 @@
 //! The verdict of `verify` on a module that is accepted.
 
 use crate::list::push_separator;
+use buffers::TextBuffer;
 use std::alloc::{AllocError, Global};
 use verifier::Verified;
 
 /// What is said where the effort is spent before a verdict.
 pub const UNDECIDED: &str = "{\"verdict\":\"undecided\"}\n";
 
-fn push_rows(out: &mut String, verified: &Verified, function: usize) -> Result<(), AllocError> {
+fn push_rows(out: &mut TextBuffer, verified: &Verified, function: usize) {
     let table = verified.table();
     for measure in 0..u64::MAX {
         let row = (
@@ -15,15 +16,14 @@ fn push_rows(out: &mut String, verified: &Verified, function: usize) -> Result<(
             table.depth(function, measure),
         );
         let (Some(cost), Some(depth)) = row else {
-            return Ok(());
+            return;
         };
-        push_separator(out)?;
+        push_separator(out);
         write!(
             out,
             "{{\"measure\":{measure},\"cost\":{cost},\"depth\":{depth}}}"
-        )?;
+        );
     }
-    Ok(())
 }
 
 /// Budget and depth, and the costs and depths of the function of this name and number where they are asked for.
@@ -38,14 +38,16 @@ pub fn accepted_json(
 ) -> Result<String, AllocError> {
     let budget = verified.budget();
     let depth = verified.depth();
-    let mut out = format!(in alloc;
+    let mut out = TextBuffer::new(alloc);
+    write!(
+        out,
         "{{\"verdict\":\"accepted\",\"budget\":{budget},\"depth\":{depth}"
-    )?;
+    );
     if let Some((name, function)) = table {
-        write!(out, ",\"table\":{{\"function\":\"@{name}\",\"rows\":[")?;
-        push_rows(&mut out, verified, function)?;
-        out.push_str("]}")?;
+        write!(out, ",\"table\":{{\"function\":\"@{name}\",\"rows\":[");
+        push_rows(&mut out, verified, function);
+        out.push_str("]}");
     }
-    out.push_str("}\n")?;
-    Ok(out)
+    out.push_str("}\n");
+    out.finish()
 }

@@ -60,16 +60,16 @@ impl Beside {
 
     /// Adds a line for standard error.
     pub fn note(&mut self, line: &str) -> Result<(), AllocError> {
-        self.push_error()?;
-        writeln!(self.notes, " {line}")
+        let error = self.error_word();
+        writeln!(self.notes, "{error} {line}")
     }
 
-    fn push_error(&mut self) -> Result<(), AllocError> {
-        self.notes.push_str(if self.has_colours {
+    fn error_word(&self) -> &'static str {
+        if self.has_colours {
             "\u{1b}[31merror:\u{1b}[0m"
         } else {
             "error:"
-        })
+        }
     }
 
     /// Adds a line for standard error that begins with a place in a file.
@@ -80,16 +80,14 @@ impl Beside {
         column: usize,
         what: &str,
     ) -> Result<(), AllocError> {
-        write!(self.notes, "{file}:{line}:{column}: ")?;
-        self.push_error()?;
-        writeln!(self.notes, " {what}")
+        let error = self.error_word();
+        writeln!(self.notes, "{file}:{line}:{column}: {error} {what}")
     }
 
     /// Adds a line for standard error that begins with a line of a file, so that editors find that.
     pub fn note_at(&mut self, file: &str, line: u64, what: &str) -> Result<(), AllocError> {
-        write!(self.notes, "{file}:{line}: ")?;
-        self.push_error()?;
-        writeln!(self.notes, " {what}")
+        let error = self.error_word();
+        writeln!(self.notes, "{file}:{line}: {error} {what}")
     }
 
     /// Keeps a text for the file that the word names.

@@ -1,6 +1,7 @@
 //! What is told of a text with lines put in, by the lines of the text without them.
 
 use annotate::NewLines;
+use buffers::TextBuffer;
 use std::alloc::{AllocError, Global};
 
 /// What a remark on a line begins with without which the module is accepted.
@@ -33,58 +34,53 @@ fn is_left_out(new: &NewLines, line: &str) -> bool {
 }
 
 /// Adds a word that stands behind the word `line`: the number of the own line in place of that of the text with more.
-fn push_number(
-    new: &NewLines,
-    word: &str,
-    is_note: bool,
-    out: &mut String,
-) -> Result<(), AllocError> {
+fn push_number(new: &NewLines, word: &str, is_note: bool, out: &mut TextBuffer) {
     let Some((number, rest)) = number_in(word) else {
-        return out.push_str(word);
+        out.push_str(word);
+        return;
     };
     let own = new.own_line(number);
-    write!(out, "{own}")?;
+    write!(out, "{own}");
     if is_note && new.has(number) {
-        out.push_str(" and put in")?;
+        out.push_str(" and put in");
     }
-    out.push_str(rest)
+    out.push_str(rest);
 }
 
 /// Adds a line of an explanation with the numbers of own lines.
-fn push_own(new: &NewLines, line: &str, out: &mut String) -> Result<(), AllocError> {
+fn push_own(new: &NewLines, line: &str, out: &mut TextBuffer) {
     let is_note = line.starts_with(" ");
     let mut is_number = false;
     for (place, word) in line.split(' ').enumerate() {
         if place > 0 {
-            out.push_str(" ")?;
+            out.push(' ');
         }
         if is_number {
-            push_number(new, word, is_note, out)?;
+            push_number(new, word, is_note, out);
         } else {
-            out.push_str(word)?;
+            out.push_str(word);
         }
         is_number = word == "line" || word == "(line";
     }
-    Ok(())
 }
 
-fn push_line(new: &NewLines, line: &str, out: &mut String) -> Result<(), AllocError> {
+fn push_line(new: &NewLines, line: &str, out: &mut TextBuffer) {
     if is_left_out(new, line) {
-        return Ok(());
+        return;
     }
     if line.starts_with(QUOTED) {
-        out.push_str(line)?;
+        out.push_str(line);
     } else {
-        push_own(new, line, out)?;
+        push_own(new, line, out);
     }
-    out.push_str("\n")
+    out.push('\n');
 }
 
 /// An explanation of a text with lines put in, by the lines of the text without them: what it says of a line that was put in names the own line before that.
 pub fn with_own_lines(alloc: Global, new: &NewLines, told: &str) -> Result<String, AllocError> {
-    let mut out = String::new(alloc);
+    let mut out = TextBuffer::new(alloc);
     for line in told.lines() {
-        push_line(new, line, &mut out)?;
+        push_line(new, line, &mut out);
     }
-    Ok(out)
+    out.finish()
 }

@@ -2,8 +2,9 @@
 
 use crate::command::{Command, read_command};
 use crate::help::HELP;
-use crate::paint::{Paint, push_painted};
+use crate::paint::{Colour, Paint};
 use crate::session::Session;
+use buffers::TextBuffer;
 use lists::OutOfMemory;
 use std::alloc::AllocError;
 use std::io;
@@ -18,22 +19,17 @@ enum Goes {
 
 impl Session<'_, '_> {
     /// Where the session stands now, and a note where what was looked for was not found.
-    fn push_arrival(
-        &self,
-        out: &mut String,
-        is_found: bool,
-        note: &str,
-    ) -> Result<(), OutOfMemory> {
+    fn push_arrival(&self, out: &mut TextBuffer, is_found: bool, note: &str) {
         if !is_found {
-            push_painted(out, self.has_colours, Paint::Mark, note)?;
-            out.push_str("\n")?;
+            let Colour { begins, ends } = self.colour(Paint::Mark);
+            writeln!(out, "{begins}{note}{ends}");
         }
-        self.push_where(out)?;
-        self.push_workers(out)
+        self.push_where(out);
+        self.push_workers(out);
     }
 
     /// Goes where a command asks to; false where it does not ask to go.
-    fn go(&mut self, out: &mut String, command: &Command<'_>) -> Result<bool, OutOfMemory> {
+    fn go(&mut self, out: &mut TextBuffer, command: &Command<'_>) -> Result<bool, OutOfMemory> {
         let mut note = "";
         let is_found = match command {
             Command::To(position) => {
@@ -66,30 +62,31 @@ impl Session<'_, '_> {
             }
             _ => return Ok(false),
         };
-        self.push_arrival(out, is_found, note)?;
+        self.push_arrival(out, is_found, note);
         Ok(true)
     }
 
     /// Shows what a command asks for.
-    fn show(&self, out: &mut String, command: &Command<'_>) -> Result<(), OutOfMemory> {
+    fn show(&self, out: &mut TextBuffer, command: &Command<'_>) -> Result<(), OutOfMemory> {
         match command {
+            Command::Tasks => return self.push_tasks(out),
+            Command::Frames => return self.push_frames(out),
+            Command::Registers(path) => return self.push_registers(out, path),
             Command::Where => self.push_where(out),
             Command::Workers => self.push_workers(out),
-            Command::Tasks => self.push_tasks(out),
-            Command::Frames => self.push_frames(out),
             Command::Task(path) => self.push_task(out, path),
-            Command::Registers(path) => self.push_registers(out, path),
             Command::Allocas(path) => self.push_allocas(out, path),
             Command::Cells { name, from, count } => self.push_cells(out, name, *from, *count),
             Command::List(line) => self.push_source(out, *line),
-            Command::Help => Ok(out.push_str(HELP)?),
-            Command::Lacks(what) => Ok(writeln!(out, "{what}")?),
-            _ => Ok(out.push_str("no such command; help lists them\n")?),
+            Command::Help => out.push_str(HELP),
+            Command::Lacks(what) => writeln!(out, "{what}"),
+            _ => out.push_str("no such command; help lists them\n"),
         }
+        Ok(())
     }
 
     /// Obeys a line.
-    fn obey(&mut self, out: &mut String, line: &str) -> Result<Goes, OutOfMemory> {
+    fn obey(&mut self, out: &mut TextBuffer, line: &str) -> Result<Goes, OutOfMemory> {
         let command = read_command(self.alloc, line)?;
         if matches!(&command, Command::Quit) {
             return Ok(Goes::Away);
@@ -123,11 +120,11 @@ impl Session<'_, '_> {
         if last.is_empty() {
             return Ok(Goes::On);
         }
-        let mut out = String::new(self.alloc);
+        let mut out = TextBuffer::new(self.alloc);
         let Ok(goes) = self.obey(&mut out, last.as_str()) else {
             return Err(io::Error::from(AllocError));
         };
-        output.write_all(out.as_bytes())?;
+        output.write_all(out.finish()?.as_bytes())?;
         Ok(goes)
     }
 

@@ -1,7 +1,5 @@
 //! Colours of a terminal.
 
-use std::alloc::AllocError;
-
 /// What a text is.
 #[derive(Clone, Copy)]
 pub enum Paint {
@@ -13,21 +11,33 @@ pub enum Paint {
     Mark,
 }
 
-/// Adds a text, in colour where there are colours.
-pub fn push_painted(
-    out: &mut String,
-    has_colours: bool,
-    paint: Paint,
-    text: &str,
-) -> Result<(), AllocError> {
-    if !has_colours {
-        return out.push_str(text);
+/// What stands before a text and behind it, so that it has a colour where there are colours.
+#[derive(Clone, Copy)]
+pub struct Colour {
+    pub begins: &'static str,
+    pub ends: &'static str,
+}
+
+impl Colour {
+    pub fn none() -> Colour {
+        Colour {
+            begins: "",
+            ends: "",
+        }
     }
-    out.push_str(match paint {
-        Paint::Path => "\u{1b}[36m",
-        Paint::Soft => "\u{1b}[2m",
-        Paint::Mark => "\u{1b}[33m",
-    })?;
-    out.push_str(text)?;
-    out.push_str("\u{1b}[0m")
+
+    pub fn of(paint: Paint, has_colours: bool) -> Colour {
+        if !has_colours {
+            return Colour::none();
+        }
+        let begins = match paint {
+            Paint::Path => "\u{1b}[36m",
+            Paint::Soft => "\u{1b}[2m",
+            Paint::Mark => "\u{1b}[33m",
+        };
+        Colour {
+            begins,
+            ends: "\u{1b}[0m",
+        }
+    }
 }

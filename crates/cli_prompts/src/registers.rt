@@ -2,10 +2,11 @@
 
 use crate::session::Session;
 use crate::values::registers_with_values;
+use buffers::TextBuffer;
 use frame::{Path, Role};
 use lists::OutOfMemory;
 use view_events::ThingName;
-use view_moments::{Settings, Value};
+use view_moments::Value;
 use view_traces::Objects;
 
 impl Session<'_, '_> {
@@ -24,40 +25,36 @@ impl Session<'_, '_> {
         Ok(objects)
     }
 
-    fn push_value(&self, out: &mut String, value: &Value) -> Result<(), OutOfMemory> {
+    fn push_value(&self, out: &mut TextBuffer, value: &Value) {
         match value {
-            Value::Number(number) => writeln!(out, "{number}")?,
-            Value::Truth(truth) => writeln!(out, "{truth}")?,
+            Value::Number(number) => writeln!(out, "{number}"),
+            Value::Truth(truth) => writeln!(out, "{truth}"),
             Value::Pointer(cell) => {
                 let thing = ThingName {
                     names: self.names,
                     thing: &cell.thing,
                 };
                 let index = cell.index;
-                writeln!(out, "{thing}:{index}")?;
+                writeln!(out, "{thing}:{index}");
             }
         }
-        Ok(())
-    }
-
-    fn push_settings(&self, out: &mut String, settings: &Settings) -> Result<(), OutOfMemory> {
-        for setting in &settings.list {
-            let name = self.names.register(settings.function, setting.register);
-            write!(out, "%{name} ")?;
-            self.push_value(out, &setting.value)?;
-        }
-        Ok(())
     }
 
     /// The registers of a frame that have values, but for regions.
-    pub fn push_registers(&self, out: &mut String, path: &Path) -> Result<(), OutOfMemory> {
+    pub fn push_registers(&self, out: &mut TextBuffer, path: &Path) -> Result<(), OutOfMemory> {
         let Some(view) = self.debugger.show_frame(path) else {
-            return self.push_missing(out, "frame", path);
+            self.push_missing(out, "frame", path);
+            return Ok(());
         };
         let program = self.names.program();
         let registers = registers_with_values(self.alloc, program, view.frame)?;
         let objects = self.objects()?;
         let settings = objects.settings(program, view.frame, registers.as_slice())?;
-        self.push_settings(out, &settings)
+        for setting in &settings.list {
+            let name = self.names.register(settings.function, setting.register);
+            write!(out, "%{name} ");
+            self.push_value(out, &setting.value);
+        }
+        Ok(())
     }
 }

@@ -2,10 +2,12 @@
 
 ghost use Rattle.std.specs.Prelude.{◌≤◌, length};
 
+use crate::paint::{Colour, Paint};
+use buffers::TextBuffer;
 use debugger::{Debugger, Event, TaskView, Verified};
 use frame::Path;
 use lists::OutOfMemory;
-use std::alloc::{AllocError, Global};
+use std::alloc::Global;
 use view_events::Names;
 use view_moments::TaskName;
 
@@ -23,6 +25,10 @@ pub struct Session<'s, 'v> {
 }
 
 impl Session<'_, '_> {
+    pub fn colour(&self, paint: Paint) -> Colour {
+        Colour::of(paint, self.has_colours)
+    }
+
     /// A line of the module, without blanks around and without its comment.
     pub fn source(&self, line: u32) -> &str {
         let index = (line as usize).saturating_sub(1);
@@ -65,7 +71,7 @@ fn place_for(sorted: &[Path], path: &Path) -> usize
 }
 
 /// An event in words.
-pub fn push_event(out: &mut String, event: &Event) -> Result<(), AllocError> {
+pub fn push_event(out: &mut TextBuffer, event: &Event) {
     match event {
         Event::Step(worker) => write!(out, "step {worker}"),
         Event::Steal(worker, task) => {

@@ -1,8 +1,8 @@
 //! The source around a line.
 
-use crate::paint::{Paint, push_painted};
+use crate::paint::{Colour, Paint};
 use crate::session::Session;
-use lists::OutOfMemory;
+use buffers::TextBuffer;
 
 /// How many lines are shown before and after a line.
 const AROUND: u64 = 6;
@@ -18,48 +18,48 @@ impl Session<'_, '_> {
         1
     }
 
-    /// The workers that stand on the line.
-    fn push_workers_at(&self, out: &mut String, line: u64) -> Result<(), OutOfMemory> {
-        for worker in 0..self.workers {
-            if let Some(view) = self.worker(worker as u64) {
-                if u64::from(view.line) == line {
-                    write!(out, "  <- worker {worker}")?;
-                }
-            }
+    /// Whether a worker's next instruction stands on the line.
+    fn stands_at(&self, worker: usize, line: u64) -> bool {
+        match self.worker(worker as u64) {
+            Some(view) => u64::from(view.line) == line,
+            None => false,
         }
-        Ok(())
     }
 
-    fn push_source_line(&self, out: &mut String, line: u64) -> Result<(), OutOfMemory> {
+    /// The colour of a line of the source: that of a comment, or of a line where a worker stands.
+    fn line_colour(&self, text: &str, line: u64) -> Colour {
+        if text.trim().starts_with(";") {
+            return self.colour(Paint::Soft);
+        }
+        for worker in 0..self.workers {
+            if self.stands_at(worker, line) {
+                return self.colour(Paint::Mark);
+            }
+        }
+        Colour::none()
+    }
+
+    fn push_source_line(&self, out: &mut TextBuffer, line: u64) {
         let index = (line as usize).saturating_sub(1);
         let Some(text) = self.lines.get(index) else {
-            return Ok(());
+            return;
         };
-        let mut beside = String::new(self.alloc);
-        self.push_workers_at(&mut beside, line)?;
-        let row = format!(in self.alloc; "{line:5} {text}")?;
-        let paint = if text.trim().starts_with(";") {
-            Paint::Soft
-        } else {
-            Paint::Mark
-        };
-        let is_plain = beside.is_empty() && matches!(paint, Paint::Mark);
-        push_painted(out, self.has_colours && !is_plain, paint, row.as_str())?;
-        out.push_str(beside.as_str())?;
-        out.push_str("\n")?;
-        Ok(())
+        let Colour { begins, ends } = self.line_colour(text, line);
+        write!(out, "{begins}{line:5} {text}{ends}");
+        for worker in 0..self.workers {
+            if self.stands_at(worker, line) {
+                write!(out, "  <- worker {worker}");
+            }
+        }
+        out.push('\n');
     }
 
     /// The source around the line, or around the first worker's.
-    pub fn push_source(&self, out: &mut String, line: Option<u64>) -> Result<(), OutOfMemory> {
-        let middle = match line {
-            Some(line) => line,
-            None => self.first_line(),
-        };
+    pub fn push_source(&self, out: &mut TextBuffer, line: Option<u64>) {
+        let middle = line.unwrap_or(self.first_line());
         let first = middle.saturating_sub(AROUND).max(1);
         for line in first..=middle.saturating_add(AROUND) {
-            self.push_source_line(out, line)?;
+            self.push_source_line(out, line);
         }
-        Ok(())
     }
 }

@@ -1,8 +1,8 @@
 //! The command line as `clap` parses it, made from the table of commands.
 
+use crate::options::fault_with;
 use crate::request::{Verb, WordsFault};
-use crate::table::{ABOUT, DIALOGUE, Given, Part, STATUSES, VERBS, about_of, example_of, parts_of};
-use crate::values::fault_with;
+use crate::table::{ABOUT, Given, Part, STATUSES, VERBS, row_of};
 use crate::version::VERSION_LINES;
 use clap::error::ErrorKind;
 use clap::{Arg, ArgAction, Command, Error};
@@ -33,66 +33,30 @@ fn arg_of<'a>(alloc: Global, part: &Part) -> Result<Arg<'a>, AllocError> {
     }
 }
 
-fn args_for<'a>(alloc: Global, parts: &[Part]) -> Result<Vec<Arg<'a>>, AllocError> {
-    let mut args = Vec::new(alloc);
-    for part in parts {
-        args.push(arg_of(alloc, part)?)?;
-    }
-    Ok(args)
-}
-
 /// The command of a verb.
-fn verb_command<'a>(alloc: Global, verb: Verb, ending: &'a str) -> Result<Command<'a>, AllocError> {
-    let args = args_for(alloc, parts_of(verb))?;
+fn verb_command<'a>(alloc: Global, verb: Verb) -> Result<Command<'a>, AllocError> {
+    let row = row_of(verb);
     let name: &'a str = verb.word();
-    let about: &'a str = about_of(verb);
-    Command::new(alloc, name)
-        .about(about)
-        .after_help(ending)
-        .args(args)
-}
-
-/// How the help of each verb ends, in their order.
-pub(crate) fn endings(alloc: Global) -> Result<Vec<String>, AllocError> {
-    let mut endings = Vec::new(alloc);
-    for verb in VERBS {
-        endings.push(ending_of(alloc, verb)?)?;
+    let about: &'a str = row.about;
+    let ending: &'a str = row.calls.ending;
+    let mut command = Command::new(alloc, name).about(about).after_help(ending);
+    for part in row.parts {
+        command = command.arg(arg_of(alloc, part)?)?;
     }
-    Ok(endings)
-}
-
-/// An example and the statuses; of the dialogue its commands.
-fn ending_of(alloc: Global, verb: Verb) -> Result<String, AllocError> {
-    if verb == Verb::Debug {
-        return String::from_str(alloc, DIALOGUE);
-    }
-    let mut ending = String::from_str(alloc, "Example:\n")?;
-    for line in example_of(verb).lines() {
-        writeln!(ending, "  {line}")?;
-    }
-    ending.push_str("\n")?;
-    ending.push_str(STATUSES)?;
-    Ok(ending)
-}
-
-/// The commands of the verbs, in their order.
-fn verb_commands<'a>(alloc: Global, endings: &'a [String]) -> Result<Vec<Command<'a>>, AllocError> {
-    let mut commands = Vec::new(alloc);
-    for (verb, ending) in VERBS.iter().zip(endings) {
-        commands.push(verb_command(alloc, *verb, ending.as_str())?)?;
-    }
-    Ok(commands)
+    Ok(command)
 }
 
 /// The program's command.
-pub(crate) fn command<'a>(alloc: Global, endings: &'a [String]) -> Result<Command<'a>, AllocError> {
-    let commands = verb_commands(alloc, endings)?;
-    Command::new(alloc, "tapirvm")
+pub(crate) fn command<'a>(alloc: Global) -> Result<Command<'a>, AllocError> {
+    let mut command = Command::new(alloc, "tapirvm")
         .about(ABOUT)
         .version(VERSION_LINES)
         .after_help(STATUSES)
-        .subcommand_required(true)
-        .subcommands(commands)
+        .subcommand_required(true);
+    for verb in VERBS {
+        command = command.subcommand(verb_command(alloc, verb)?)?;
+    }
+    Ok(command)
 }
 
 /// What clap says, with a tip that works for a number below 0.
@@ -107,10 +71,10 @@ fn told(alloc: Global, error: &Error) -> Result<String, AllocError> {
 /// The fault of words that clap does not take.
 pub(crate) fn fault_of(alloc: Global, error: Error) -> WordsFault {
     match error.kind() {
-        ErrorKind::OutOfMemory => WordsFault::out_of_memory(),
+        ErrorKind::OutOfMemory => WordsFault::OutOfMemory,
         ErrorKind::DisplayVersion => match told(alloc, &error) {
-            Ok(text) => WordsFault::asked(text),
-            Err(_) => WordsFault::out_of_memory(),
+            Ok(text) => WordsFault::Asked(text),
+            Err(AllocError) => WordsFault::OutOfMemory,
         },
         _ => fault_with(told(alloc, &error)),
     }

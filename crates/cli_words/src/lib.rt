@@ -4,23 +4,23 @@
 //! ([`text_of`]) and a word again where a file is opened ([`bytes_of`]).
 #![tactic(auto)]
 
-mod annotating;
 mod command;
-mod data;
 mod manual_page;
+mod names;
+mod options;
 mod parsing;
 mod request;
 mod shells;
 mod table;
-mod values;
 mod version;
 mod word;
 
-pub use annotating::Annotating;
-pub use data::{DataWord, DataWords, RowWord};
 pub use manual_page::manual;
+pub use names::is_name;
 pub use parsing::words;
-pub use request::{CellWord, Dialogue, Request, Setting, Shell, Telling, Verb, WordsFault};
+pub use request::{
+    Annotating, CellWord, DataWord, DataWords, Dialogue, Request, RowWord, Setting, Shell, Telling,
+    Verb, WordsFault,
+};
 pub use shells::completions;
-pub use values::is_name;
 pub use word::{bytes_of, is_raw, text_of};

@@ -1,9 +1,7 @@
 ghost use Rattle.std.specs.Prelude.{◌≡◌};
 ghost use Rattle.cli_words.specs.Asked.{word_of};
 
-use crate::annotating::Annotating;
-use crate::data::DataWords;
-use std::alloc::{AllocError, AllocFailed, Global};
+use std::alloc::AllocError;
 
 /// What the program is asked to do.
 #[derive(Clone, Copy, PartialEq, Eq)]
@@ -76,6 +74,47 @@ pub struct Setting {
     pub value: i64,
 }
 
+/// A global, and the file that its numbers come from or go to.
+#[derive(Drop)]
+pub struct DataWord {
+    /// The global's name without `@`.
+    pub name: String,
+    /// The word that names the file.
+    pub file: String,
+    /// What the file holds, once it was read.
+    pub bytes: Option<Vec<u8>>,
+}
+
+/// Cells of a global, one after another.
+#[derive(Drop)]
+pub struct RowWord {
+    /// The global's name without `@`.
+    pub name: String,
+    pub first: u64,
+    pub count: u64,
+}
+
+/// What is read into globals before a run, and written from them after it.
+#[derive(Drop)]
+pub struct DataWords {
+    pub load: Vec<DataWord>,
+    pub dump: Vec<DataWord>,
+    /// Whether files hold words of eight bytes in place of decimal numbers.
+    pub is_raw: bool,
+    pub rows: Vec<RowWord>,
+}
+
+/// What is to be done with annotations that follow from others.
+#[derive(Clone, Copy)]
+pub struct Annotating {
+    /// Whether they are put in before the module is judged.
+    pub puts_in: bool,
+    /// Whether those are taken out that the module can do without.
+    pub takes_out: bool,
+    /// Whether the text goes into the module's file, and not to standard output.
+    pub writes: bool,
+}
+
 /// The words of a command line, read.
 pub struct Request {
     pub verb: Verb,
@@ -140,37 +179,6 @@ impl Drop for Request {
     }
 }
 
-impl Request {
-    /// A request for a module, without options.
-    pub(crate) fn of_file(alloc: Global, verb: Verb, file: String) -> Request
-        ensures { result.verb ≡ verb }
-    {
-        Request {
-            verb,
-            file,
-            schedule: None,
-            workers: 1,
-            speedup: Vec::new(alloc),
-            args: Vec::new(alloc),
-            set: Vec::new(alloc),
-            show: Vec::new(alloc),
-            data: DataWords::nothing(alloc),
-            is_timed: false,
-            dialogue: Dialogue {
-                is_for_people: false,
-                has_colours: false,
-            },
-            table: None,
-            annotating: Annotating::nothing(),
-            effort: None,
-            rule: None,
-            shell: None,
-            is_json: false,
-            telling: Telling::nothing(),
-        }
-    }
-}
-
 /// Whom a dialogue is for.
 #[derive(Clone, Copy)]
 pub struct Dialogue {
@@ -197,71 +205,35 @@ pub struct Telling {
 }
 
 impl Telling {
-    pub fn nothing() -> Telling {
-        Telling {
-            trace: false,
-            stats: false,
-            seed: None,
-            save: None,
-            picture: None,
-            json: None,
-            page: None,
-        }
-    }
-
     /// Whether anything is told of a run's events, or they are drawn.
-    pub fn is_any(&self) -> bool {
-        let is_written = self.save.is_some() || self.picture.is_some();
-        let is_listed = self.json.is_some() || self.page.is_some();
-        self.trace || self.stats || self.seed.is_some() || is_written || is_listed
+    pub(crate) fn is_any(&self) -> bool {
+        !matches!(
+            self,
+            Telling {
+                trace: false,
+                stats: false,
+                seed: None,
+                save: None,
+                picture: None,
+                json: None,
+                page: None,
+            }
+        )
     }
 }
 
-/// Why words are no request: a text for the user, or that memory was refused.
+/// Why words are no request.
 #[derive(Drop)]
-pub struct WordsFault {
-    /// Empty where memory was refused.
-    pub text: Option<String>,
-    pub memory: bool,
-    /// Whether the text is what was asked for, and no fault.
-    pub is_asked: bool,
-}
-
-impl WordsFault {
-    pub fn told(text: String) -> WordsFault {
-        WordsFault {
-            text: Some(text),
-            memory: false,
-            is_asked: false,
-        }
-    }
-
-    /// What the words ask for instead of a request.
-    pub fn asked(text: String) -> WordsFault {
-        WordsFault {
-            text: Some(text),
-            memory: false,
-            is_asked: true,
-        }
-    }
-
-    pub fn out_of_memory() -> WordsFault {
-        WordsFault {
-            text: None,
-            memory: true,
-            is_asked: false,
-        }
-    }
+pub enum WordsFault {
+    /// What is wrong with them.
+    Told(String),
+    /// They ask for this text, and it is no fault.
+    Asked(String),
+    OutOfMemory,
 }
 
 impl From<AllocError> for WordsFault {
     fn from(_error: AllocError) -> WordsFault {
-        WordsFault::out_of_memory()
-    }
-}
-
-impl<T: Drop> From<AllocFailed<T>> for WordsFault {
-    fn from(_error: AllocFailed<T>) -> WordsFault {
-        WordsFault::out_of_memory()
+        WordsFault::OutOfMemory
     }
 }

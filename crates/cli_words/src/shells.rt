@@ -1,49 +1,31 @@
 //! Scripts that complete the program's words in a shell, written from the table of its commands.
 
 use crate::request::{Shell, Verb};
-use crate::table::{Given, Part, VERBS, about_of, parts_of};
+use crate::table::{Given, Part, VERBS, row_of};
+use buffers::TextBuffer;
 use std::alloc::{AllocError, Global};
 
-/// Whether a part is an option, and so one of the words that begin with `--`.
-fn is_option(part: &Part) -> bool {
-    !matches!(part.given, Given::Word)
-}
-
-/// Whether an option takes a value.
-fn has_value(part: &Part) -> bool {
-    !matches!(part.given, Given::Flag)
-}
-
-fn push_verbs(out: &mut String) -> Result<(), AllocError> {
+fn push_words(out: &mut TextBuffer) {
     for verb in VERBS {
-        out.push_str(verb.word())?;
-        out.push_str(" ")?;
+        out.push_str(verb.word());
+        out.push(' ');
     }
-    Ok(())
 }
 
-/// The options of a verb, each with `--`.
-fn push_options(out: &mut String, verb: Verb) -> Result<(), AllocError> {
-    for part in parts_of(verb) {
-        if is_option(part) {
+/// The case of a command, with its options.
+fn push_bash_case(out: &mut TextBuffer, verb: Verb) {
+    let word = verb.word();
+    write!(out, "            {word}) words=\"");
+    for part in row_of(verb).parts {
+        if !matches!(part.given, Given::Word) {
             let name = part.name;
-            write!(out, "--{name} ")?;
+            write!(out, "--{name} ");
         }
     }
-    out.push_str("--help")
+    out.push_str("--help\" ;;\n");
 }
 
-fn push_bash_cases(out: &mut String) -> Result<(), AllocError> {
-    for verb in VERBS {
-        let word = verb.word();
-        write!(out, "            {word}) words=\"")?;
-        push_options(out, verb)?;
-        out.push_str("\" ;;\n")?;
-    }
-    Ok(())
-}
-
-fn push_bash(out: &mut String) -> Result<(), AllocError> {
+fn push_bash(out: &mut TextBuffer) {
     out.push_str(
         "# Completes the words of tapirvm in bash: source <(tapirvm completions bash)
 _tapirvm() {
@@ -51,15 +33,17 @@ _tapirvm() {
     COMPREPLY=()
     if [ \"$COMP_CWORD\" = 1 ]; then
         words=\"",
-    )?;
-    push_verbs(out)?;
+    );
+    push_words(out);
     out.push_str(
         "help --help --version\"
     else
         case ${COMP_WORDS[1]} in
 ",
-    )?;
-    push_bash_cases(out)?;
+    );
+    for verb in VERBS {
+        push_bash_case(out, verb);
+    }
     out.push_str(
         "        esac
     fi
@@ -71,16 +55,15 @@ _tapirvm() {
 }
 complete -o filenames -F _tapirvm tapirvm
 ",
-    )
+    );
 }
 
-fn push_zsh_verbs(out: &mut String) -> Result<(), AllocError> {
+fn push_zsh_words(out: &mut TextBuffer) {
     for verb in VERBS {
         let word = verb.word();
-        let about = about_of(verb);
-        writeln!(out, "        '{word}:{about}'")?;
+        let about = row_of(verb).about;
+        writeln!(out, "        '{word}:{about}'");
     }
-    Ok(())
 }
 
 /// What zsh completes behind a part.
@@ -92,10 +75,13 @@ fn zsh_action(part: &Part) -> &'static str {
     }
 }
 
-fn push_zsh_part(out: &mut String, part: &Part) -> Result<(), AllocError> {
-    let name = part.name;
-    let help = part.help;
-    let value = part.value;
+fn push_zsh_part(out: &mut TextBuffer, part: &Part) {
+    let Part {
+        name,
+        value,
+        help,
+        ..
+    } = part;
     let action = zsh_action(part);
     match part.given {
         Given::Word => write!(out, " ':{value}:{action}'"),
@@ -106,24 +92,16 @@ fn push_zsh_part(out: &mut String, part: &Part) -> Result<(), AllocError> {
     }
 }
 
-fn push_zsh_parts(out: &mut String, verb: Verb) -> Result<(), AllocError> {
-    for part in parts_of(verb) {
-        push_zsh_part(out, part)?;
+fn push_zsh_case(out: &mut TextBuffer, verb: Verb) {
+    let word = verb.word();
+    write!(out, "        {word}) _arguments '--help[prints help]'");
+    for part in row_of(verb).parts {
+        push_zsh_part(out, part);
     }
-    Ok(())
+    out.push_str(" ;;\n");
 }
 
-fn push_zsh_cases(out: &mut String) -> Result<(), AllocError> {
-    for verb in VERBS {
-        let word = verb.word();
-        write!(out, "        {word}) _arguments '--help[prints help]'")?;
-        push_zsh_parts(out, verb)?;
-        out.push_str(" ;;\n")?;
-    }
-    Ok(())
-}
-
-fn push_zsh(out: &mut String) -> Result<(), AllocError> {
+fn push_zsh(out: &mut TextBuffer) {
     out.push_str(
         "#compdef tapirvm
 # Completes the words of tapirvm in zsh: source <(tapirvm completions zsh)
@@ -131,8 +109,8 @@ _tapirvm() {
     local -a commands
     commands=(
 ",
-    )?;
-    push_zsh_verbs(out)?;
+    );
+    push_zsh_words(out);
     out.push_str(
         "    )
     if (( CURRENT == 2 )); then
@@ -144,50 +122,53 @@ _tapirvm() {
     (( CURRENT-- ))
     case $command in
 ",
-    )?;
-    push_zsh_cases(out)?;
+    );
+    for verb in VERBS {
+        push_zsh_case(out, verb);
+    }
     out.push_str(
         "    esac
 }
 compdef _tapirvm tapirvm
 ",
-    )
+    );
 }
 
-fn push_fish_part(out: &mut String, word: &str, part: &Part) -> Result<(), AllocError> {
-    if !is_option(part) {
-        return Ok(());
+/// A command, with its options.
+fn push_fish_command(out: &mut TextBuffer, verb: Verb) {
+    let word = verb.word();
+    let row = row_of(verb);
+    let about = row.about;
+    writeln!(
+        out,
+        "complete -c tapirvm -f -n __fish_use_subcommand -a {word} -d '{about}'"
+    );
+    for part in row.parts {
+        push_fish_part(out, word, part);
     }
-    let name = part.name;
-    let help = part.help;
-    let value = if has_value(part) { " -r" } else { "" };
+}
+
+fn push_fish_part(out: &mut TextBuffer, word: &str, part: &Part) {
+    let Part { name, help, .. } = part;
+    let value = match part.given {
+        Given::Word => return,
+        Given::Flag => "",
+        _ => " -r",
+    };
     writeln!(
         out,
         "complete -c tapirvm -n '__fish_seen_subcommand_from {word}' -l {name}{value} -d '{help}'"
-    )
+    );
 }
 
-fn push_fish_parts(out: &mut String, verb: Verb) -> Result<(), AllocError> {
-    for part in parts_of(verb) {
-        push_fish_part(out, verb.word(), part)?;
-    }
-    Ok(())
-}
-
-fn push_fish(out: &mut String) -> Result<(), AllocError> {
-    out.push_str("# Completes the words of tapirvm in fish: tapirvm completions fish | source\n")?;
+fn push_fish(out: &mut TextBuffer) {
+    out.push_str("# Completes the words of tapirvm in fish: tapirvm completions fish | source\n");
     for verb in VERBS {
-        let word = verb.word();
-        let about = about_of(verb);
-        writeln!(
-            out,
-            "complete -c tapirvm -f -n __fish_use_subcommand -a {word} -d '{about}'"
-        )?;
-        push_fish_parts(out, verb)?;
+        push_fish_command(out, verb);
     }
     out.push_str(
         "complete -c tapirvm -n '__fish_seen_subcommand_from completions' -f -a 'bash zsh fish'\n",
-    )
+    );
 }
 
 /// A script that completes the program's words in a shell.
@@ -196,11 +177,11 @@ fn push_fish(out: &mut String) -> Result<(), AllocError> {
 ///
 /// Memory was refused.
 pub fn completions(alloc: Global, shell: Shell) -> Result<String, AllocError> {
-    let mut out = String::new(alloc);
+    let mut out = TextBuffer::new(alloc);
     match shell {
-        Shell::Bash => push_bash(&mut out)?,
-        Shell::Zsh => push_zsh(&mut out)?,
-        Shell::Fish => push_fish(&mut out)?,
+        Shell::Bash => push_bash(&mut out),
+        Shell::Zsh => push_zsh(&mut out),
+        Shell::Fish => push_fish(&mut out),
     }
-    Ok(out)
+    out.finish()
 }

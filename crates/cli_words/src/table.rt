@@ -6,8 +6,12 @@ use crate::request::Verb;
 pub(crate) const ABOUT: &str =
     "A verified fork-join machine for LLVM IR with Tapir's detach, reattach and sync";
 
-/// What the help of each command tells last.
-pub(crate) const STATUSES: &str = "\
+/// A text, with the statuses behind it.
+macro_rules! with_statuses {
+    ($($before:literal),*) => {
+        concat!(
+            $($before,)*
+            "\
 Statuses:
   0  done
   1  the module is refused
@@ -15,7 +19,30 @@ Statuses:
   3  the run was stopped, memory was refused, or the effort is spent
   4  FILE, SCHEDULE or data cannot be read
   5  SCHEDULE is no schedule
-  6  standard input cannot be read, or an output cannot be written";
+  6  standard input cannot be read, or an output cannot be written"
+        )
+    };
+}
+
+/// What the program's help tells last.
+pub(crate) const STATUSES: &str = with_statuses!();
+
+/// Calls of a command as examples, each a line.
+#[derive(Clone, Copy)]
+pub(crate) struct Calls {
+    pub(crate) lines: &'static str,
+    /// What the help of the command tells last.
+    pub(crate) ending: &'static str,
+}
+
+macro_rules! calls {
+    ($($call:literal),+) => {
+        Calls {
+            lines: concat!($($call, "\n"),+),
+            ending: with_statuses!("Example:\n", $("  ", $call, "\n",)+ "\n"),
+        }
+    };
+}
 
 /// What `tapirvm debug --help` says of its commands.
 pub(crate) const DIALOGUE: &str = "\
@@ -284,14 +311,10 @@ const WRITE: Part = Part {
     help: "writes the text into FILE, and does not print it",
 };
 
-/// The words and options of the commands, as their help lists them; a command that only reads a module takes its file alone.
-static MODULE_PARTS: [Part; 1] = [FILE];
-
+/// The words and options of each command, as its help lists them.
 static VERIFY_PARTS: [Part; 5] = [FILE, TABLE, ANNOTATE, EFFORT, JSON];
 
 static EXPLAIN_PARTS: [Part; 4] = [FILE_OR_NUMBER, ANNOTATE, EFFORT, JSON];
-
-static KNOWN_PARTS: [Part; 3] = [FILE, EFFORT, JSON];
 
 static SERIAL_PARTS: [Part; 11] = [
     FILE, ARG, SET, SHOW, LOAD, DUMP, RAW, CELLS, TIME, ANNOTATE, EFFORT,
@@ -338,67 +361,91 @@ static DEBUG_PARTS: [Part; 10] = [
     EFFORT,
 ];
 
+static PRINT_PARTS: [Part; 1] = [FILE];
+
+static SHOW_PARTS: [Part; 3] = [FILE, EFFORT, JSON];
+
+static ANNOTATE_PARTS: [Part; 4] = [FILE, PRUNE, WRITE, EFFORT];
+
 static COMPLETIONS_PARTS: [Part; 1] = [SHELL];
 
 static MAN_PARTS: [Part; 0] = [];
 
-static ANNOTATE_PARTS: [Part; 4] = [FILE, PRUNE, WRITE, EFFORT];
-
-/// What the help tells of a verb first.
-pub(crate) fn about_of(verb: Verb) -> &'static str {
-    match verb {
-        Verb::Verify => "verifies a module, and tells its budget and depth",
-        Verb::Explain => {
-            "says why a module is refused and what was to be shown, or what an accepted one could do without; or prints a rule"
-        }
-        Verb::Serial => "runs the serial elision of a module",
-        Verb::Run => "runs a module on workers",
-        Verb::Replay => "runs a module by a schedule",
-        Verb::Debug => {
-            "goes forwards and backwards through a schedule, by commands from standard input"
-        }
-        Verb::Print => "prints the canonical text of a module",
-        Verb::Show => "tells what the verifier knows of each block of a module",
-        Verb::Annotate => {
-            "prints a module with annotations put in that follow from others, or without those that it does not need"
-        }
-        Verb::Completions => "prints a script that completes the words of this program in a shell",
-        Verb::Man => "prints the manual page",
-    }
+/// What the help says of a command.
+#[derive(Clone, Copy)]
+pub(crate) struct CommandRow {
+    /// What it tells first.
+    pub(crate) about: &'static str,
+    pub(crate) calls: Calls,
+    pub(crate) parts: &'static [Part],
 }
 
-/// A call of a verb, as its help shows one.
-pub(crate) fn example_of(verb: Verb) -> &'static str {
+/// The command of a verb.
+pub(crate) fn row_of(verb: Verb) -> CommandRow {
     match verb {
-        Verb::Verify => "$ tapirvm verify fib.ll --table @fib",
-        Verb::Explain => "$ tapirvm explain fib.ll\n$ tapirvm explain 602",
-        Verb::Serial => "$ tapirvm serial pair.ll --arg 7 --show @a:0",
-        Verb::Run =>
-            "$ tapirvm run fib.ll --workers 4 --arg 10\n$ tapirvm run fib.ll --workers 4 --arg 6 --seed 1 --save s.txt",
-        Verb::Replay => "$ tapirvm replay pair.ll s.txt --workers 2 --arg 7 --trace",
-        Verb::Debug => "$ tapirvm debug pair.ll s.txt --workers 2 --arg 7",
-        Verb::Print => "$ tapirvm print fib.ll",
-        Verb::Show => "$ tapirvm show fib.ll",
-        Verb::Annotate =>
-            "$ tapirvm annotate fib.ll > annotated.ll\n$ tapirvm annotate --prune --write annotated.ll",
-        Verb::Completions => "$ source <(tapirvm completions bash)",
-        Verb::Man => "$ tapirvm man > tapirvm.1 && man ./tapirvm.1",
-    }
-}
-
-/// The words and options of a verb.
-pub(crate) fn parts_of(verb: Verb) -> &'static [Part] {
-    match verb {
-        Verb::Verify => &VERIFY_PARTS,
-        Verb::Explain => &EXPLAIN_PARTS,
-        Verb::Serial => &SERIAL_PARTS,
-        Verb::Run => &RUN_PARTS,
-        Verb::Replay => &REPLAY_PARTS,
-        Verb::Debug => &DEBUG_PARTS,
-        Verb::Completions => &COMPLETIONS_PARTS,
-        Verb::Man => &MAN_PARTS,
-        Verb::Show => &KNOWN_PARTS,
-        Verb::Annotate => &ANNOTATE_PARTS,
-        Verb::Print => &MODULE_PARTS,
+        Verb::Verify => CommandRow {
+            about: "verifies a module, and tells its budget and depth",
+            calls: calls!("$ tapirvm verify fib.ll --table @fib"),
+            parts: &VERIFY_PARTS,
+        },
+        Verb::Explain => CommandRow {
+            about: "says why a module is refused and what was to be shown, or what an accepted one could do without; or prints a rule",
+            calls: calls!("$ tapirvm explain fib.ll", "$ tapirvm explain 602"),
+            parts: &EXPLAIN_PARTS,
+        },
+        Verb::Serial => CommandRow {
+            about: "runs the serial elision of a module",
+            calls: calls!("$ tapirvm serial pair.ll --arg 7 --show @a:0"),
+            parts: &SERIAL_PARTS,
+        },
+        Verb::Run => CommandRow {
+            about: "runs a module on workers",
+            calls: calls!(
+                "$ tapirvm run fib.ll --workers 4 --arg 10",
+                "$ tapirvm run fib.ll --workers 4 --arg 6 --seed 1 --save s.txt"
+            ),
+            parts: &RUN_PARTS,
+        },
+        Verb::Replay => CommandRow {
+            about: "runs a module by a schedule",
+            calls: calls!("$ tapirvm replay pair.ll s.txt --workers 2 --arg 7 --trace"),
+            parts: &REPLAY_PARTS,
+        },
+        Verb::Debug => CommandRow {
+            about: "goes forwards and backwards through a schedule, by commands from standard input",
+            calls: Calls {
+                lines: "$ tapirvm debug pair.ll s.txt --workers 2 --arg 7\n",
+                ending: DIALOGUE,
+            },
+            parts: &DEBUG_PARTS,
+        },
+        Verb::Print => CommandRow {
+            about: "prints the canonical text of a module",
+            calls: calls!("$ tapirvm print fib.ll"),
+            parts: &PRINT_PARTS,
+        },
+        Verb::Show => CommandRow {
+            about: "tells what the verifier knows of each block of a module",
+            calls: calls!("$ tapirvm show fib.ll"),
+            parts: &SHOW_PARTS,
+        },
+        Verb::Annotate => CommandRow {
+            about: "prints a module with annotations put in that follow from others, or without those that it does not need",
+            calls: calls!(
+                "$ tapirvm annotate fib.ll > annotated.ll",
+                "$ tapirvm annotate --prune --write annotated.ll"
+            ),
+            parts: &ANNOTATE_PARTS,
+        },
+        Verb::Completions => CommandRow {
+            about: "prints a script that completes the words of this program in a shell",
+            calls: calls!("$ source <(tapirvm completions bash)"),
+            parts: &COMPLETIONS_PARTS,
+        },
+        Verb::Man => CommandRow {
+            about: "prints the manual page",
+            calls: calls!("$ tapirvm man > tapirvm.1 && man ./tapirvm.1"),
+            parts: &MAN_PARTS,
+        },
     }
 }
