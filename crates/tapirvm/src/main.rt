@@ -1,7 +1,19 @@
 //! The program `tapirvm`: reads a module, verifies it and runs it.
+//!
+//! [`run`](host::run) is all that the program does: it reads words and files, obeys, and answers the status. Below it, `words` of `cli_words` makes a request
+//! of a command line, and [`act`](requests::act) answers a `Question`, a request over the bytes of files: a run on workers, each on a thread of its own, by
+//! itself, and all else by `cli_answers`.
 #![tactic(auto)]
 
-use cli::Terminals;
+mod clocks;
+mod data;
+mod host;
+mod recorded;
+mod requests;
+mod speedup;
+mod times;
+
+use host::Terminals;
 use std::io::IsTerminal;
 use std::process::ExitCode;
 
@@ -11,5 +23,5 @@ fn main(rt: HostRuntime) -> ExitCode {
         output: rt.stdout().is_terminal(),
         errors: rt.stderr().is_terminal(),
     };
-    ExitCode::from(cli::run(&rt, terminals))
+    ExitCode::from(host::run(&rt, terminals))
 }
