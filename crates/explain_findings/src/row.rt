@@ -93,10 +93,15 @@ impl<'a> Row<'a> {
     }
 }
 
+/// Whether a name is one of these.
+pub fn is_among(names: &[&str], wanted: &str) -> bool {
+    names.iter().any(|name| *name == wanted)
+}
+
 /// Adds a name, if it is one and is not there.
 fn push_name<'a>(names: &mut Vec<&'a str>, word: &'a str) -> Result<(), AllocError> {
     let is_name = word.starts_with('%') || word.starts_with('@');
-    if is_name && !names.iter().any(|name| *name == word) {
+    if is_name && !is_among(names.as_slice(), word) {
         names.push(word)?;
     }
     Ok(())
@@ -110,25 +115,33 @@ fn push_form_names<'a>(names: &mut Vec<&'a str>, form: &'a str) -> Result<(), Al
     Ok(())
 }
 
+/// The number of a line that is read by itself.
+pub const ALONE: u32 = 1;
+
+/// The tokens of a line by itself; none where a run of its bytes is no token.
+pub fn tokens_of(alloc: Global, line: &str) -> Result<Option<Vec<Token>>, OutOfMemory> {
+    match lex(alloc, line.as_bytes(), ALONE) {
+        Ok(tokens) => Ok(Some(tokens)),
+        Err(Refused::Fault { .. }) => Ok(None),
+        Err(Refused::Memory) => Err(OutOfMemory),
+    }
+}
+
 /// The lines of a text that say something. A line that has no tokens by itself is left out.
 pub fn rows_of<'a>(alloc: Global, text: &'a str) -> Result<Vec<Row<'a>>, OutOfMemory> {
     let mut rows: Vec<Row<'a>> = Vec::new(alloc);
     let mut number: u32 = 0;
     for line in text.split('\n') {
         number = number.saturating_add(1);
-        match lex(alloc, line.as_bytes(), number) {
-            Ok(tokens) => {
-                if !tokens.is_empty() {
-                    rows.push(Row {
-                        alloc,
-                        number,
-                        text: line,
-                        tokens,
-                    })?;
-                }
+        if let Some(tokens) = tokens_of(alloc, line)? {
+            if !tokens.is_empty() {
+                rows.push(Row {
+                    alloc,
+                    number,
+                    text: line,
+                    tokens,
+                })?;
             }
-            Err(Refused::Fault { .. }) => {}
-            Err(Refused::Memory) => return Err(OutOfMemory),
         }
     }
     Ok(rows)

@@ -3,13 +3,14 @@
 use crate::finding::{Finding, Source, push_finding};
 use crate::left_out::push_left_out;
 use crate::lines::lines_before;
+use crate::row::{ALONE, tokens_of};
 use buffers::TextBuffer;
 use ir_item::read_line;
-use ir_lex::{Kind, Token, lex};
+use ir_lex::{Kind, Token};
 use ir_reader::read;
 use lists::OutOfMemory;
 use refusal::Refused;
-use std::alloc::{AllocError, Global};
+use std::alloc::Global;
 
 /// What may stand in a line that is no annotation. The first three stand for all of their kind.
 const WORDS: &str =
@@ -55,9 +56,6 @@ struct Told<'a> {
     is_refused: bool,
 }
 
-/// The number of a line that is read by itself.
-const ALONE: u32 = 1;
-
 /// The fault of a line by itself.
 fn fault_of(alloc: Global, line: &str) -> Result<Option<u16>, OutOfMemory> {
     match read_line(alloc, line.as_bytes(), ALONE) {
@@ -88,11 +86,7 @@ fn is_right_with(
 
 /// Whether a run of bytes is no token by itself.
 fn is_bad(alloc: Global, word: &str) -> Result<bool, OutOfMemory> {
-    match lex(alloc, word.as_bytes(), ALONE) {
-        Ok(_) => Ok(false),
-        Err(Refused::Fault { .. }) => Ok(true),
-        Err(Refused::Memory) => Err(OutOfMemory),
-    }
+    Ok(tokens_of(alloc, word)?.is_none())
 }
 
 /// Whether a word begins with the type of a pointer that says to what it points.
@@ -217,26 +211,26 @@ impl<'a> Told<'a> {
         }
     }
 
-    /// What is wrong with the tokens of a line that is no annotation.
-    fn push_code(&mut self, tokens: &[Token]) {
-        for token in tokens {
-            push_left_out(self.part(token), &mut self.notes);
+    /// What is wrong with the tokens of the line: of an annotation no word of LLVM is told.
+    fn push_tokens(&mut self, tokens: &[Token]) {
+        match tokens.first() {
+            None => {}
+            Some(first) if first.kind == Kind::Note => self.push_edits(tokens, NOTE_WORDS),
+            Some(_) => {
+                for token in tokens {
+                    push_left_out(self.part(token), &mut self.notes);
+                }
+                self.push_edits(tokens, WORDS);
+            }
         }
-        self.push_edits(tokens, WORDS);
     }
 
     /// What is wrong with the words of the line.
     fn push_words(&mut self) {
-        match lex(self.alloc, self.line.as_bytes(), ALONE) {
-            Ok(tokens) => match tokens.first() {
-                None => {}
-                Some(first) if first.kind == Kind::Note => {
-                    self.push_edits(tokens.as_slice(), NOTE_WORDS)
-                }
-                Some(_) => self.push_code(tokens.as_slice()),
-            },
-            Err(Refused::Fault { .. }) => self.push_bad_tokens(),
-            Err(Refused::Memory) => self.is_refused = true,
+        match tokens_of(self.alloc, self.line) {
+            Ok(Some(tokens)) => self.push_tokens(tokens.as_slice()),
+            Ok(None) => self.push_bad_tokens(),
+            Err(OutOfMemory) => self.is_refused = true,
         }
     }
 
