@@ -8,23 +8,11 @@ use crate::silent::push_silent_compare;
 use crate::trial::Matched;
 use crate::tries::Trying;
 use crate::unmet::{Unmet, all_unmet};
+use buffers::TextBuffer;
 use explain_findings::{Finding, Source, line_at, push_found};
-use lists::OutOfMemory;
 use program::{Block, BlockId, Instruction, Width};
-use ranges::{BlockFacts, EdgeFacts, Effort, Unanswered, block_facts};
-use std::alloc::{AllocError, Global};
-
-fn push_edge_to(
-    scene: &Scene<'_>,
-    edge: Option<BlockId>,
-    notes: &mut String,
-) -> Result<(), OutOfMemory> {
-    if let Some(target) = edge {
-        let label = scene.label(target);
-        write!(notes, ", on the edge to %{label}")?;
-    }
-    Ok(())
-}
+use ranges::{BlockFacts, EdgeFacts, Effort, Sum, Unanswered, block_facts};
+use std::alloc::Global;
 
 /// What asks it: an annotation, and where it stands on an edge the edge's target.
 fn push_asked(
@@ -32,35 +20,32 @@ fn push_asked(
     scene: &Scene<'_>,
     unmet: &Unmet,
     edge: Option<BlockId>,
-    notes: &mut String,
-) -> Result<(), OutOfMemory> {
+    notes: &mut TextBuffer,
+) {
     let Some(line) = unmet.asked else {
-        return Ok(());
+        return;
     };
     let text = line_at(text, line).unwrap_or("").trim();
-    write!(notes, "  asked by line {line}: {text}")?;
-    push_edge_to(scene, edge, notes)?;
-    Ok(notes.push_str("\n")?)
-}
-
-/// What there is to choose, where it is not one sum alone.
-fn push_choice_head(count: usize, notes: &mut String) -> Result<(), AllocError> {
-    match count {
-        0 => notes.push_str("  one operand must be a number from -1000000 to 1000000\n"),
-        1 => Ok(()),
-        _ => notes.push_str("  one of these is to be shown:\n"),
+    write!(notes, "  asked by line {line}: {text}");
+    if let Some(target) = edge {
+        let label = scene.label(target);
+        write!(notes, ", on the edge to %{label}");
     }
+    notes.push_str("\n");
 }
 
-/// Each sum of which one is to be shown.
+/// What there is to choose, where it is not one sum alone, and each sum of which one is to be shown.
 fn push_choices(
     alloc: Global,
     trying: Trying<'_, '_>,
-    unmet: &Unmet,
-    notes: &mut String,
+    choices: &[Sum],
+    notes: &mut TextBuffer,
 ) -> Result<(), Unanswered> {
-    let choices = unmet.choices.as_slice();
-    push_choice_head(choices.len(), notes)?;
+    match choices.len() {
+        0 => notes.push_str("  one operand must be a number from -1000000 to 1000000\n"),
+        1 => {}
+        _ => notes.push_str("  one of these is to be shown:\n"),
+    }
     for sum in choices {
         trying.push_unshown(alloc, sum, notes)?;
     }
@@ -68,11 +53,7 @@ fn push_choices(
 }
 
 /// What an instruction asks for, in words: the range of an index, or of a result that fits its width.
-fn push_range(
-    scene: &Scene<'_>,
-    instruction: &Instruction,
-    notes: &mut String,
-) -> Result<(), AllocError> {
+fn push_range(scene: &Scene<'_>, instruction: &Instruction, notes: &mut TextBuffer) {
     match instruction {
         Instruction::ElementPointer { object, .. } => {
             let (sigil, name) = scene.object(*object);
@@ -81,33 +62,29 @@ fn push_range(
             writeln!(
                 notes,
                 "  {sigil}{name} has {cells} cells: the index has to be from 0 to {last}"
-            )
+            );
         }
         Instruction::Binary { width, .. } => {
-            let range = match width {
-                Width::Bits64 => "-9223372036854775808 to 9223372036854775807, the range of an i64",
-                Width::Bits32 => "-2147483648 to 2147483647, the range of an i32",
-            };
-            writeln!(notes, "  the result has to be from {range}")
+            notes.push_str(match width {
+                Width::Bits64 => {
+                    "  the result has to be from -9223372036854775808 to 9223372036854775807, the range of an i64\n"
+                }
+                Width::Bits32 => {
+                    "  the result has to be from -2147483648 to 2147483647, the range of an i32\n"
+                }
+            });
         }
-        _ => Ok(()),
+        _ => {}
     }
 }
 
 /// The range that a line of the block asks for, where the rule is one of ranges.
-fn push_asked_range(
-    scene: &Scene<'_>,
-    unmet: &Unmet,
-    notes: &mut String,
-) -> Result<(), AllocError> {
+fn push_asked_range(scene: &Scene<'_>, block: &Block, unmet: &Unmet, notes: &mut TextBuffer) {
     let is_of_range = matches!(unmet.number, 501 | 503) && !unmet.choices.is_empty();
-    let Some(block) = scene.function.blocks.as_slice().get(unmet.site.block) else {
-        return Ok(());
-    };
-    let steps = block.steps.as_slice();
-    match steps.iter().find(|step| step.line == unmet.site.line) {
+    let mut steps = block.steps.as_slice().iter();
+    match steps.find(|step| step.line == unmet.site.line) {
         Some(step) if is_of_range => push_range(scene, &step.instruction, notes),
-        _ => Ok(()),
+        _ => {}
     }
 }
 
@@ -126,12 +103,12 @@ fn push_place_notes(
     edge: Option<BlockId>,
     unmet: &Unmet,
     missing: &mut Missing,
-    notes: &mut String,
+    notes: &mut TextBuffer,
 ) -> Result<bool, Unanswered> {
     let known = trying.known;
-    push_asked(trying.text(), known.scene, unmet, edge, notes)?;
-    push_choices(alloc, trying, unmet, notes)?;
-    push_silent_compare(known.scene, known.block, edge, unmet, notes)?;
+    push_asked(trying.text(), known.scene, unmet, edge, notes);
+    push_choices(alloc, trying, unmet.choices.as_slice(), notes)?;
+    push_silent_compare(known.scene, known.block, edge, unmet, notes);
     missing.take(alloc, known, unmet)
 }
 
@@ -142,7 +119,7 @@ fn push_edge_notes(
     edge: &EdgeFacts,
     unmet: &Unmet,
     missing: &mut Missing,
-    notes: &mut String,
+    notes: &mut TextBuffer,
 ) -> Result<bool, Unanswered> {
     let facts = edge_known(alloc, trying.known.facts, edge)?;
     let there = trying.with_known(Known {
@@ -161,7 +138,7 @@ fn push_block_notes(
     old: &[Unmet],
     effort: &Effort,
     missing: &mut Missing,
-    notes: &mut String,
+    notes: &mut TextBuffer,
 ) -> Result<bool, Unanswered> {
     let index = unmet.site.block;
     spend(effort, block.steps.len())?;
@@ -186,8 +163,9 @@ fn push_block_notes(
     }
 }
 
-/// A fault with what there is to say of it, as far as that is not said where there is more of the same line.
-fn finding_of(
+/// Adds what there is to say of a fault, as far as that is not said where there is more of the same line; and whether it may follow from what is
+/// missing before.
+fn push_notes(
     alloc: Global,
     source: Source<'_>,
     matched: &Matched,
@@ -196,30 +174,21 @@ fn finding_of(
     effort: &Effort,
     is_more: bool,
     missing: &mut Missing,
-) -> Result<Finding, Unanswered> {
-    let mut found = Finding {
-        number: unmet.number,
-        line: unmet.site.line,
-        cause: None,
-        follows: false,
-        notes: String::new(alloc),
-    };
+    notes: &mut TextBuffer,
+) -> Result<bool, Unanswered> {
     let program = &matched.graph.program;
     let Some(scene) = Scene::of(alloc, program, &matched.whole, unmet.site.function)? else {
-        return Ok(found);
+        return Ok(false);
     };
-    let mut notes = String::new(alloc);
+    let Some(block) = scene.function.blocks.as_slice().get(unmet.site.block) else {
+        return Ok(false);
+    };
     if !is_more {
-        push_asked_range(&scene, unmet, &mut notes)?;
+        push_asked_range(&scene, block, unmet, notes);
     }
-    let blocks = scene.function.blocks.as_slice();
-    if let Some(block) = blocks.get(unmet.site.block) {
-        found.follows = push_block_notes(
-            alloc, source, &scene, block, unmet, old, effort, missing, &mut notes,
-        )?;
-    }
-    found.notes = notes;
-    Ok(found)
+    push_block_notes(
+        alloc, source, &scene, block, unmet, old, effort, missing, notes,
+    )
 }
 
 /// Whether a fault is at the line of the last finding, and breaks the same rule.
@@ -240,10 +209,11 @@ pub fn number_findings(
     let mut findings: Vec<Finding> = Vec::new(alloc);
     let mut missing = Missing::none(alloc);
     let all = all_unmet(alloc, matched, effort)?;
-    for unmet in all.iter() {
+    for unmet in &all {
         let old = all.as_slice();
         let is_more = is_of_last(findings.as_slice(), unmet);
-        let found = finding_of(
+        let mut notes = TextBuffer::new(alloc);
+        let follows = push_notes(
             alloc,
             source,
             matched,
@@ -252,7 +222,15 @@ pub fn number_findings(
             effort,
             is_more,
             &mut missing,
+            &mut notes,
         )?;
+        let found = Finding {
+            number: unmet.number,
+            line: unmet.site.line,
+            cause: None,
+            follows,
+            notes: notes.finish()?,
+        };
         push_found(&mut findings, found)?;
     }
     Ok(findings)

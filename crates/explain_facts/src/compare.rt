@@ -1,7 +1,7 @@
 //! Tests by which a block is reached: a loop's test that lets its counter go too far.
 
 use crate::scene::Scene;
-use lists::OutOfMemory;
+use buffers::TextBuffer;
 use program::{Block, BlockId, Function, Instruction, Operand, RegisterId, Terminator, Width};
 use syntax::Predicate;
 
@@ -136,20 +136,20 @@ pub fn push_test(
     to: BlockId,
     register: RegisterId,
     most: i128,
-    out: &mut String,
-) -> Result<(), OutOfMemory> {
+    out: &mut TextBuffer,
+) {
     let Some(test) = last_test(scene.function, to, register) else {
-        return Ok(());
+        return;
     };
     if i128::from(test.most) <= most {
-        return Ok(());
+        return;
     }
     let line = test.line;
     let outcome = scene.register(test.outcome);
     let name = scene.register(register);
     let width = width_word(test.width);
-    Ok(writeln!(
+    writeln!(
         out,
         "    the test in line {line} lets %{name} be too much: `%{outcome} = icmp sle {width} %{name}, {most}` would do"
-    )?)
+    );
 }

@@ -36,16 +36,21 @@ pub fn is_shown(
 /// The sizes of numbers that a form may be raised by: 2^125.
 const TOO_MUCH: u128 = 42_535_295_865_117_307_932_921_825_928_971_026_432;
 
+/// What was made of forms, unless it would pass the bounds of a form.
+pub fn within_bounds(made: Result<Form, FormFault>) -> Result<Option<Form>, OutOfMemory> {
+    match made {
+        Ok(form) => Ok(Some(form)),
+        Err(FormFault::Bounds) => Ok(None),
+        Err(FormFault::Memory) => Err(OutOfMemory),
+    }
+}
+
 /// A form and so many more, unless it would pass the bounds of a form.
 pub fn raised(alloc: Global, form: &Form, amount: i128) -> Result<Option<Form>, OutOfMemory> {
     if amount.unsigned_abs() >= TOO_MUCH {
         return Ok(None);
     }
-    match form.copy(alloc)?.plus_constant(amount) {
-        Ok(form) => Ok(Some(form)),
-        Err(FormFault::Bounds) => Ok(None),
-        Err(FormFault::Memory) => Err(OutOfMemory),
-    }
+    within_bounds(form.copy(alloc)?.plus_constant(amount))
 }
 
 /// Whether it is known that a form and so many more are at least 0.
@@ -220,23 +225,21 @@ pub fn facts_used(
     }
 }
 
-/// A form without a fact's, unless it would pass the bounds of a form.
-fn rest_of(alloc: Global, form: &Form, fact: &Fact) -> Result<Option<Form>, OutOfMemory> {
-    match form.difference(alloc, &fact.form) {
-        Ok(rest) => Ok(Some(rest)),
-        Err(FormFault::Bounds) => Ok(None),
-        Err(FormFault::Memory) => Err(OutOfMemory),
-    }
+/// The facts, and others behind them.
+pub fn facts_with(alloc: Global, facts: &[Fact], others: &[Fact]) -> Result<Vec<Fact>, OutOfMemory>
+    ensures { IfOk result (λ more. more.items ≡ facts.now ++ others.now) }
+{
+    let mut more: Vec<Fact> = Vec::new(alloc);
+    push_copies(alloc, &mut more, facts)?;
+    push_copies(alloc, &mut more, others)?;
+    Ok(more)
 }
 
 /// What is known on an edge: what is known at the end of its block, and then what its being taken says.
 pub fn edge_known(alloc: Global, known: &[Fact], edge: &EdgeFacts) -> Result<Vec<Fact>, OutOfMemory>
     ensures { IfOk result (λ facts. facts.items ≡ known.now ++ edge.now.facts) }
 {
-    let mut facts: Vec<Fact> = Vec::new(alloc);
-    push_copies(alloc, &mut facts, known)?;
-    push_copies(alloc, &mut facts, edge.facts.as_slice())?;
-    Ok(facts)
+    facts_with(alloc, known, edge.facts.as_slice())
 }
 
 /// The facts, and that one form more is at least 0.
@@ -244,18 +247,6 @@ fn facts_and(alloc: Global, facts: &[Fact], form: &Form) -> Result<Vec<Fact>, Ou
     let mut more: Vec<Fact> = Vec::new(alloc);
     push_copies(alloc, &mut more, facts)?;
     push_form(alloc, form, &mut more)?;
-    Ok(more)
-}
-
-/// The facts, and others behind them.
-pub fn facts_with(
-    alloc: Global,
-    facts: &[Fact],
-    others: &[Fact],
-) -> Result<Vec<Fact>, OutOfMemory> {
-    let mut more: Vec<Fact> = Vec::new(alloc);
-    push_copies(alloc, &mut more, facts)?;
-    push_copies(alloc, &mut more, others)?;
     Ok(more)
 }
 
@@ -307,12 +298,12 @@ fn step_of(
     form: &Form,
     effort: &Effort,
 ) -> Result<Option<Form>, Unanswered> {
-    if let Some(plain) = plainer(alloc, &rest)? {
-        let is_taken = is_step(alloc, stated, facts, &plain, form, effort)?;
-        return Ok(if is_taken { Some(plain) } else { None });
-    }
-    let is_taken = is_step(alloc, stated, facts, &rest, form, effort)?;
-    Ok(if is_taken { Some(rest) } else { None })
+    let step = match plainer(alloc, &rest)? {
+        Some(plain) => plain,
+        None => rest,
+    };
+    let is_taken = is_step(alloc, stated, facts, &step, form, effort)?;
+    Ok(if is_taken { Some(step) } else { None })
 }
 
 /// What the facts that are `stated` show and what makes all facts show the form: a line to write before it. Of several the first of those with the
@@ -368,7 +359,7 @@ fn step_by(
     limit: usize,
     effort: &Effort,
 ) -> Result<Option<Form>, Unanswered> {
-    match rest_of(alloc, form, fact)? {
+    match within_bounds(form.difference(alloc, &fact.form))? {
         Some(rest) if number_of_registers(&rest) < limit => {
             step_of(alloc, stated, facts, rest, form, effort)
         }

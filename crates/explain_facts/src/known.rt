@@ -8,6 +8,7 @@ use crate::gap::{
 use crate::scene::Scene;
 use crate::spelling::{push_excess, push_inequality};
 use crate::unknown::{is_bounded, push_unbounded};
+use buffers::{ListBuffer, TextBuffer};
 use linear::{Fact, Form, Term};
 use lists::OutOfMemory;
 use program::{Block, BlockId, Function, Inequality, RegisterId};
@@ -27,19 +28,19 @@ pub struct Known<'a> {
     pub effort: &'a Effort,
 }
 
-fn push_lines(lines: &mut Vec<u32>, inequalities: &[Inequality]) -> Result<(), OutOfMemory> {
+fn push_lines(lines: &mut ListBuffer<u32>, inequalities: &[Inequality]) {
     for inequality in inequalities {
-        lines.push(inequality.line)?;
+        lines.push(inequality.line);
     }
-    Ok(())
 }
 
-/// Adds a line until there are so many.
-fn fill(lines: &mut Vec<u32>, count: usize, line: u32) -> Result<(), OutOfMemory> {
-    for _place in lines.len()..count {
-        lines.push(line)?;
+/// Adds the lines of what is known at a block's start.
+fn push_start(lines: &mut ListBuffer<u32>, function: &Function, index: usize, block: &Block) {
+    if index == 0 {
+        push_lines(lines, function.requirements.as_slice());
+    } else {
+        push_lines(lines, block.keeps.as_slice());
     }
-    Ok(())
 }
 
 /// The lines of what is known at a block's start.
@@ -48,57 +49,42 @@ pub fn start_lines(
     function: &Function,
     index: usize,
     block: &Block,
-) -> Result<Vec<u32>, OutOfMemory> {
-    let known = if index == 0 {
-        function.requirements.as_slice()
-    } else {
-        block.keeps.as_slice()
-    };
-    let mut lines: Vec<u32> = Vec::new(alloc);
-    push_lines(&mut lines, known)?;
-    Ok(lines)
+) -> Result<Vec<u32>, AllocError> {
+    let mut lines = ListBuffer::new(alloc);
+    push_start(&mut lines, function, index, block);
+    lines.finish()
 }
 
 /// Adds the lines of the facts behind `shows` lines: what was learned before them has the line before.
-fn push_shows(
-    lines: &mut Vec<u32>,
-    count: usize,
-    shows: &[Inequality],
-    before: u32,
-) -> Result<(), OutOfMemory> {
-    fill(lines, count.saturating_sub(shows.len()), before)?;
-    push_lines(lines, shows)
+fn push_shows(lines: &mut ListBuffer<u32>, count: usize, shows: &[Inequality], before: u32) {
+    let learned = count.saturating_sub(shows.len());
+    for _place in lines.as_slice().len()..learned {
+        lines.push(before);
+    }
+    push_lines(lines, shows);
 }
 
-/// Adds the lines of what is learned in a block.
-fn push_learned(
-    lines: &mut Vec<u32>,
-    block: &Block,
-    table: &BlockFacts,
-) -> Result<(), OutOfMemory> {
-    let mut before = block.line;
-    for (place, step) in block.steps.as_slice().iter().enumerate() {
-        let count = table.at_step(place).len();
-        push_shows(lines, count, step.shows.as_slice(), before)?;
-        before = step.line;
-    }
-    match &block.ending {
-        Some(ending) => push_shows(lines, table.facts.len(), ending.shows.as_slice(), before),
-        None => Ok(()),
-    }
-}
-
-/// The lines of what is known at a block's end.
+/// The lines of what is known at a block's end: at its start, and what is learned in it.
 pub fn fact_lines(
     alloc: Global,
     function: &Function,
     index: usize,
     block: &Block,
     table: &BlockFacts,
-) -> Result<Vec<u32>, OutOfMemory> {
-    let mut lines = start_lines(alloc, function, index, block)?;
-    push_learned(&mut lines, block, table)?;
-    Ok(lines)
+) -> Result<Vec<u32>, AllocError> {
+    let mut lines = ListBuffer::new(alloc);
+    push_start(&mut lines, function, index, block);
+    let mut before = block.line;
+    for (place, step) in block.steps.as_slice().iter().enumerate() {
+        let count = table.at_step(place).len();
+        push_shows(&mut lines, count, step.shows.as_slice(), before);
+        before = step.line;
+    }
+    if let Some(ending) = &block.ending {
+        let count = table.facts.len();
+        push_shows(&mut lines, count, ending.shows.as_slice(), before);
+    }
+    lines.finish()
 }
 
 fn has_register(form: &Form, register: RegisterId) -> bool {
@@ -126,94 +112,69 @@ impl Known<'_> {
     }
 
     /// The fact at a place, and its line.
-    fn push_fact(&self, alloc: Global, place: usize, out: &mut String) -> Result<(), OutOfMemory> {
+    fn push_fact(&self, place: usize, out: &mut TextBuffer) {
         if let Some(fact) = self.facts.get(place) {
-            push_inequality(alloc, self.scene, &fact.form, out)?;
+            push_inequality(self.scene, &fact.form, out);
             let line = self.lines.get(place).copied().unwrap_or(self.line);
-            write!(out, " (line {line})")?;
+            write!(out, " (line {line})");
         }
-        Ok(())
-    }
-
-    fn push_known(&self, alloc: Global, place: usize, out: &mut String) -> Result<(), OutOfMemory> {
-        out.push_str("    known: ")?;
-        self.push_fact(alloc, place, out)?;
-        Ok(out.push_str("\n")?)
     }
 
     /// The facts that name a register of the form.
-    fn push_related(
+    fn push_related(&self, form: &Form, out: &mut TextBuffer) {
+        for (place, fact) in self.facts.iter().enumerate() {
+            if share_register(&fact.form, form) {
+                out.push_str("    known: ");
+                self.push_fact(place, out);
+                out.push_str("\n");
+            }
+        }
+    }
+
+    /// The facts that show a form.
+    fn push_used(
         &self,
         alloc: Global,
         form: &Form,
-        out: &mut String,
-    ) -> Result<(), OutOfMemory> {
-        for (place, fact) in self.facts.iter().enumerate() {
-            if share_register(&fact.form, form) {
-                self.push_known(alloc, place, out)?;
+        out: &mut TextBuffer,
+    ) -> Result<(), Unanswered> {
+        match facts_used(alloc, self.facts, form, self.effort)? {
+            Some((first, last)) => {
+                if first != last {
+                    self.push_fact(first, out);
+                    out.push_str(" and ");
+                }
+                self.push_fact(last, out);
             }
+            None => out.push_str("no fact helps"),
         }
         Ok(())
     }
 
-    /// The facts at two places, or at one that stands for both.
-    fn push_pair(
-        &self,
-        alloc: Global,
-        first: usize,
-        last: usize,
-        out: &mut String,
-    ) -> Result<(), OutOfMemory> {
-        if first != last {
-            self.push_fact(alloc, first, out)?;
-            out.push_str(" and ")?;
-        }
-        self.push_fact(alloc, last, out)
-    }
-
-    /// The facts that show a form.
-    fn push_used(&self, alloc: Global, form: &Form, out: &mut String) -> Result<(), Unanswered> {
-        match facts_used(alloc, self.facts, form, self.effort)? {
-            Some((first, last)) => Ok(self.push_pair(alloc, first, last, out)?),
-            None => Ok(out.push_str("no fact helps")?),
-        }
-    }
-
     /// What one register may be, where it is to be bounded by a number, and the test that lets it.
-    fn push_may_be(
-        &self,
-        term: Term,
-        form: &Form,
-        short: i128,
-        out: &mut String,
-    ) -> Result<(), OutOfMemory> {
+    fn push_may_be(&self, term: Term, form: &Form, short: i128, out: &mut TextBuffer) {
         let name = self.scene.register(term.register);
+        let bound = form.constant;
         if term.coefficient == 1 {
-            let least = 0i128.saturating_sub(form.constant);
+            let least = 0i128.saturating_sub(bound);
             let may = least.saturating_sub(short);
-            return Ok(writeln!(out, "%{name} may be {may}, and has to be at least {least}")?);
+            writeln!(out, "%{name} may be {may}, and has to be at least {least}");
+        } else {
+            let may = bound.saturating_add(short);
+            writeln!(out, "%{name} may be {may}, and has to be at most {bound}");
+            push_test(self.scene, self.block, term.register, bound, out);
         }
-        let may = form.constant.saturating_add(short);
-        let most = form.constant;
-        writeln!(out, "%{name} may be {may}, and has to be at most {most}")?;
-        push_test(self.scene, self.block, term.register, most, out)
     }
 
     /// By how much what is known is short of a form.
-    fn push_short(
-        &self,
-        alloc: Global,
-        form: &Form,
-        short: i128,
-        out: &mut String,
-    ) -> Result<(), OutOfMemory> {
+    fn push_short(&self, form: &Form, short: i128, out: &mut TextBuffer) {
         match only_term(form) {
             Some(term) if term.coefficient == 1 || term.coefficient == -1 => {
                 self.push_may_be(term, form, short, out)
             }
             _ => {
-                push_excess(alloc, self.scene, form, short, out)?;
-                Ok(out.push_str("\n")?)
+                push_excess(self.scene, form, short, out);
+                out.push_str("\n");
             }
         }
     }
@@ -224,28 +185,28 @@ impl Known<'_> {
         alloc: Global,
         form: &Form,
         short: i128,
-        out: &mut String,
+        out: &mut TextBuffer,
     ) -> Result<(), Unanswered> {
-        let Some(nearest) = raised(alloc, form, short)? else {
-            return Ok(());
-        };
-        out.push_str("    nearest: ")?;
-        self.push_used(alloc, &nearest, out)?;
-        out.push_str("; ")?;
-        Ok(self.push_short(alloc, form, short, out)?)
+        if let Some(nearest) = raised(alloc, form, short)? {
+            out.push_str("    nearest: ");
+            self.push_used(alloc, &nearest, out)?;
+            out.push_str("; ");
+            self.push_short(form, short, out);
+        }
+        Ok(())
     }
 
     /// Why no facts come near to a form, and what to do.
-    fn push_far(&self, form: &Form, out: &mut String) -> Result<(), AllocError> {
+    fn push_far(&self, form: &Form, out: &mut TextBuffer) {
         let mut is_any = false;
         for term in form.terms.as_slice() {
             if !is_bounded(self.facts, *term) {
                 is_any = true;
-                push_unbounded(self.scene, self.block, self.facts, *term, out)?;
+                push_unbounded(self.scene, self.block, self.facts, *term, out);
             }
         }
         if is_any {
-            return Ok(());
+            return;
         }
         let start = if self.block.0 == 0 {
             "requires"
@@ -255,7 +216,7 @@ impl Known<'_> {
         writeln!(
             out,
             "    no two of these facts add up to it: put `shows` lines before it that go by smaller steps, or a `{start}` line that says more"
-        )
+        );
     }
 
     /// What of the facts comes nearest to a form that they do not show.
@@ -263,15 +224,17 @@ impl Known<'_> {
         &self,
         alloc: Global,
         form: &Form,
-        out: &mut String,
+        out: &mut TextBuffer,
     ) -> Result<(), Unanswered> {
         if number_of_registers(form) == 0 {
-            return Ok(out.push_str("    that is never so, whatever is known\n")?);
+            out.push_str("    that is never so, whatever is known\n");
+            return Ok(());
         }
         match shortfall(alloc, self.facts, form, self.effort)? {
-            Some(short) => self.push_nearest(alloc, form, short, out),
-            None => Ok(self.push_far(form, out)?),
+            Some(short) => self.push_nearest(alloc, form, short, out)?,
+            None => self.push_far(form, out),
         }
+        Ok(())
     }
 
     /// What a `shows` line before the place could say with which the form is shown there.
@@ -280,39 +243,22 @@ impl Known<'_> {
         step_between(alloc, stated, self.facts, form, self.effort)
     }
 
-    fn push_to_show(
-        &self,
-        alloc: Global,
-        form: &Form,
-        out: &mut String,
-    ) -> Result<(), OutOfMemory> {
-        out.push_str("  to show: ")?;
-        push_inequality(alloc, self.scene, form, out)?;
-        Ok(out.push_str("\n")?)
-    }
-
-    fn push_unshown_form(
-        &self,
-        alloc: Global,
-        form: &Form,
-        out: &mut String,
-    ) -> Result<(), Unanswered> {
-        self.push_to_show(alloc, form, out)?;
-        self.push_related(alloc, form, out)?;
-        self.push_shortfall(alloc, form, out)
-    }
-
     /// What is to be shown at a line, what is known of it, and how near that comes.
     pub fn push_unshown(
         &self,
         alloc: Global,
         sum: &Sum,
-        out: &mut String,
+        out: &mut TextBuffer,
     ) -> Result<(), Unanswered> {
-        match sum_form(alloc, sum)? {
-            Some(form) => self.push_unshown_form(alloc, &form, out),
-            None => Ok(out.push_str("  to show: a form past its bounds\n")?),
-        }
+        out.push_str("  to show: ");
+        let Some(form) = sum_form(alloc, sum)? else {
+            out.push_str("a form past its bounds\n");
+            return Ok(());
+        };
+        push_inequality(self.scene, &form, out);
+        out.push_str("\n");
+        self.push_related(&form, out);
+        self.push_shortfall(alloc, &form, out)
     }
 }
 

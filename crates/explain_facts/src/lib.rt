@@ -16,7 +16,7 @@ mod unknown;
 mod unmet;
 
 pub use choices::number_findings;
-pub use gap::{edge_known, first_facts, is_against, raised, shortfall, spend};
+pub use gap::{edge_known, is_against, raised, shortfall, spend, within_bounds};
 pub use known::{Known, fact_lines, lack_of, start_lines};
 pub use scene::Scene;
 pub use spelling::{push_form, push_inequality};

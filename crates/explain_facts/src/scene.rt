@@ -1,5 +1,6 @@
 //! A function beside the names of its text.
 
+use buffers::ListBuffer;
 use lists::{Name, OutOfMemory};
 use program::{AllocaId, BlockId, Function, GlobalId, ObjectName, Program, RegisterId};
 use std::alloc::{AllocError, Global};
@@ -22,43 +23,31 @@ fn parameter_name(parameter: &Parameter) -> &Name {
     }
 }
 
-fn push_phis<'a>(names: &mut Vec<&'a Name>, block: &'a syntax::Block) -> Result<(), AllocError> {
+/// Adds the names of the registers that a block defines, in the order of the text.
+fn push_block_names<'a>(names: &mut ListBuffer<&'a Name>, block: &'a syntax::Block) {
     for phi in block.phis.as_slice() {
-        names.push(&phi.register)?;
+        names.push(&phi.register);
     }
-    Ok(())
-}
-
-fn push_steps<'a>(names: &mut Vec<&'a Name>, block: &'a syntax::Block) -> Result<(), AllocError> {
     for step in block.steps.as_slice() {
         if let Some(name) = step.instruction.register() {
-            names.push(name)?;
+            names.push(name);
         }
     }
-    Ok(())
 }
 
-fn push_parameters<'a>(
-    names: &mut Vec<&'a Name>,
-    parameters: &'a [Parameter],
-) -> Result<(), AllocError> {
-    for parameter in parameters {
-        names.push(parameter_name(parameter))?;
-    }
-    Ok(())
-}
-
-/// Adds the names of the registers: parameters first, then in the order of the text.
-fn push_registers<'a>(
-    names: &mut Vec<&'a Name>,
+/// The names of the registers: parameters first, then in the order of the text.
+fn register_names<'a>(
+    alloc: Global,
     function: &'a syntax::Function,
-) -> Result<(), AllocError> {
-    push_parameters(names, function.parameters.as_slice())?;
-    for block in function.blocks.as_slice() {
-        push_phis(names, block)?;
-        push_steps(names, block)?;
+) -> Result<Vec<&'a Name>, AllocError> {
+    let mut names: ListBuffer<&'a Name> = ListBuffer::new(alloc);
+    for parameter in function.parameters.as_slice() {
+        names.push(parameter_name(parameter));
     }
-    Ok(())
+    for block in function.blocks.as_slice() {
+        push_block_names(&mut names, block);
+    }
+    names.finish()
 }
 
 impl<'a> Scene<'a> {
@@ -74,14 +63,12 @@ impl<'a> Scene<'a> {
         let (Some(function), Some(written)) = (function, written) else {
             return Ok(None);
         };
-        let mut registers: Vec<&'a Name> = Vec::new(alloc);
-        push_registers(&mut registers, written)?;
         Ok(Some(Scene {
             program,
             index,
             function,
             written,
-            registers,
+            registers: register_names(alloc, written)?,
         }))
     }
 

@@ -2,9 +2,9 @@
 
 use crate::scene::Scene;
 use crate::unmet::Unmet;
+use buffers::TextBuffer;
 use program::{Block, BlockId, Instruction, Operand, RegisterId, Step, Terminator};
 use ranges::Sum;
-use std::alloc::AllocError;
 use syntax::Predicate;
 
 /// The signed predicate to write for one that gives no facts where it comes out so; none where it gives some.
@@ -76,28 +76,20 @@ fn signed_in_place_of(step: &Step, outcome: bool, unmet: &Unmet) -> Option<&'sta
 }
 
 /// Says of the compare by which a block leads to another one that it gives no facts there, if it tests what is not shown.
-fn push_compare(
-    block: &Block,
-    to: BlockId,
-    unmet: &Unmet,
-    out: &mut String,
-) -> Result<(), AllocError> {
+fn push_compare(block: &Block, to: BlockId, unmet: &Unmet, out: &mut TextBuffer) {
     let Some((condition, outcome)) = condition_to(block, to) else {
-        return Ok(());
+        return;
     };
     let mut steps = block.steps.as_slice().iter();
     let Some(step) = steps.find(|step| is_compare(step, condition)) else {
-        return Ok(());
+        return;
     };
-    match signed_in_place_of(step, outcome, unmet) {
-        Some(word) => {
-            let line = step.line;
-            writeln!(
-                out,
-                "    the compare in line {line} gives no facts on this edge: a signed one does, as `icmp {word}`"
-            )
-        }
-        None => Ok(()),
+    if let Some(word) = signed_in_place_of(step, outcome, unmet) {
+        let line = step.line;
+        writeln!(
+            out,
+            "    the compare in line {line} gives no facts on this edge: a signed one does, as `icmp {word}`"
+        );
     }
 }
 
@@ -107,10 +99,9 @@ pub fn push_silent_compare(
     at: BlockId,
     edge: Option<BlockId>,
     unmet: &Unmet,
-    out: &mut String,
-) -> Result<(), AllocError> {
-    match (scene.function.blocks.as_slice().get(at.0), edge) {
-        (Some(block), Some(to)) => push_compare(block, to, unmet, out),
-        _ => Ok(()),
+    out: &mut TextBuffer,
+) {
+    if let (Some(block), Some(to)) = (scene.function.blocks.as_slice().get(at.0), edge) {
+        push_compare(block, to, unmet, out);
     }
 }

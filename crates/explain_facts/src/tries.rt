@@ -1,13 +1,14 @@
 //! Lines to try where a form is not shown: those with few registers first.
 
-use crate::gap::{is_against, number_of_registers, only_term, raised, spend};
+use crate::gap::{is_against, number_of_registers, only_term, raised, spend, within_bounds};
 use crate::known::Known;
 use crate::scene::Scene;
 use crate::spelling::push_inequality;
 use crate::trial::match_text;
 use crate::unmet::{Unmet, all_unmet};
+use buffers::TextBuffer;
 use explain_findings::{Source, push_indented, with_line_before};
-use linear::{Form, FormFault, RegisterId};
+use linear::{Form, RegisterId};
 use lists::OutOfMemory;
 use program::BlockId;
 use ranges::{Effort, Sum, Unanswered, sum_form};
@@ -29,6 +30,13 @@ pub struct Trying<'s, 'a> {
 struct Try {
     registers: usize,
     words: String,
+}
+
+fn push_try(tried: &Option<Try>, out: &mut TextBuffer) {
+    if let Some(tried) = tried {
+        let words = tried.words.as_str();
+        writeln!(out, "    try: {words}");
+    }
 }
 
 /// Whether a fault stands among those of the text, where one line more stands from this one on.
@@ -74,10 +82,9 @@ fn one_term(
     coefficient: i64,
     constant: i128,
 ) -> Result<Option<Form>, OutOfMemory> {
-    match Form::from_constant(alloc, 0).plus_term(register, coefficient) {
-        Ok(form) => raised(alloc, &form, constant),
-        Err(FormFault::Bounds) => Ok(None),
-        Err(FormFault::Memory) => Err(OutOfMemory),
+    match within_bounds(Form::from_constant(alloc, 0).plus_term(register, coefficient))? {
+        Some(form) => raised(alloc, &form, constant),
+        None => Ok(None),
     }
 }
 
@@ -168,14 +175,14 @@ impl Trying<'_, '_> {
         alloc: Global,
         sum: &Sum,
         indent: &str,
-        out: &mut String,
+        out: &mut TextBuffer,
     ) -> Result<(), Unanswered> {
-        if !self.is_told() {
-            return Ok(());
+        if self.is_told() {
+            let mut notes = TextBuffer::new(alloc);
+            self.push_unshown(alloc, sum, &mut notes)?;
+            push_indented(out, notes.finish()?.as_str(), indent);
         }
-        let mut notes = String::new(alloc);
-        self.push_unshown(alloc, sum, &mut notes)?;
-        Ok(push_indented(out, notes.as_str(), indent)?)
+        Ok(())
     }
 
     /// Whether the text with this line before that one has no fault of numbers that it did not have, and fewer of them if it had any.
@@ -211,8 +218,10 @@ impl Trying<'_, '_> {
             return Ok(None);
         }
         let (word, after) = start_of(self.known.scene, self.known.block);
-        let mut line = format!(in alloc; ";! {word} ")?;
-        push_inequality(alloc, self.known.scene, form, &mut line)?;
+        let mut line = TextBuffer::new(alloc);
+        write!(line, ";! {word} ");
+        push_inequality(self.known.scene, form, &mut line);
+        let line = line.finish()?;
         if !self.is_better(alloc, line.as_str(), after.saturating_add(1))? {
             return Ok(None);
         }
@@ -227,38 +236,41 @@ impl Trying<'_, '_> {
         let Some(step) = self.known.step_to(alloc, form)? else {
             return Ok(None);
         };
-        let mut words = String::from_str(alloc, ";! shows ")?;
-        push_inequality(alloc, self.known.scene, &step, &mut words)?;
+        let mut words = TextBuffer::new(alloc);
+        words.push_str(";! shows ");
+        push_inequality(self.known.scene, &step, &mut words);
         let before = self.known.line;
-        write!(words, ", before line {before}")?;
+        write!(words, ", before line {before}");
         Ok(Some(Try {
             registers: number_of_registers(&step),
-            words,
+            words: words.finish()?,
         }))
     }
 
-    fn tries(&self, alloc: Global, form: &Form) -> Result<Vec<Try>, Unanswered> {
-        let mut tries: Vec<Try> = Vec::new(alloc);
-        if let Some(step) = self.step_line(alloc, form)? {
-            tries.push(step)?;
-        }
-        if let Some(plain) = plainer(alloc, form)? {
-            if let Some(start) = self.start_line(alloc, &plain)? {
-                tries.push(start)?;
-            }
-        }
-        tries.sort_by_key(|tried| tried.registers)?;
-        Ok(tries)
-    }
-
     /// Adds lines each of which is enough to show the sum at the place, where there are any.
-    pub fn push_tries(&self, alloc: Global, sum: &Sum, out: &mut String) -> Result<(), Unanswered> {
+    pub fn push_tries(
+        &self,
+        alloc: Global,
+        sum: &Sum,
+        out: &mut TextBuffer,
+    ) -> Result<(), Unanswered> {
         let Some(form) = sum_form(alloc, sum)? else {
             return Ok(());
         };
-        for tried in &self.tries(alloc, &form)? {
-            let words = tried.words.as_str();
-            writeln!(out, "    try: {words}")?;
+        let step = self.step_line(alloc, &form)?;
+        let start = match plainer(alloc, &form)? {
+            Some(plain) => self.start_line(alloc, &plain)?,
+            None => None,
+        };
+        match (&step, &start) {
+            (Some(first), Some(other)) if other.registers < first.registers => {
+                push_try(&start, out);
+                push_try(&step, out);
+            }
+            _ => {
+                push_try(&step, out);
+                push_try(&start, out);
+            }
         }
         Ok(())
     }
@@ -268,7 +280,7 @@ impl Trying<'_, '_> {
         &self,
         alloc: Global,
         sum: &Sum,
-        out: &mut String,
+        out: &mut TextBuffer,
     ) -> Result<(), Unanswered> {
         self.known.push_unshown(alloc, sum, out)?;
         self.push_tries(alloc, sum, out)

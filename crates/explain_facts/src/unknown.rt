@@ -1,9 +1,9 @@
 //! Registers that no fact bounds from the side that is asked for: why that is, and what to do.
 
 use crate::scene::Scene;
+use buffers::TextBuffer;
 use linear::{Fact, Term};
 use program::{BlockId, Function, FunctionId, Instruction, Program, RegisterId, Step};
-use std::alloc::AllocError;
 use syntax::BinaryOperator;
 
 /// Whether two coefficients bound a register from the same side.
@@ -108,22 +108,18 @@ fn maker_words(scene: &Scene<'_>, block: BlockId, register: RegisterId) -> Optio
 }
 
 /// That nothing bounds the register of a term from its side.
-fn push_what(
-    scene: &Scene<'_>,
-    facts: &[Fact],
-    term: Term,
-    out: &mut String,
-) -> Result<(), AllocError> {
+fn push_what(scene: &Scene<'_>, facts: &[Fact], term: Term, out: &mut TextBuffer) {
     let name = scene.register(term.register);
-    if !facts.iter().any(|fact| is_named_by(fact, term.register)) {
-        return write!(out, "    nothing is known of %{name}");
-    }
-    let side = if term.coefficient > 0 {
-        "below"
+    if facts.iter().any(|fact| is_named_by(fact, term.register)) {
+        let side = if term.coefficient > 0 {
+            "below"
+        } else {
+            "above"
+        };
+        write!(out, "    nothing bounds %{name} from {side}");
     } else {
-        "above"
-    };
-    write!(out, "    nothing bounds %{name} from {side}")
+        write!(out, "    nothing is known of %{name}");
+    }
 }
 
 /// That nothing bounds the register of a term from its side, and what to do.
@@ -132,16 +128,16 @@ pub fn push_unbounded(
     block: BlockId,
     facts: &[Fact],
     term: Term,
-    out: &mut String,
-) -> Result<(), AllocError> {
-    push_what(scene, facts, term, out)?;
+    out: &mut TextBuffer,
+) {
+    push_what(scene, facts, term, out);
     if let Some(words) = maker_words(scene, block, term.register) {
-        return writeln!(out, ", which is {words}");
+        writeln!(out, ", which is {words}");
+    } else if block.0 == 0 {
+        out.push_str(": bound it by `requires`\n");
+    } else {
+        out.push_str(
+            " in this block: a `keeps` line behind its label brings along what is known before it\n",
+        );
     }
-    if block.0 == 0 {
-        return out.push_str(": bound it by `requires`\n");
-    }
-    out.push_str(
-        " in this block: a `keeps` line behind its label brings along what is known before it\n",
-    )
 }

@@ -2,8 +2,9 @@
 
 use crate::gap::spend;
 use crate::trial::Matched;
+use buffers::ListBuffer;
 use linear_shown::{FactBranches, FactCursor, Known};
-use lists::Seq;
+use lists::{OutOfMemory, Seq};
 use program::{Block, Ending, Function, Inequality, Program, Step};
 use ranges::{
     BlockFacts, EdgeFacts, Effort, Obligation, Sum, Unanswered, block_facts, difference_of,
@@ -54,17 +55,17 @@ fn push_if_unmet(
     known: &Known<'_>,
     obligation: Obligation,
     asked: Option<u32>,
-    unmet: &mut Vec<Unmet>,
+    unmet: &mut ListBuffer<Unmet>,
 ) -> Result<(), Unanswered> {
-    if is_met_at(alloc, known, &obligation)? {
-        return Ok(());
+    if !is_met_at(alloc, known, &obligation)? {
+        unmet.push(Unmet {
+            site,
+            number: obligation.number,
+            choices: obligation.choices,
+            asked,
+        });
     }
-    Ok(unmet.push(Unmet {
-        site,
-        number: obligation.number,
-        choices: obligation.choices,
-        asked,
-    })?)
+    Ok(())
 }
 
 /// Adds what is known not to meet. The inequalities, if there are any, are those that ask it, in the same order.
@@ -74,7 +75,7 @@ fn push_unmet(
     known: &Known<'_>,
     obligations: Vec<Obligation>,
     asking: &[Inequality],
-    unmet: &mut Vec<Unmet>,
+    unmet: &mut ListBuffer<Unmet>,
 ) -> Result<(), Unanswered> {
     let mut place: usize = 0;
     for obligation in obligations {
@@ -85,21 +86,14 @@ fn push_unmet(
     Ok(())
 }
 
-/// Adds a `shows` line, if it is not shown.
-fn push_if_unshown(
-    alloc: Global,
-    site: Site,
-    known: &Known<'_>,
-    line: &Inequality,
-    unmet: &mut Vec<Unmet>,
-) -> Result<(), Unanswered> {
+/// What a `shows` line owes.
+fn owed_by_line(alloc: Global, line: &Inequality) -> Result<Obligation, OutOfMemory> {
     let mut choices = Vec::new(alloc);
     choices.push(difference_of(alloc, &[], line)?)?;
-    let obligation = Obligation {
+    Ok(Obligation {
         number: 508,
         choices: Seq::from_vec(choices),
-    };
-    push_if_unmet(alloc, site, known, obligation, None, unmet)
+    })
 }
 
 /// Adds the `shows` lines that are not shown; each is a fact for those after it. `count` facts are known at the last of them.
@@ -108,7 +102,7 @@ fn push_shows(
     site: Site,
     cursor: &mut FactCursor<'_>,
     shows: &[Inequality],
-    unmet: &mut Vec<Unmet>,
+    unmet: &mut ListBuffer<Unmet>,
 ) -> Result<(), Unanswered> {
     let before = site.count.saturating_sub(shows.len());
     for (place, line) in shows.iter().enumerate() {
@@ -120,7 +114,8 @@ fn push_shows(
         };
         cursor.seek(count);
         cursor.index()?;
-        push_if_unshown(alloc, at, &cursor.known(), line, unmet)?;
+        let owed = owed_by_line(alloc, line)?;
+        push_if_unmet(alloc, at, &cursor.known(), owed, None, unmet)?;
     }
     cursor.seek(site.count);
     Ok(cursor.index()?)
@@ -145,7 +140,7 @@ fn push_step(
     site: Site,
     cursor: &mut FactCursor<'_>,
     step: &Step,
-    unmet: &mut Vec<Unmet>,
+    unmet: &mut ListBuffer<Unmet>,
 ) -> Result<(), Unanswered> {
     push_shows(alloc, site, cursor, step.shows.as_slice(), unmet)?;
     let owed = owed(alloc, judged.program, judged.function, &step.instruction)?;
@@ -159,7 +154,7 @@ fn push_edge(
     site: Site,
     facts: &mut FactBranches<'_>,
     edge: &EdgeFacts,
-    unmet: &mut Vec<Unmet>,
+    unmet: &mut ListBuffer<Unmet>,
 ) -> Result<(), Unanswered> {
     let Some(target) = judged.function.blocks.as_slice().get(edge.to.0) else {
         return Ok(());
@@ -175,7 +170,7 @@ fn push_edges(
     alloc: Global,
     judged: Judged<'_>,
     site: Site,
-    unmet: &mut Vec<Unmet>,
+    unmet: &mut ListBuffer<Unmet>,
 ) -> Result<(), Unanswered> {
     let mut facts = FactBranches::new(alloc, judged.table.facts.as_slice(), judged.effort);
     for (place, edge) in judged.table.edges.as_slice().iter().enumerate() {
@@ -194,7 +189,7 @@ fn push_end(
     site: Site,
     cursor: &mut FactCursor<'_>,
     ending: &Ending,
-    unmet: &mut Vec<Unmet>,
+    unmet: &mut ListBuffer<Unmet>,
 ) -> Result<(), Unanswered> {
     push_shows(alloc, site, cursor, ending.shows.as_slice(), unmet)?;
     let owed = owed_at_end(alloc, judged.function, &ending.terminator)?;
@@ -208,7 +203,7 @@ fn push_block(
     alloc: Global,
     judged: Judged<'_>,
     site: Site,
-    unmet: &mut Vec<Unmet>,
+    unmet: &mut ListBuffer<Unmet>,
 ) -> Result<(), Unanswered> {
     let mut cursor = FactCursor::new(alloc, judged.table.facts.as_slice(), judged.effort);
     for (place, step) in judged.block.steps.as_slice().iter().enumerate() {
@@ -238,7 +233,7 @@ fn push_function(
     index: usize,
     function: &Function,
     effort: &Effort,
-    unmet: &mut Vec<Unmet>,
+    unmet: &mut ListBuffer<Unmet>,
 ) -> Result<(), Unanswered> {
     for (place, block) in function.blocks.as_slice().iter().enumerate() {
         spend(effort, block.steps.len())?;
@@ -271,9 +266,9 @@ pub fn all_unmet(
     effort: &Effort,
 ) -> Result<Vec<Unmet>, Unanswered> {
     let program = &matched.graph.program;
-    let mut unmet: Vec<Unmet> = Vec::new(alloc);
+    let mut unmet: ListBuffer<Unmet> = ListBuffer::new(alloc);
     for (index, function) in program.functions.as_slice().iter().enumerate() {
         push_function(alloc, program, index, function, effort, &mut unmet)?;
     }
-    Ok(unmet)
+    Ok(unmet.finish()?)
 }

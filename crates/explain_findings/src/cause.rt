@@ -1,6 +1,6 @@
 //! Which of a rule's causes it is, where a rule has several.
 
-use crate::row::{Row, function_of};
+use crate::row::{Row, function_of, is_among};
 use std::alloc::AllocError;
 
 /// What a line that breaks 307 has in its block.
@@ -30,10 +30,7 @@ fn has_element(function: &[Row<'_>], pointers: &[&str]) -> bool {
 /// Whether a name stands twice among these.
 fn has_twice(pointers: &[&str]) -> bool {
     for index in 0..pointers.len() {
-        if pointers[..index]
-            .iter()
-            .any(|name| *name == pointers[index])
-        {
+        if is_among(&pointers[..index], pointers[index]) {
             return true;
         }
     }

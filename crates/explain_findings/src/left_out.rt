@@ -1,6 +1,6 @@
 //! Words of LLVM that the language leaves out.
 
-use lists::OutOfMemory;
+use buffers::TextBuffer;
 
 /// A word, and what to write in its place.
 const LEFT_OUT: &str = "\
@@ -125,16 +125,15 @@ tapir | `detach`, `reattach` and `sync` are its words
 ";
 
 /// Says of a word of LLVM that the language leaves it out.
-pub fn push_left_out(word: &str, out: &mut String) -> Result<(), OutOfMemory> {
+pub fn push_left_out(word: &str, out: &mut TextBuffer) {
     for row in LEFT_OUT.lines() {
         if let Some((left_out, instead)) = row.split_once(" | ") {
             if left_out == word {
                 writeln!(
                     out,
                     "  `{word}` is a word of LLVM that the language leaves out: {instead}"
-                )?;
+                );
             }
         }
     }
-    Ok(())
 }

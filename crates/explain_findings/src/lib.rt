@@ -12,6 +12,6 @@ mod row;
 mod word;
 
 pub use finding::{Finding, Source, push_finding, push_found};
-pub use lines::{line_at, lines_before, push_indented, with_line_at, with_line_before};
+pub use lines::{line_at, push_indented, with_line_at, with_line_before};
 pub use note::name_finding;
 pub use word::word_findings;

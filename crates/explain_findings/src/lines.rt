@@ -1,78 +1,73 @@
 //! The lines of a text, counted from 1.
 
-use lists::OutOfMemory;
+use buffers::TextBuffer;
 use std::alloc::{AllocError, Global};
 
-fn push_line(out: &mut String, line: &str) -> Result<(), AllocError> {
-    out.push_str(line)?;
-    out.push_str("\n")
-}
-
 /// Adds lines, each of which begins with this more.
-pub fn push_indented(out: &mut String, lines: &str, indent: &str) -> Result<(), AllocError> {
+pub fn push_indented(out: &mut TextBuffer, lines: &str, indent: &str) {
     for line in lines.lines() {
-        writeln!(out, "{indent}{line}")?;
+        writeln!(out, "{indent}{line}");
     }
-    Ok(())
 }
 
-/// The line of this number, without its LF.
-pub fn line_at(text: &str, number: u32) -> Option<&str> {
+/// The text before the line of this number, and from there on; all of it and none where it has no such line.
+fn parted(text: &str, number: u32) -> (&str, Option<&str>) {
+    let mut before: usize = 0;
     let mut at: u32 = 0;
     for line in text.split('\n') {
         at = at.saturating_add(1);
         if at == number {
-            return Some(line);
+            return (text.get(..before).unwrap_or(""), text.get(before..));
         }
+        before = before.saturating_add(line.len()).saturating_add(1);
     }
-    None
+    (text, None)
+}
+
+/// The line of this number, without its LF.
+pub fn line_at(text: &str, number: u32) -> Option<&str> {
+    let (_, rest) = parted(text, number);
+    rest?.split('\n').next()
+}
+
+/// The text before the line of this number.
+pub fn lines_before(text: &str, number: u32) -> &str {
+    parted(text, number).0
 }
 
 /// The text with a line more, which stands before the line of this number.
+///
+/// # Errors
+///
+/// Memory is refused.
 pub fn with_line_before(
     alloc: Global,
     text: &str,
     number: u32,
     new: &str,
-) -> Result<String, OutOfMemory> {
-    let mut changed = String::new(alloc);
-    let mut at: u32 = 0;
-    for line in text.split('\n') {
-        at = at.saturating_add(1);
-        if at == number {
-            push_line(&mut changed, new)?;
-        }
-        push_line(&mut changed, line)?;
+) -> Result<String, AllocError> {
+    match parted(text, number) {
+        (before, Some(rest)) => format!(in alloc; "{before}{new}\n{rest}\n"),
+        (text, None) => format!(in alloc; "{text}\n"),
     }
-    Ok(changed)
 }
 
 /// The text with this in place of the line of this number.
+///
+/// # Errors
+///
+/// Memory is refused.
 pub fn with_line_at(
     alloc: Global,
     text: &str,
     number: u32,
     new: &str,
-) -> Result<String, OutOfMemory> {
-    let mut changed = String::new(alloc);
-    let mut at: u32 = 0;
-    for line in text.split('\n') {
-        at = at.saturating_add(1);
-        let line = if at == number { new } else { line };
-        push_line(&mut changed, line)?;
+) -> Result<String, AllocError> {
+    match parted(text, number) {
+        (before, Some(rest)) => match rest.split_once('\n') {
+            Some((_, after)) => format!(in alloc; "{before}{new}\n{after}\n"),
+            None => format!(in alloc; "{before}{new}\n"),
+        },
+        (text, None) => format!(in alloc; "{text}\n"),
     }
-    Ok(changed)
-}
-
-/// The text before the line of this number.
-pub fn lines_before(alloc: Global, text: &str, number: u32) -> Result<String, OutOfMemory> {
-    let mut before = String::new(alloc);
-    let mut at: u32 = 0;
-    for line in text.split('\n') {
-        at = at.saturating_add(1);
-        if at < number {
-            push_line(&mut before, line)?;
-        }
-    }
-    Ok(before)
 }

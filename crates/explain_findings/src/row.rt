@@ -27,13 +27,6 @@ impl<'a> Row<'a> {
         }
     }
 
-    fn is_kind(&self, index: usize, kind: Kind) -> bool {
-        match self.tokens.as_slice().get(index) {
-            Some(token) => token.kind == kind,
-            None => false,
-        }
-    }
-
     /// The line without a comment and the blanks around.
     pub fn code(&self) -> &'a str {
         let tokens = self.tokens.as_slice();
@@ -45,31 +38,23 @@ impl<'a> Row<'a> {
 
     /// The label of a label's line.
     pub fn label(&self) -> Option<&'a str> {
-        if self.is_kind(0, Kind::Word) && self.word(1) == ":" {
-            Some(self.word(0))
-        } else {
-            None
+        match self.tokens.as_slice() {
+            [label, mark, ..] if label.kind == Kind::Word && self.part(*mark) == ":" => {
+                Some(self.part(*label))
+            }
+            _ => None,
         }
     }
 
     /// Whether the name stands in the line, as a token of its own.
     pub fn has(&self, name: &str) -> bool {
-        for token in &self.tokens {
-            if token.kind == Kind::Name && self.part(*token) == name {
-                return true;
-            }
-        }
-        false
+        self.tokens.iter().any(|token| token.kind == Kind::Name && self.part(*token) == name)
     }
 
     /// Whether the name of a register or a block stands in the line, given without its `%`.
     pub fn has_local(&self, name: &str) -> bool {
-        for token in &self.tokens {
-            if token.kind == Kind::Name && self.part(*token).strip_prefix('%') == Some(name) {
-                return true;
-            }
-        }
-        false
+        self.tokens.iter().any(|token| token.kind == Kind::Name
+            && self.part(*token).strip_prefix('%') == Some(name))
     }
 
     /// Whether the line defines the name: by `=`, as a label, or as a function or one of its parameters.
@@ -100,7 +85,7 @@ impl<'a> Row<'a> {
         for token in &self.tokens {
             match token.kind {
                 Kind::Name => push_name(&mut names, self.part(*token))?,
-                Kind::Word => push_sums(&mut names, self.part(*token))?,
+                Kind::Word => push_form_names(&mut names, self.part(*token))?,
                 Kind::Number | Kind::Mark | Kind::Note => {}
             }
         }
@@ -108,37 +93,38 @@ impl<'a> Row<'a> {
     }
 }
 
+/// Whether a name is one of these.
+pub fn is_among(names: &[&str], wanted: &str) -> bool {
+    names.iter().any(|name| *name == wanted)
+}
+
 /// Adds a name, if it is one and is not there.
 fn push_name<'a>(names: &mut Vec<&'a str>, word: &'a str) -> Result<(), AllocError> {
     let is_name = word.starts_with('%') || word.starts_with('@');
-    if is_name && !names.iter().any(|name| *name == word) {
+    if is_name && !is_among(names.as_slice(), word) {
         names.push(word)?;
     }
     Ok(())
 }
 
-/// Adds the names of a product.
-fn push_factors<'a>(names: &mut Vec<&'a str>, term: &'a str) -> Result<(), AllocError> {
-    for factor in term.split('*') {
-        push_name(names, factor)?;
-    }
-    Ok(())
-}
-
-/// Adds the names of a difference.
-fn push_terms<'a>(names: &mut Vec<&'a str>, sum: &'a str) -> Result<(), AllocError> {
-    for term in sum.split('-') {
-        push_factors(names, term)?;
-    }
-    Ok(())
-}
-
 /// Adds the names of a form.
-fn push_sums<'a>(names: &mut Vec<&'a str>, form: &'a str) -> Result<(), AllocError> {
-    for sum in form.split('+') {
-        push_terms(names, sum)?;
+fn push_form_names<'a>(names: &mut Vec<&'a str>, form: &'a str) -> Result<(), AllocError> {
+    for word in form.split(['+', '-', '*']) {
+        push_name(names, word)?;
     }
     Ok(())
+}
+
+/// The number of a line that is read by itself.
+pub const ALONE: u32 = 1;
+
+/// The tokens of a line by itself; none where a run of its bytes is no token.
+pub fn tokens_of(alloc: Global, line: &str) -> Result<Option<Vec<Token>>, OutOfMemory> {
+    match lex(alloc, line.as_bytes(), ALONE) {
+        Ok(tokens) => Ok(Some(tokens)),
+        Err(Refused::Fault { .. }) => Ok(None),
+        Err(Refused::Memory) => Err(OutOfMemory),
+    }
 }
 
 /// The lines of a text that say something. A line that has no tokens by itself is left out.
@@ -147,19 +133,15 @@ pub fn rows_of<'a>(alloc: Global, text: &'a str) -> Result<Vec<Row<'a>>, OutOfMe
     let mut number: u32 = 0;
     for line in text.split('\n') {
         number = number.saturating_add(1);
-        match lex(alloc, line.as_bytes(), number) {
-            Ok(tokens) => {
-                if !tokens.is_empty() {
-                    rows.push(Row {
-                        alloc,
-                        number,
-                        text: line,
-                        tokens,
-                    })?;
-                }
+        if let Some(tokens) = tokens_of(alloc, line)? {
+            if !tokens.is_empty() {
+                rows.push(Row {
+                    alloc,
+                    number,
+                    text: line,
+                    tokens,
+                })?;
             }
-            Err(Refused::Fault { .. }) => {}
-            Err(Refused::Memory) => return Err(OutOfMemory),
         }
     }
     Ok(rows)

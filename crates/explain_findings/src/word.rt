@@ -3,12 +3,14 @@
 use crate::finding::{Finding, Source, push_finding};
 use crate::left_out::push_left_out;
 use crate::lines::lines_before;
+use crate::row::{ALONE, tokens_of};
+use buffers::TextBuffer;
 use ir_item::read_line;
-use ir_lex::{Kind, Token, lex};
+use ir_lex::{Kind, Token};
 use ir_reader::read;
 use lists::OutOfMemory;
 use refusal::Refused;
-use std::alloc::{AllocError, Global};
+use std::alloc::Global;
 
 /// What may stand in a line that is no annotation. The first three stand for all of their kind.
 const WORDS: &str =
@@ -40,23 +42,23 @@ const MOST_TOKENS: usize = 64;
 /// Faults beyond this number are told without what could stand there.
 const MOST_TOLD: usize = 20;
 
-/// What is told of a line of the text: its number and its bytes.
-#[derive(Clone, Copy)]
-struct Row<'a> {
-    number: u32,
-    text: &'a str,
-}
+/// Types of pointers that LLVM had before `ptr`; of an array's the end.
+const TYPED_POINTERS: &str = "i64* i32* i16* i8* i1* i64]*";
 
-impl<'a> Row<'a> {
-    /// The bytes of a token of the line.
-    fn part(self, token: &Token) -> &'a str {
-        self.text.get(token.from..token.to).unwrap_or("")
-    }
+/// A line of the text, and what is told of it. Where memory is refused for what is told, or for what is tried to know it, [`Told::finish`] says so.
+#[derive(Drop)]
+struct Told<'a> {
+    alloc: Global,
+    source: Source<'a>,
+    number: u32,
+    line: &'a str,
+    notes: TextBuffer,
+    is_refused: bool,
 }
 
 /// The fault of a line by itself.
-fn fault_of(alloc: Global, row: Row<'_>) -> Result<Option<u16>, OutOfMemory> {
-    match read_line(alloc, row.text.as_bytes(), row.number) {
+fn fault_of(alloc: Global, line: &str) -> Result<Option<u16>, OutOfMemory> {
+    match read_line(alloc, line.as_bytes(), ALONE) {
         Ok(Some(line)) => {
             let is_within_limits = line.is_within_limits;
             drop(line);
@@ -68,268 +70,30 @@ fn fault_of(alloc: Global, row: Row<'_>) -> Result<Option<u16>, OutOfMemory> {
     }
 }
 
-/// Whether a line says something by itself, or nothing.
-fn is_right(alloc: Global, row: Row<'_>) -> Result<bool, OutOfMemory> {
-    Ok(fault_of(alloc, row)?.is_none())
-}
-
-/// The line with a word in place of its bytes from one place to before another.
-fn edited(
+/// Whether a line with a word in place of its bytes from one place to before another says something by itself, or nothing.
+fn is_right_with(
     alloc: Global,
     line: &str,
     from: usize,
     to: usize,
     word: &str,
-) -> Result<String, AllocError> {
+) -> Result<bool, OutOfMemory> {
     let before = line.get(..from).unwrap_or("");
     let after = line.get(to..).unwrap_or("");
-    format!(in alloc; "{before} {word} {after}")
-}
-
-/// Whether a line with a word in place of its bytes from one place to before another is right.
-fn fits(
-    alloc: Global,
-    row: Row<'_>,
-    from: usize,
-    to: usize,
-    word: &str,
-) -> Result<bool, OutOfMemory> {
-    let changed = edited(alloc, row.text, from, to, word)?;
-    let row = Row {
-        number: row.number,
-        text: changed.as_str(),
-    };
-    is_right(alloc, row)
-}
-
-/// How a word is told.
-fn push_word(out: &mut String, word: &str) -> Result<(), AllocError> {
-    match word {
-        "%x" => out.push_str(" a register"),
-        "@x" => out.push_str(" a global's name"),
-        "1" => out.push_str(" a number"),
-        word => write!(out, " `{word}`"),
-    }
-}
-
-/// The words with which the line is right, where they stand from one place to before another.
-fn words_that_fit(
-    alloc: Global,
-    row: Row<'_>,
-    from: usize,
-    to: usize,
-    words: &str,
-) -> Result<String, OutOfMemory> {
-    let mut fitting = String::new(alloc);
-    for word in words.split(' ') {
-        if fits(alloc, row, from, to, word)? {
-            push_word(&mut fitting, word)?;
-        }
-    }
-    Ok(fitting)
-}
-
-/// What could stand before a token.
-fn push_before(
-    alloc: Global,
-    row: Row<'_>,
-    token: &Token,
-    words: &str,
-    notes: &mut String,
-) -> Result<(), OutOfMemory> {
-    let before = words_that_fit(alloc, row, token.from, token.from, words)?;
-    if !before.is_empty() {
-        let found = row.part(token);
-        writeln!(notes, "    before `{found}` could stand:{before}")?;
-    }
-    Ok(())
-}
-
-/// What could stand in place of a token.
-fn push_instead(
-    alloc: Global,
-    row: Row<'_>,
-    token: &Token,
-    words: &str,
-    notes: &mut String,
-) -> Result<(), OutOfMemory> {
-    let instead = words_that_fit(alloc, row, token.from, token.to, words)?;
-    if !instead.is_empty() {
-        let found = row.part(token);
-        writeln!(notes, "    in place of `{found}` could stand:{instead}")?;
-    }
-    Ok(())
-}
-
-/// Whether the line is right without a token.
-fn push_without(
-    alloc: Global,
-    row: Row<'_>,
-    token: &Token,
-    notes: &mut String,
-) -> Result<(), OutOfMemory> {
-    if fits(alloc, row, token.from, token.to, "")? {
-        let found = row.part(token);
-        writeln!(notes, "    without `{found}` the line is right")?;
-    }
-    Ok(())
-}
-
-/// What could stand in place of a token, or before it, and whether the line is right without it.
-fn push_token_notes(
-    alloc: Global,
-    row: Row<'_>,
-    token: &Token,
-    words: &str,
-    notes: &mut String,
-) -> Result<(), OutOfMemory> {
-    push_before(alloc, row, token, words, notes)?;
-    push_instead(alloc, row, token, words, notes)?;
-    push_without(alloc, row, token, notes)
-}
-
-/// What could stand at the line's end.
-fn push_end_notes(
-    alloc: Global,
-    row: Row<'_>,
-    tokens: &[Token],
-    words: &str,
-    notes: &mut String,
-) -> Result<(), OutOfMemory> {
-    if let Some(last) = tokens.last() {
-        let after = words_that_fit(alloc, row, last.to, last.to, words)?;
-        if !after.is_empty() {
-            writeln!(notes, "    at the end could stand:{after}")?;
-        }
-    }
-    Ok(())
-}
-
-/// The words that are of LLVM and not of the language.
-fn push_left_out_words(
-    row: Row<'_>,
-    tokens: &[Token],
-    notes: &mut String,
-) -> Result<(), OutOfMemory> {
-    for token in tokens {
-        push_left_out(row.part(token), notes)?;
-    }
-    Ok(())
-}
-
-/// What one word more, less or other mends in a line; of a very long one nothing is told.
-fn push_edits(
-    alloc: Global,
-    row: Row<'_>,
-    tokens: &[Token],
-    words: &str,
-    notes: &mut String,
-) -> Result<(), OutOfMemory> {
-    if tokens.len() > MOST_TOKENS {
-        return Ok(());
-    }
-    let count = notes.len();
-    for token in tokens {
-        push_token_notes(alloc, row, token, words, notes)?;
-    }
-    push_end_notes(alloc, row, tokens, words, notes)?;
-    if notes.len() == count {
-        notes.push_str("    no one word more, less or other makes it a line\n")?;
-    }
-    Ok(())
-}
-
-/// What is wrong with the tokens of a line that is no annotation.
-fn push_code(
-    alloc: Global,
-    row: Row<'_>,
-    tokens: &[Token],
-    notes: &mut String,
-) -> Result<(), OutOfMemory> {
-    push_left_out_words(row, tokens, notes)?;
-    push_edits(alloc, row, tokens, WORDS, notes)
-}
-
-/// What is wrong with the tokens of a line.
-fn push_tokens(
-    alloc: Global,
-    row: Row<'_>,
-    tokens: &[Token],
-    notes: &mut String,
-) -> Result<(), OutOfMemory> {
-    match tokens.first() {
-        None => Ok(()),
-        Some(first) if first.kind == Kind::Note => {
-            push_edits(alloc, row, tokens, NOTE_WORDS, notes)
-        }
-        Some(_) => push_code(alloc, row, tokens, notes),
-    }
-}
-
-/// What is wrong with the words of a line.
-fn push_words(alloc: Global, row: Row<'_>, notes: &mut String) -> Result<(), OutOfMemory> {
-    match lex(alloc, row.text.as_bytes(), row.number) {
-        Ok(tokens) => push_tokens(alloc, row, tokens.as_slice(), notes),
-        Err(Refused::Fault { .. }) => push_bad_tokens(alloc, row, notes),
-        Err(Refused::Memory) => Err(OutOfMemory),
-    }
+    let changed = format!(in alloc; "{before} {word} {after}")?;
+    Ok(fault_of(alloc, changed.as_str())?.is_none())
 }
 
 /// Whether a run of bytes is no token by itself.
-fn is_bad(alloc: Global, word: &str, number: u32) -> Result<bool, OutOfMemory> {
-    match lex(alloc, word.as_bytes(), number) {
-        Ok(_) => Ok(false),
-        Err(Refused::Fault { .. }) => Ok(true),
-        Err(Refused::Memory) => Err(OutOfMemory),
-    }
+fn is_bad(alloc: Global, word: &str) -> Result<bool, OutOfMemory> {
+    Ok(tokens_of(alloc, word)?.is_none())
 }
-
-/// Types of pointers that LLVM had before `ptr`; of an array's the end.
-const TYPED_POINTERS: &str = "i64* i32* i16* i8* i1* i64]*";
 
 /// Whether a word begins with the type of a pointer that says to what it points.
 fn is_typed_pointer(word: &str) -> bool {
-    for pointer in TYPED_POINTERS.split(' ') {
-        if word.starts_with(pointer) {
-            return true;
-        }
-    }
-    false
-}
-
-/// Says of a run of bytes with the type of a pointer that says to what it points how it is written.
-fn push_typed_pointer(run: &str, notes: &mut String) -> Result<(), OutOfMemory> {
-    if run.split('(').any(is_typed_pointer) {
-        notes.push_str("    a pointer's type is `ptr`, whatever it points to\n")?;
-    }
-    Ok(())
-}
-
-/// A run of bytes, if it is no token.
-fn push_if_bad(
-    alloc: Global,
-    word: &str,
-    number: u32,
-    notes: &mut String,
-) -> Result<(), OutOfMemory> {
-    if !is_bad(alloc, word, number)? {
-        return Ok(());
-    }
-    let found = word.escape_debug();
-    writeln!(notes, "  found: `{found}`")?;
-    push_typed_pointer(word, notes)?;
-    push_left_out(word, notes)
-}
-
-/// The runs of bytes that are no tokens.
-fn push_bad_tokens(alloc: Global, row: Row<'_>, notes: &mut String) -> Result<(), OutOfMemory> {
-    if row.text.ends_with('\r') {
-        notes.push_str("  found: a carriage return at the line's end\n")?;
-    }
-    for word in row.text.split_whitespace() {
-        push_if_bad(alloc, word, row.number, notes)?;
-    }
-    Ok(())
+    TYPED_POINTERS
+        .split(' ')
+        .any(|pointer| word.starts_with(pointer))
 }
 
 /// Whether the text before a line may go on with another one.
@@ -356,88 +120,214 @@ fn may_stand(
     }
 }
 
-/// A row of the kinds of lines, if its line may go on behind the text before.
-fn push_kind(
-    alloc: Global,
-    source: Source<'_>,
-    before: &str,
-    row: &str,
-    number: u32,
-    notes: &mut String,
-) -> Result<(), OutOfMemory> {
-    if let Some((kind, line)) = row.split_once(" | ") {
-        if may_stand(alloc, source, before, line, number)? {
-            writeln!(notes, "    {kind}")?;
+/// How a word is told.
+fn push_word(out: &mut TextBuffer, word: &str) {
+    match word {
+        "%x" => out.push_str(" a register"),
+        "@x" => out.push_str(" a global's name"),
+        "1" => out.push_str(" a number"),
+        word => write!(out, " `{word}`"),
+    }
+}
+
+impl<'a> Told<'a> {
+    /// The bytes of a token of the line.
+    fn part(&self, token: &Token) -> &'a str {
+        self.line.get(token.from..token.to).unwrap_or("")
+    }
+
+    /// An answer, or false where memory was refused for it.
+    fn kept(&mut self, answer: Result<bool, OutOfMemory>) -> bool {
+        match answer {
+            Ok(answer) => answer,
+            Err(OutOfMemory) => {
+                self.is_refused = true;
+                false
+            }
         }
     }
-    Ok(())
+
+    /// Whether the line with a word in place of its bytes from one place to before another is right.
+    fn fits(&mut self, from: usize, to: usize, word: &str) -> bool {
+        self.kept(is_right_with(self.alloc, self.line, from, to, word))
+    }
+
+    /// Which words could stand from one place to before another, where some could.
+    fn push_fitting(
+        &mut self,
+        words: &str,
+        from: usize,
+        to: usize,
+        place: &str,
+        found: Option<&str>,
+    ) {
+        let mut is_any = false;
+        for word in words.split(' ') {
+            if self.fits(from, to, word) {
+                if !is_any {
+                    is_any = true;
+                    self.push_place(place, found);
+                }
+                push_word(&mut self.notes, word);
+            }
+        }
+        if is_any {
+            self.notes.push_str("\n");
+        }
+    }
+
+    fn push_place(&mut self, place: &str, found: Option<&str>) {
+        match found {
+            Some(found) => write!(self.notes, "    {place} `{found}` could stand:"),
+            None => write!(self.notes, "    {place} could stand:"),
+        }
+    }
+
+    /// What could stand in place of a token, or before it, and whether the line is right without it.
+    fn push_token_notes(&mut self, token: &Token, words: &str) {
+        let found = self.part(token);
+        self.push_fitting(words, token.from, token.from, "before", Some(found));
+        self.push_fitting(words, token.from, token.to, "in place of", Some(found));
+        if self.fits(token.from, token.to, "") {
+            writeln!(self.notes, "    without `{found}` the line is right");
+        }
+    }
+
+    /// What one word more, less or other mends in the line; of a very long one nothing is told.
+    fn push_edits(&mut self, tokens: &[Token], words: &str) {
+        if tokens.len() > MOST_TOKENS {
+            return;
+        }
+        let count = self.notes.as_str().len();
+        for token in tokens {
+            self.push_token_notes(token, words);
+        }
+        if let Some(last) = tokens.last() {
+            self.push_fitting(words, last.to, last.to, "at the end", None);
+        }
+        if self.notes.as_str().len() == count {
+            self.notes
+                .push_str("    no one word more, less or other makes it a line\n");
+        }
+    }
+
+    /// What is wrong with the tokens of the line: of an annotation no word of LLVM is told.
+    fn push_tokens(&mut self, tokens: &[Token]) {
+        match tokens.first() {
+            None => {}
+            Some(first) if first.kind == Kind::Note => self.push_edits(tokens, NOTE_WORDS),
+            Some(_) => {
+                for token in tokens {
+                    push_left_out(self.part(token), &mut self.notes);
+                }
+                self.push_edits(tokens, WORDS);
+            }
+        }
+    }
+
+    /// What is wrong with the words of the line.
+    fn push_words(&mut self) {
+        match tokens_of(self.alloc, self.line) {
+            Ok(Some(tokens)) => self.push_tokens(tokens.as_slice()),
+            Ok(None) => self.push_bad_tokens(),
+            Err(OutOfMemory) => self.is_refused = true,
+        }
+    }
+
+    /// A run of bytes, if it is no token: how a pointer's type is written, and what the language leaves out.
+    fn push_if_bad(&mut self, word: &str) {
+        if !self.kept(is_bad(self.alloc, word)) {
+            return;
+        }
+        let found = word.escape_debug();
+        writeln!(self.notes, "  found: `{found}`");
+        if word.split('(').any(is_typed_pointer) {
+            self.notes
+                .push_str("    a pointer's type is `ptr`, whatever it points to\n");
+        }
+        push_left_out(word, &mut self.notes);
+    }
+
+    /// The runs of bytes that are no tokens.
+    fn push_bad_tokens(&mut self) {
+        if self.line.ends_with('\r') {
+            self.notes
+                .push_str("  found: a carriage return at the line's end\n");
+        }
+        for word in self.line.split_whitespace() {
+            self.push_if_bad(word);
+        }
+    }
+
+    /// The kinds of lines that could stand where a right one may not.
+    fn push_kinds(&mut self) {
+        let before = lines_before(self.source.text, self.number);
+        self.notes.push_str(
+            "  the line is right by itself, and may not stand here; here could stand:\n",
+        );
+        for row in KINDS.lines() {
+            if let Some((kind, line)) = row.split_once(" | ") {
+                if self.kept(may_stand(self.alloc, self.source, before, line, self.number)) {
+                    writeln!(self.notes, "    {kind}");
+                }
+            }
+        }
+    }
+
+    /// What there is to say of a line that may not stand where it does: of its place, or of its words.
+    fn push_misplaced(&mut self) {
+        match fault_of(self.alloc, self.line) {
+            Ok(None) => self.push_kinds(),
+            Ok(Some(_)) => self.push_words(),
+            Err(OutOfMemory) => self.is_refused = true,
+        }
+    }
+
+    /// What there is to say of the line where it has this fault.
+    fn push_notes(&mut self, rule: u16) {
+        match rule {
+            102 => self.push_bad_tokens(),
+            103 => self.push_misplaced(),
+            107 => self.push_words(),
+            _ => {}
+        }
+    }
+
+    /// What is told.
+    fn finish(self) -> Result<String, OutOfMemory> {
+        let Told {
+            notes,
+            is_refused,
+            ..
+        } = self;
+        if is_refused {
+            return Err(OutOfMemory);
+        }
+        Ok(notes.finish()?)
+    }
 }
 
-/// The kinds of lines that could stand where a right one may not.
-fn push_kinds(
+/// Adds a fault of a line, with what there is to say of it unless many are told before.
+fn push_fault(
     alloc: Global,
     source: Source<'_>,
+    line: &str,
     number: u32,
-    notes: &mut String,
-) -> Result<(), OutOfMemory> {
-    let before = lines_before(alloc, source.text, number)?;
-    notes.push_str("  the line is right by itself, and may not stand here; here could stand:\n")?;
-    for row in KINDS.lines() {
-        push_kind(alloc, source, before.as_str(), row, number, notes)?;
-    }
-    Ok(())
-}
-
-/// What there is to say of a line that may not stand where it does: of its place, or of its words.
-fn push_misplaced(
-    alloc: Global,
-    source: Source<'_>,
-    row: Row<'_>,
-    notes: &mut String,
-) -> Result<(), OutOfMemory> {
-    if is_right(alloc, row)? {
-        push_kinds(alloc, source, row.number, notes)
-    } else {
-        push_words(alloc, row, notes)
-    }
-}
-
-/// What there is to say of a line with this fault.
-fn push_notes(
-    alloc: Global,
-    source: Source<'_>,
-    row: Row<'_>,
     rule: u16,
-    notes: &mut String,
-) -> Result<(), OutOfMemory> {
-    match rule {
-        102 => push_bad_tokens(alloc, row, notes),
-        103 => push_misplaced(alloc, source, row, notes),
-        107 => push_words(alloc, row, notes),
-        _ => Ok(()),
-    }
-}
-
-/// Adds the fault of a line: the one that the reader names there, else that of the line by itself.
-fn push_row(
-    alloc: Global,
-    source: Source<'_>,
-    row: Row<'_>,
-    named: Option<u16>,
     findings: &mut Vec<Finding>,
 ) -> Result<(), OutOfMemory> {
-    let fault = match named {
-        Some(number) => Some(number),
-        None => fault_of(alloc, row)?,
+    let mut told = Told {
+        alloc,
+        source,
+        number,
+        line,
+        notes: TextBuffer::new(alloc),
+        is_refused: false,
     };
-    if let Some(number) = fault {
-        let mut notes = String::new(alloc);
-        if findings.len() < MOST_TOLD {
-            push_notes(alloc, source, row, number, &mut notes)?;
-        }
-        push_finding(findings, number, row.number, notes)?;
+    if findings.len() < MOST_TOLD {
+        told.push_notes(rule);
     }
-    Ok(())
+    push_finding(findings, rule, number, told.finish()?)
 }
 
 /// The fault of the text that the reader names, and those of the lines after it by themselves.
@@ -452,9 +342,14 @@ pub fn word_findings(
     for text in source.text.split('\n') {
         at = at.saturating_add(1);
         if at >= line {
-            let named = if at == line { Some(number) } else { None };
-            let row = Row { number: at, text };
-            push_row(alloc, source, row, named, &mut findings)?;
+            let fault = if at == line {
+                Some(number)
+            } else {
+                fault_of(alloc, text)?
+            };
+            if let Some(rule) = fault {
+                push_fault(alloc, source, text, at, rule, &mut findings)?;
+            }
         }
     }
     Ok(findings)

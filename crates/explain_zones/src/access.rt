@@ -4,6 +4,7 @@ use crate::found::{Found, Touched, in_order, push_found, touched_zone};
 use crate::passing::{foot_of, push_edge};
 use crate::spot::Spot;
 use crate::zone_text::{as_written, push_why_beside, push_why_not, push_zone};
+use buffers::{ListBuffer, TextBuffer};
 use explain_facts::{Known, Matched, Scene, fact_lines, spend};
 use explain_findings::{Finding, Source};
 use footprints::{
@@ -17,7 +18,7 @@ use program::{
     Terminator, Zone,
 };
 use ranges::{BlockFacts, EdgeFacts, Effort, Task, Unanswered, argument_moves, block_facts};
-use std::alloc::Global;
+use std::alloc::{AllocError, Global};
 
 /// A block of a task, with what is known in it and the lines of that.
 #[derive(Clone, Copy)]
@@ -35,10 +36,10 @@ struct Tasked<'s, 'a> {
 /// What there is to say of a missing cover, and of a conflict, with what is touched.
 #[derive(Drop)]
 struct Notes {
-    cover: String,
-    clear: String,
-    uncovered: Vec<Zone>,
-    unclear: Vec<Zone>,
+    cover: TextBuffer,
+    clear: TextBuffer,
+    uncovered: ListBuffer<Zone>,
+    unclear: ListBuffer<Zone>,
 }
 
 /// The zones that must cover what a block of a task touches.
@@ -68,11 +69,12 @@ impl Spot<'_, '_> {
         &self,
         alloc: Global,
         y: &PlacedZone<'_>,
-        out: &mut String,
+        out: &mut TextBuffer,
     ) -> Result<(), Unanswered> {
-        out.push_str("  touched: ")?;
+        out.push_str("  touched: ");
         push_zone(alloc, self.known.scene, y, out)?;
-        Ok(out.push_str("\n")?)
+        out.push_str("\n");
+        Ok(())
     }
 
     /// Why the zones of its object do not cover this one; false where there are none.
@@ -80,7 +82,7 @@ impl Spot<'_, '_> {
         &self,
         alloc: Global,
         y: &PlacedZone<'_>,
-        out: &mut String,
+        out: &mut TextBuffer,
     ) -> Result<bool, Unanswered> {
         let mut is_any = false;
         for zone in self.place.covering {
@@ -96,11 +98,11 @@ impl Spot<'_, '_> {
         &self,
         alloc: Global,
         y: &PlacedZone<'_>,
-        out: &mut String,
+        out: &mut TextBuffer,
     ) -> Result<(), Unanswered> {
         self.push_touched(alloc, y, out)?;
         if !self.push_covering(alloc, y, out)? {
-            out.push_str("    no zone here is of that object\n")?;
+            out.push_str("    no zone here is of that object\n");
         }
         self.push_cover_line(alloc, y, out)
     }
@@ -110,7 +112,7 @@ impl Spot<'_, '_> {
         &self,
         alloc: Global,
         y: &PlacedZone<'_>,
-        out: &mut String,
+        out: &mut TextBuffer,
     ) -> Result<(), Unanswered> {
         self.push_touched(alloc, y, out)?;
         for item in self.place.pending {
@@ -229,15 +231,17 @@ impl Spot<'_, '_> {
         &self,
         founds: &mut Vec<Found>,
         number: u16,
-        notes: String,
-        zones: Vec<Zone>,
-    ) -> Result<(), OutOfMemory> {
-        let at = self.task_place();
+        notes: TextBuffer,
+        zones: ListBuffer<Zone>,
+    ) -> Result<(), AllocError> {
         push_found(
             founds,
             Found {
-                finding: self.finding(number, notes),
-                touched: Touched { at, zones },
+                finding: self.finding(number, notes.finish()?),
+                touched: Touched {
+                    at: self.task_place(),
+                    zones: zones.finish()?,
+                },
             },
         )
     }
@@ -310,20 +314,20 @@ impl Spot<'_, '_> {
 fn push_touched_zone(
     alloc: Global,
     y: &PlacedZone<'_>,
-    zones: &mut Vec<Zone>,
+    zones: &mut ListBuffer<Zone>,
 ) -> Result<(), OutOfMemory> {
     if let Some(zone) = touched_zone(alloc, y)? {
-        zones.push(zone)?;
+        zones.push(zone);
     }
     Ok(())
 }
 
 fn no_notes(alloc: Global) -> Notes {
     Notes {
-        cover: String::new(alloc),
-        clear: String::new(alloc),
-        uncovered: Vec::new(alloc),
-        unclear: Vec::new(alloc),
+        cover: TextBuffer::new(alloc),
+        clear: TextBuffer::new(alloc),
+        uncovered: ListBuffer::new(alloc),
+        unclear: ListBuffer::new(alloc),
     }
 }
 

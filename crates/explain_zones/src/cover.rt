@@ -3,11 +3,12 @@
 use crate::found::touched_zone;
 use crate::spot::{Put, Spot, zones_of_task};
 use crate::widen::{both_modes, in_numbers, kept};
+use buffers::TextBuffer;
 use explain_facts::Known;
 use footprints::{PlacedZone, same_object};
 use program::{ObjectName, Zone};
 use ranges::Unanswered;
-use std::alloc::{AllocError, Global};
+use std::alloc::Global;
 
 /// A zone with the ends of an old one, where they are shown to reach as far as what is touched, and else with those of a new one.
 fn widened(
@@ -26,16 +27,6 @@ fn widened(
     })
 }
 
-fn copied(alloc: Global, zone: &Zone) -> Result<Zone, AllocError> {
-    Ok(Zone {
-        line: zone.line,
-        mode: zone.mode,
-        object: zone.object,
-        low: zone.low.copy(alloc)?,
-        high: zone.high.copy(alloc)?,
-    })
-}
-
 impl Spot<'_, '_> {
     /// The first of the zones here that is of this object.
     fn zone_of(&self, object: ObjectName) -> Option<&Zone> {
@@ -51,21 +42,17 @@ impl Spot<'_, '_> {
         alloc: Global,
         touched: &Zone,
         new: &Zone,
-        out: &mut String,
+        out: &mut TextBuffer,
     ) -> Result<bool, Unanswered> {
         let (word, after) = zones_of_task(self.known.scene, self.task);
-        let words = format!(in alloc; ";! {word}")?;
+        let mut line = TextBuffer::new(alloc);
+        line.push_str(word);
         match self.zone_of(touched.object) {
             Some(old) => {
                 let zone = widened(alloc, self.known, old, touched, new)?;
-                let put = Put::InPlaceOf(old.line);
-                self.push_zone_line(alloc, words.as_str(), &zone, put, out)
+                self.push_zone_line(alloc, line, &zone, Put::InPlaceOf(old.line), out)
             }
-            None => {
-                let zone = copied(alloc, new)?;
-                let put = Put::After(after);
-                self.push_zone_line(alloc, words.as_str(), &zone, put, out)
-            }
+            None => self.push_zone_line(alloc, line, new, Put::After(after), out),
         }
     }
 
@@ -80,7 +67,7 @@ impl Spot<'_, '_> {
         &self,
         alloc: Global,
         y: &PlacedZone<'_>,
-        out: &mut String,
+        out: &mut TextBuffer,
     ) -> Result<(), Unanswered> {
         let Some(touched) = touched_zone(alloc, y)? else {
             return Ok(());
@@ -88,12 +75,11 @@ impl Spot<'_, '_> {
         if self.push_with_ends(alloc, &touched, &touched, out)? {
             return Ok(());
         }
-        match in_numbers(alloc, self.known, &touched)? {
-            Some(numbers) if self.is_inside(&numbers) => {
+        if let Some(numbers) = in_numbers(alloc, self.known, &touched)? {
+            if self.is_inside(&numbers) {
                 self.push_with_ends(alloc, &touched, &numbers, out)?;
-                Ok(())
             }
-            _ => Ok(()),
         }
+        Ok(())
     }
 }

@@ -1,13 +1,14 @@
 //! Faults of zones with what they touch: one that touches no more than an earlier one of its task does may follow from that.
 
 use crate::zone_text::{as_written, placed_form};
+use buffers::ListBuffer;
 use explain_findings::Finding;
 use footprints::{PlacedZone, covers};
 use linear_shown::{FactCursor, Known};
 use lists::OutOfMemory;
 use program::Zone;
 use ranges::{Effort, Unanswered};
-use std::alloc::Global;
+use std::alloc::{AllocError, Global};
 
 /// How many faults others are compared with.
 const MOST_KEPT: usize = 32;
@@ -49,24 +50,18 @@ pub fn touched_zone(alloc: Global, y: &PlacedZone<'_>) -> Result<Option<Zone>, O
     }))
 }
 
-fn push_zones(zones: &mut Vec<Zone>, more: Vec<Zone>) -> Result<(), OutOfMemory> {
-    for zone in more {
-        zones.push(zone)?;
-    }
-    Ok(())
-}
-
 /// Adds a fault, or what there is to say of it to the last one, if that is the same.
-pub fn push_found(founds: &mut Vec<Found>, found: Found) -> Result<(), OutOfMemory> {
+pub fn push_found(founds: &mut Vec<Found>, found: Found) -> Result<(), AllocError> {
     let Found { finding, touched } = found;
     if let Some(last) = founds.last_mut() {
         if last.finding.number == finding.number && last.finding.line == finding.line {
-            last.finding.notes.push_str(finding.notes.as_str())?;
-            return push_zones(&mut last.touched.zones, touched.zones);
+            for zone in touched.zones {
+                last.touched.zones.push(zone)?;
+            }
+            return last.finding.notes.push_str(finding.notes.as_str());
         }
     }
-    founds.push(Found { finding, touched })?;
-    Ok(())
+    Ok(founds.push(Found { finding, touched })?)
 }
 
 /// Whether one of these zones has all that another one touches, whatever is known.
@@ -128,15 +123,16 @@ pub fn in_order(
     let mut cursor = FactCursor::new(alloc, &[], effort);
     cursor.index()?;
     let nothing = cursor.known();
-    let mut before: Vec<Touched> = Vec::new(alloc);
-    let mut findings: Vec<Finding> = Vec::new(alloc);
+    let mut before: ListBuffer<Touched> = ListBuffer::new(alloc);
+    let mut findings: ListBuffer<Finding> = ListBuffer::new(alloc);
     for found in founds {
         let Found { finding, touched } = found;
         let follows = follows_one(alloc, &nothing, before.as_slice(), &touched)?;
-        findings.push(Finding { follows, ..finding })?;
-        if !follows && before.len() < MOST_KEPT {
-            before.push(touched)?;
+        findings.push(Finding { follows, ..finding });
+        if !follows && before.as_slice().len() < MOST_KEPT {
+            before.push(touched);
         }
     }
-    Ok(findings)
+    before.finish()?;
+    Ok(findings.finish()?)
 }

@@ -2,16 +2,16 @@
 
 use crate::found::{Found, Touched, push_found, touched_zone};
 use crate::spot::{Put, Spot};
-use crate::widen::{both, kept, lowest, placed, shifted_zone};
+use crate::widen::{both, kept, lowest, placed, shifted_zone, with_ends};
 use crate::zone_text::{as_written, push_why_not, push_zone};
+use buffers::{ListBuffer, TextBuffer};
 use explain_facts::{Known, Scene, Trying};
 use footprints::{PlacedZone, covers, is_empty, passes_on, same_object};
 use linear::Form;
 use linear_shown::{FactBranches, Known as KnownFacts};
-use lists::OutOfMemory;
-use program::{Block, BlockId, Function, Operand, Pending, RegisterId, Terminator, Zone};
+use program::{Block, Function, Operand, Pending, RegisterId, Terminator, Zone};
 use ranges::{EdgeFacts, Move, Unanswered, Way};
-use std::alloc::Global;
+use std::alloc::{AllocError, Global};
 
 /// A zone that children of a region may still touch.
 #[derive(Clone, Copy)]
@@ -65,43 +65,16 @@ fn placed_on<'a>(edge: &'a EdgeFacts, item: &'a Pending) -> PlacedZone<'a> {
     }
 }
 
-fn push_still_pending(
-    alloc: Global,
-    scene: &Scene<'_>,
-    to: BlockId,
-    y: &PlacedZone<'_>,
-    out: &mut String,
-) -> Result<(), Unanswered> {
-    let label = scene.label(to);
-    write!(out, "  still pending on the edge to %{label}: ")?;
-    push_zone(alloc, scene, y, out)?;
-    Ok(out.push_str("\n")?)
-}
-
-fn push_none_pending(
-    scene: &Scene<'_>,
-    to: BlockId,
-    region: RegisterId,
-    out: &mut String,
-) -> Result<(), Unanswered> {
-    let label = scene.label(to);
-    let name = scene.register(region);
-    Ok(writeln!(
-        out,
-        "    %{label} has no `pending %{name}` line of that object"
-    )?)
-}
-
 /// Of each phi that takes a register along an edge, the phi in place of that.
-fn moved_back(alloc: Global, moves: &[Move]) -> Result<Vec<Move>, OutOfMemory> {
-    let mut back = Vec::new(alloc);
+fn moved_back(alloc: Global, moves: &[Move]) -> Result<Vec<Move>, AllocError> {
+    let mut back = ListBuffer::new(alloc);
     for taken in moves {
         if let Operand::Register(register) = taken.value {
             let value = Operand::Register(taken.register);
-            back.push(Move { register, value })?;
+            back.push(Move { register, value });
         }
     }
-    Ok(back)
+    back.finish()
 }
 
 /// Whether a phi of the function defines the register, as that of a loop's counter does.
@@ -124,8 +97,14 @@ fn is_alike(a: &Zone, b: &Zone) -> bool {
     same_object(a.object, b.object) && a.mode == b.mode
 }
 
-fn copied(alloc: Global, zone: &Zone) -> Result<Option<Zone>, OutOfMemory> {
-    touched_zone(alloc, &as_written(zone))
+fn copied(alloc: Global, zone: &Zone) -> Result<Zone, AllocError> {
+    Ok(Zone {
+        line: zone.line,
+        mode: zone.mode,
+        object: zone.object,
+        low: zone.low.copy(alloc)?,
+        high: zone.high.copy(alloc)?,
+    })
 }
 
 impl Passing<'_, '_, '_> {
@@ -153,7 +132,7 @@ impl Passing<'_, '_, '_> {
         &self,
         alloc: Global,
         owed: Owed<'_>,
-        out: &mut String,
+        out: &mut TextBuffer,
     ) -> Result<bool, Unanswered> {
         let trying = Trying::of(self.spot.source, self.known());
         let mut is_any = false;
@@ -173,19 +152,26 @@ impl Passing<'_, '_, '_> {
         &self,
         alloc: Global,
         owed: Owed<'_>,
-        out: &mut String,
+        out: &mut TextBuffer,
     ) -> Result<(), Unanswered> {
         let scene = self.scene();
-        push_still_pending(alloc, scene, self.edge.to, &as_written(owed.zone), out)?;
+        let label = scene.label(self.edge.to);
+        write!(out, "  still pending on the edge to %{label}: ");
+        push_zone(alloc, scene, &as_written(owed.zone), out)?;
+        out.push_str("\n");
         if !self.push_waiting(alloc, owed, out)? {
-            push_none_pending(scene, self.edge.to, owed.region, out)?;
+            let name = scene.register(owed.region);
+            writeln!(
+                out,
+                "    %{label} has no `pending %{name}` line of that object"
+            );
         }
         self.push_pending_line(alloc, owed, out)
     }
 
     /// The least zone that has this one and all that is owed like it, where it is known which ends that has.
     fn whole(&self, alloc: Global, owed: Owed<'_>) -> Result<Option<Zone>, Unanswered> {
-        let mut whole = copied(alloc, owed.zone)?;
+        let mut whole = Some(copied(alloc, owed.zone)?);
         for other in self.owed {
             if other.region == owed.region && is_alike(other.zone, owed.zone) {
                 whole = match &whole {
@@ -202,16 +188,9 @@ impl Passing<'_, '_, '_> {
         if !is_counted(self.scene().function, &zone.low) {
             return Ok(None);
         }
-        match lowest(alloc, self.known(), &zone.low)? {
-            Some(low) => Ok(Some(Zone {
-                line: zone.line,
-                mode: zone.mode,
-                object: zone.object,
-                low,
-                high: zone.high.copy(alloc)?,
-            })),
-            None => Ok(None),
-        }
+        let low = lowest(alloc, self.known(), &zone.low)?;
+        let high = zone.high.copy(alloc)?;
+        Ok(with_ends(zone, low, Some(high)))
     }
 
     /// The zone in the registers of the target.
@@ -254,7 +233,7 @@ impl Passing<'_, '_, '_> {
         alloc: Global,
         zone: &Zone,
         owed: Owed<'_>,
-        out: &mut String,
+        out: &mut TextBuffer,
     ) -> Result<bool, Unanswered> {
         let Some(there) = self.at_target(alloc, zone)? else {
             return Ok(false);
@@ -264,18 +243,17 @@ impl Passing<'_, '_, '_> {
         }
         let scene = self.scene();
         let name = scene.register(owed.region);
-        let words = format!(in alloc; ";! pending %{name} ")?;
+        let mut line = TextBuffer::new(alloc);
+        write!(line, ";! pending %{name} ");
         match self.line_there(owed) {
             Some(old) => {
                 let wide = self.widened(alloc, old, zone, &there)?;
                 let put = Put::InPlaceOf(old.line);
-                self.spot
-                    .push_zone_line(alloc, words.as_str(), &wide, put, out)
+                self.spot.push_zone_line(alloc, line, &wide, put, out)
             }
             None => {
                 let put = Put::After(scene.label_line(self.edge.to));
-                self.spot
-                    .push_zone_line(alloc, words.as_str(), &there, put, out)
+                self.spot.push_zone_line(alloc, line, &there, put, out)
             }
         }
     }
@@ -308,7 +286,7 @@ impl Passing<'_, '_, '_> {
         &self,
         alloc: Global,
         owed: Owed<'_>,
-        out: &mut String,
+        out: &mut TextBuffer,
     ) -> Result<(), Unanswered> {
         let Some(whole) = self.whole(alloc, owed)? else {
             return Ok(());
@@ -341,15 +319,13 @@ impl Passing<'_, '_, '_> {
     fn push_notes(
         &self,
         alloc: Global,
-        touched: &mut Vec<Zone>,
-        out: &mut String,
+        touched: &mut ListBuffer<Zone>,
+        out: &mut TextBuffer,
     ) -> Result<(), Unanswered> {
         for owed in self.owed {
             if !self.is_passed(alloc, *owed)? {
                 self.push_unpassed(alloc, *owed, out)?;
-                if let Some(zone) = copied(alloc, owed.zone)? {
-                    touched.push(zone)?;
-                }
+                touched.push(copied(alloc, owed.zone)?);
             }
         }
         Ok(())
@@ -357,37 +333,27 @@ impl Passing<'_, '_, '_> {
 }
 
 /// What is pending before an edge and goes on along it.
-fn push_pending<'a>(
-    owed: &mut Vec<Owed<'a>>,
-    pending: &'a [Pending],
-    way: Way,
-) -> Result<(), OutOfMemory> {
+fn push_pending<'a>(owed: &mut ListBuffer<Owed<'a>>, pending: &'a [Pending], way: Way) {
     for item in pending {
         if goes_on(way, item.region) {
             owed.push(Owed {
                 region: item.region,
                 zone: &item.zone,
-            })?;
+            });
         }
     }
-    Ok(())
 }
 
 /// What the new child of a detach may touch.
-fn push_foot<'a>(
-    owed: &mut Vec<Owed<'a>>,
-    blocks: &'a [Block],
-    terminator: &Terminator,
-) -> Result<(), OutOfMemory> {
+fn push_foot<'a>(owed: &mut ListBuffer<Owed<'a>>, blocks: &'a [Block], terminator: &Terminator) {
     if let Terminator::Detach { region, .. } = terminator {
         for zone in foot_of(blocks, terminator) {
             owed.push(Owed {
                 region: *region,
                 zone,
-            })?;
+            });
         }
     }
-    Ok(())
 }
 
 /// Adds the fault of an edge, if its target does not say all that is still pending.
@@ -403,11 +369,12 @@ pub fn push_edge(
     if passes_on(alloc, blocks, facts, spot.place.pending, terminator, edge)? {
         return Ok(());
     }
-    let mut owed: Vec<Owed<'_>> = Vec::new(alloc);
-    push_pending(&mut owed, spot.place.pending, edge.way)?;
+    let mut owed: ListBuffer<Owed<'_>> = ListBuffer::new(alloc);
+    push_pending(&mut owed, spot.place.pending, edge.way);
     if let Way::Continued = edge.way {
-        push_foot(&mut owed, blocks, terminator)?;
+        push_foot(&mut owed, blocks, terminator);
     }
+    let owed = owed.finish()?;
     facts.switch_to(alloc, edge.facts.as_slice())?;
     let known = facts.known();
     let passing = Passing {
@@ -416,16 +383,16 @@ pub fn push_edge(
         edge,
         owed: owed.as_slice(),
     };
-    let mut notes = String::new(alloc);
-    let mut zones: Vec<Zone> = Vec::new(alloc);
+    let mut notes = TextBuffer::new(alloc);
+    let mut zones: ListBuffer<Zone> = ListBuffer::new(alloc);
     passing.push_notes(alloc, &mut zones, &mut notes)?;
     Ok(push_found(
         founds,
         Found {
-            finding: spot.finding(603, notes),
+            finding: spot.finding(603, notes.finish()?),
             touched: Touched {
                 at: spot.task_place(),
-                zones,
+                zones: zones.finish()?,
             },
         },
     )?)

@@ -1,14 +1,14 @@
 //! A place of a block, with what is known there and what it may touch; and lines to put in there.
 
 use crate::found::TaskPlace;
-use crate::zone_text::push_zone;
+use crate::zone_text::{as_written, push_zone};
+use buffers::TextBuffer;
 use explain_facts::{Known, Scene, Trying, match_text, spend};
 use explain_findings::{Finding, Source, with_line_at, with_line_before};
-use footprints::{Place, PlacedZone};
-use lists::OutOfMemory;
+use footprints::Place;
 use program::{Block, BlockId, Function, Terminator, Zone};
 use ranges::{Task, Unanswered};
-use std::alloc::Global;
+use std::alloc::{AllocError, Global};
 
 /// The steps that a byte of a text counts for that is judged as far as its uses.
 const STEPS_A_BYTE: usize = 30;
@@ -49,15 +49,15 @@ pub fn child_of(function: &Function, detach: BlockId) -> Option<BlockId> {
     }
 }
 
-/// The annotation of the zones of a task, and the line behind which they stand.
+/// What an annotation of a task's zones begins with, and the line behind which they stand.
 pub fn zones_of_task(scene: &Scene<'_>, task: Task) -> (&'static str, u32) {
     let child = match task {
         Task::Unreached | Task::Body => None,
         Task::Child(detach) => child_of(scene.function, detach),
     };
     match child {
-        Some(body) => ("foot ", scene.label_line(body)),
-        None => ("", scene.function.line),
+        Some(body) => (";! foot ", scene.label_line(body)),
+        None => (";! ", scene.function.line),
     }
 }
 
@@ -88,7 +88,7 @@ impl<'s, 'a> Spot<'s, 'a> {
         Trying::of(self.source, self.known)
     }
 
-    fn changed(&self, alloc: Global, line: &str, put: Put) -> Result<String, OutOfMemory> {
+    fn changed(&self, alloc: Global, line: &str, put: Put) -> Result<String, AllocError> {
         match put {
             Put::After(after) => {
                 with_line_before(alloc, self.source.text, after.saturating_add(1), line)
@@ -97,43 +97,28 @@ impl<'s, 'a> Spot<'s, 'a> {
         }
     }
 
-    /// A line to put in, if the text with it is right up to what is known of numbers; false where it is not.
-    pub fn push_line(
+    /// A line of a zone, behind what it begins with, if the text with it is right up to what is known of numbers; false where it is not.
+    pub fn push_zone_line(
         &self,
         alloc: Global,
-        line: &str,
+        begun: TextBuffer,
+        zone: &Zone,
         put: Put,
-        out: &mut String,
+        out: &mut TextBuffer,
     ) -> Result<bool, Unanswered> {
+        let mut line = begun;
+        push_zone(alloc, self.known.scene, &as_written(zone), &mut line)?;
+        let line = line.finish()?;
         let steps = self.source.text.len().saturating_mul(STEPS_A_BYTE);
         spend(self.known.effort, steps)?;
-        let changed = self.changed(alloc, line, put)?;
+        let changed = self.changed(alloc, line.as_str(), put)?;
         if match_text(alloc, self.source.state, changed.as_bytes(), true)?.is_none() {
             return Ok(false);
         }
         match put {
-            Put::After(after) => writeln!(out, "    try: {line}, after line {after}")?,
-            Put::InPlaceOf(number) => writeln!(out, "    try: {line}, in place of line {number}")?,
+            Put::After(after) => writeln!(out, "    try: {line}, after line {after}"),
+            Put::InPlaceOf(number) => writeln!(out, "    try: {line}, in place of line {number}"),
         }
         Ok(true)
-    }
-
-    /// A line of a zone, behind these words, if the text with it is right up to what is known of numbers; false where it is not.
-    pub fn push_zone_line(
-        &self,
-        alloc: Global,
-        words: &str,
-        zone: &Zone,
-        put: Put,
-        out: &mut String,
-    ) -> Result<bool, Unanswered> {
-        let mut line = String::from_str(alloc, words)?;
-        let placed = PlacedZone {
-            object: zone.object,
-            moves: &[],
-            zone,
-        };
-        push_zone(alloc, self.known.scene, &placed, &mut line)?;
-        self.push_line(alloc, line.as_str(), put, out)
     }
 }

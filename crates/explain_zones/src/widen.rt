@@ -1,9 +1,9 @@
 //! Zones that have what others have: the ends of a line to put in.
 
 use crate::zone_text::between;
-use explain_facts::{Known, raised, shortfall};
+use explain_facts::{Known, raised, shortfall, within_bounds};
 use footprints::{PlacedZone, mode_covers};
-use linear::{Form, FormFault};
+use linear::Form;
 use lists::OutOfMemory;
 use program::{Mode, Operand, RegisterId, Zone};
 use ranges::{Move, Unanswered};
@@ -23,14 +23,6 @@ fn least_number(alloc: Global, known: Known<'_>, form: &Form) -> Result<Option<i
     }
 }
 
-fn difference(alloc: Global, left: &Form, right: &Form) -> Result<Option<Form>, OutOfMemory> {
-    match left.difference(alloc, right) {
-        Ok(form) => Ok(Some(form)),
-        Err(FormFault::Bounds) => Ok(None),
-        Err(FormFault::Memory) => Err(OutOfMemory),
-    }
-}
-
 fn number_form(alloc: Global, number: i128) -> Result<Option<Form>, OutOfMemory> {
     raised(alloc, &Form::from_constant(alloc, 0), number)
 }
@@ -45,7 +37,8 @@ pub fn lowest(alloc: Global, known: Known<'_>, form: &Form) -> Result<Option<For
 
 /// A number that a form is known to be at most, as a form.
 pub fn highest(alloc: Global, known: Known<'_>, form: &Form) -> Result<Option<Form>, Unanswered> {
-    let Some(opposite) = difference(alloc, &Form::from_constant(alloc, 0), form)? else {
+    let zero = Form::from_constant(alloc, 0);
+    let Some(opposite) = within_bounds(zero.difference(alloc, form))? else {
         return Ok(None);
     };
     match least_number(alloc, known, &opposite)? {
@@ -82,23 +75,17 @@ pub fn kept(
     Ok(end.copy(alloc)?)
 }
 
-/// The lower of two forms, where it is known which that is.
-fn lower(alloc: Global, known: Known<'_>, a: &Form, b: &Form) -> Result<Option<Form>, Unanswered> {
+/// Two forms, the lower one first, where it is known which that is.
+fn in_order<'f>(
+    alloc: Global,
+    known: Known<'_>,
+    a: &'f Form,
+    b: &'f Form,
+) -> Result<Option<(&'f Form, &'f Form)>, Unanswered> {
     if is_at_least(alloc, known, b, a)? {
-        Ok(Some(a.copy(alloc)?))
+        Ok(Some((a, b)))
     } else if is_at_least(alloc, known, a, b)? {
-        Ok(Some(b.copy(alloc)?))
-    } else {
-        Ok(None)
-    }
-}
-
-/// The higher of two forms, where it is known which that is.
-fn higher(alloc: Global, known: Known<'_>, a: &Form, b: &Form) -> Result<Option<Form>, Unanswered> {
-    if is_at_least(alloc, known, a, b)? {
-        Ok(Some(a.copy(alloc)?))
-    } else if is_at_least(alloc, known, b, a)? {
-        Ok(Some(b.copy(alloc)?))
+        Ok(Some((b, a)))
     } else {
         Ok(None)
     }
@@ -115,25 +102,35 @@ pub fn both_modes(a: Mode, b: Mode) -> Mode {
     }
 }
 
-/// The least zone of an object that has the cells of two, for what each has them for, where it is known which ends that has.
+/// A zone with these ends, where both are known.
+pub fn with_ends(zone: &Zone, low: Option<Form>, high: Option<Form>) -> Option<Zone> {
+    match (low, high) {
+        (Some(low), Some(high)) => Some(Zone {
+            line: zone.line,
+            mode: zone.mode,
+            object: zone.object,
+            low,
+            high,
+        }),
+        _ => None,
+    }
+}
+
+/// The least zone that has the cells of two of one object and mode, where it is known which ends that has.
 pub fn both(
     alloc: Global,
     known: Known<'_>,
     a: &Zone,
     b: &Zone,
 ) -> Result<Option<Zone>, Unanswered> {
-    let low = lower(alloc, known, &a.low, &b.low)?;
-    let high = higher(alloc, known, &a.high, &b.high)?;
-    let (Some(low), Some(high)) = (low, high) else {
+    let lows = in_order(alloc, known, &a.low, &b.low)?;
+    let highs = in_order(alloc, known, &b.high, &a.high)?;
+    let (Some((low, _)), Some((_, high))) = (lows, highs) else {
         return Ok(None);
     };
-    Ok(Some(Zone {
-        line: a.line,
-        mode: both_modes(a.mode, b.mode),
-        object: a.object,
-        low,
-        high,
-    }))
+    let low = low.copy(alloc)?;
+    let high = high.copy(alloc)?;
+    Ok(with_ends(a, Some(low), Some(high)))
 }
 
 /// What is known of a zone's ends in numbers alone, where both have bounds.
@@ -144,16 +141,7 @@ pub fn in_numbers(
 ) -> Result<Option<Zone>, Unanswered> {
     let low = lowest(alloc, known, &zone.low)?;
     let high = highest(alloc, known, &zone.high)?;
-    let (Some(low), Some(high)) = (low, high) else {
-        return Ok(None);
-    };
-    Ok(Some(Zone {
-        line: zone.line,
-        mode: zone.mode,
-        object: zone.object,
-        low,
-        high,
-    }))
+    Ok(with_ends(zone, low, high))
 }
 
 /// The coefficient that a register has in a form.
@@ -177,14 +165,11 @@ fn step_of(
     earlier: RegisterId,
 ) -> Result<Option<i128>, Unanswered> {
     let zero = Form::from_constant(alloc, 0);
-    let step = match zero.plus_term(later, 1) {
-        Ok(form) => match form.plus_term(earlier, -1) {
-            Ok(step) => step,
-            Err(FormFault::Bounds) => return Ok(None),
-            Err(FormFault::Memory) => return Err(Unanswered::OutOfMemory),
-        },
-        Err(FormFault::Bounds) => return Ok(None),
-        Err(FormFault::Memory) => return Err(Unanswered::OutOfMemory),
+    let Some(later) = within_bounds(zero.plus_term(later, 1))? else {
+        return Ok(None);
+    };
+    let Some(step) = within_bounds(later.plus_term(earlier, -1))? else {
+        return Ok(None);
     };
     let Some(least) = least_number(alloc, known, &step)? else {
         return Ok(None);
@@ -246,16 +231,7 @@ pub fn shifted_zone(
 ) -> Result<Option<Zone>, Unanswered> {
     let low = shifted(alloc, known, moves, &zone.low)?;
     let high = shifted(alloc, known, moves, &zone.high)?;
-    let (Some(low), Some(high)) = (low, high) else {
-        return Ok(None);
-    };
-    Ok(Some(Zone {
-        line: zone.line,
-        mode: zone.mode,
-        object: zone.object,
-        low,
-        high,
-    }))
+    Ok(with_ends(zone, low, high))
 }
 
 /// A zone where it is placed.

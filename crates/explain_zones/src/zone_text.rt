@@ -1,5 +1,6 @@
 //! How zones are spelled where they are judged, and why one covers another not.
 
+use buffers::TextBuffer;
 use explain_facts::{Scene, Trying, is_against, lack_of, push_form};
 use explain_findings::line_at;
 use footprints::{PlacedZone, mode_covers, same_object};
@@ -7,9 +8,9 @@ use linear::{Form, side_of};
 use lists::{OutOfMemory, Seq};
 use program::{Mode, Zone};
 use ranges::{Move, Sum, Unanswered, push_parts, sum_form};
-use std::alloc::{AllocError, Global};
+use std::alloc::Global;
 
-pub fn mode_word(mode: Mode) -> &'static str {
+fn mode_word(mode: Mode) -> &'static str {
     match mode {
         Mode::Reads => "reads",
         Mode::Writes => "writes",
@@ -47,13 +48,14 @@ fn push_placed_form(
     scene: &Scene<'_>,
     moves: &[Move],
     form: &Form,
-    out: &mut String,
+    out: &mut TextBuffer,
 ) -> Result<(), OutOfMemory> {
-    out.push_str(" ")?;
+    out.push_str(" ");
     match placed_form(alloc, moves, form)? {
-        Some(form) => push_form(alloc, scene, &form, out),
-        None => Ok(out.push_str("?")?),
+        Some(form) => push_form(scene, &form, out),
+        None => out.push_str("?"),
     }
+    Ok(())
 }
 
 /// `writes @a 0 %i+1`, with what phis or arguments put in.
@@ -61,11 +63,11 @@ pub fn push_zone(
     alloc: Global,
     scene: &Scene<'_>,
     y: &PlacedZone<'_>,
-    out: &mut String,
+    out: &mut TextBuffer,
 ) -> Result<(), OutOfMemory> {
     let (sigil, name) = scene.object(y.object);
     let mode = mode_word(y.zone.mode);
-    write!(out, "{mode} {sigil}{name}")?;
+    write!(out, "{mode} {sigil}{name}");
     push_placed_form(alloc, scene, y.moves, &y.zone.low, out)?;
     push_placed_form(alloc, scene, y.moves, &y.zone.high, out)
 }
@@ -90,15 +92,14 @@ pub fn between(
 }
 
 /// The annotation's line as the text has it.
-fn push_candidate(text: &str, line: u32, out: &mut String) -> Result<(), OutOfMemory> {
+fn push_candidate(text: &str, line: u32, out: &mut TextBuffer) {
     let words = line_at(text, line).unwrap_or("").trim();
-    Ok(writeln!(out, "    line {line}, {words}")?)
+    writeln!(out, "    line {line}, {words}");
 }
 
-/// So many cells.
-fn push_cells(count: i128, out: &mut String) -> Result<(), AllocError> {
-    let plural = if count == 1 { "" } else { "s" };
-    write!(out, "{count} cell{plural}")
+/// What the word of so many things ends with.
+fn plural(count: i128) -> &'static str {
+    if count == 1 { "" } else { "s" }
 }
 
 /// An end of a zone, where it is not shown to reach as far: by how many cells, or what is to be shown.
@@ -108,57 +109,30 @@ fn push_end(
     moves: &str,
     too: &str,
     sum: &Sum,
-    out: &mut String,
+    out: &mut TextBuffer,
 ) -> Result<(), Unanswered> {
     if trying.known.shows(alloc, sum)? {
         return Ok(());
     }
-    match lack_of(alloc, sum)? {
-        Some(lack) => {
-            write!(out, "      it {moves}s ")?;
-            push_cells(lack, out)?;
-            Ok(writeln!(out, " {too}")?)
-        }
-        None => {
-            writeln!(out, "      it may {moves} {too}")?;
-            trying.push_detail(alloc, sum, "      ", out)
-        }
+    if let Some(lack) = lack_of(alloc, sum)? {
+        let s = plural(lack);
+        writeln!(out, "      it {moves}s {lack} cell{s} {too}");
+        return Ok(());
     }
-}
-
-fn push_low_end(
-    alloc: Global,
-    trying: Trying<'_, '_>,
-    z: &PlacedZone<'_>,
-    y: &PlacedZone<'_>,
-    out: &mut String,
-) -> Result<(), Unanswered> {
-    let low = between(alloc, y.moves, &y.zone.low, z.moves, &z.zone.low)?;
-    push_end(alloc, trying, "begin", "too late", &low, out)
-}
-
-fn push_high_end(
-    alloc: Global,
-    trying: Trying<'_, '_>,
-    z: &PlacedZone<'_>,
-    y: &PlacedZone<'_>,
-    out: &mut String,
-) -> Result<(), Unanswered> {
-    let high = between(alloc, z.moves, &z.zone.high, y.moves, &y.zone.high)?;
-    push_end(alloc, trying, "end", "too early", &high, out)
+    writeln!(out, "      it may {moves} {too}");
+    trying.push_detail(alloc, sum, "      ", out)
 }
 
 /// A mode that a zone's own does not let.
-fn push_mode(own: Mode, wanted: Mode, out: &mut String) -> Result<(), OutOfMemory> {
+fn push_mode(own: Mode, wanted: Mode, out: &mut TextBuffer) {
     if !mode_covers(own, wanted) {
         let mode = mode_word(wanted);
         let own = mode_word(own);
         writeln!(
             out,
             "      it has the cells for `{own}`, and not for `{mode}`"
-        )?;
+        );
     }
-    Ok(())
 }
 
 /// Why `z`, which stands on a line of the text, does not cover `y`. Says nothing of another object.
@@ -167,15 +141,17 @@ pub fn push_why_not(
     trying: Trying<'_, '_>,
     z: &PlacedZone<'_>,
     y: &PlacedZone<'_>,
-    out: &mut String,
+    out: &mut TextBuffer,
 ) -> Result<bool, Unanswered> {
     if !same_object(z.object, y.object) {
         return Ok(false);
     }
-    push_candidate(trying.text(), z.zone.line, out)?;
-    push_mode(z.zone.mode, y.zone.mode, out)?;
-    push_low_end(alloc, trying, z, y, out)?;
-    push_high_end(alloc, trying, z, y, out)?;
+    push_candidate(trying.text(), z.zone.line, out);
+    push_mode(z.zone.mode, y.zone.mode, out);
+    let low = between(alloc, y.moves, &y.zone.low, z.moves, &z.zone.low)?;
+    push_end(alloc, trying, "begin", "too late", &low, out)?;
+    let high = between(alloc, z.moves, &z.zone.high, y.moves, &y.zone.high)?;
+    push_end(alloc, trying, "end", "too early", &high, out)?;
     Ok(true)
 }
 
@@ -185,18 +161,18 @@ fn push_behind(
     trying: Trying<'_, '_>,
     what: &str,
     room: &Sum,
-    out: &mut String,
+    out: &mut TextBuffer,
 ) -> Result<(), Unanswered> {
     let known = trying.known;
     let is_possible = match sum_form(alloc, room)? {
         Some(form) => !is_against(alloc, known.facts, &form, known.effort)?,
         None => false,
     };
-    if is_possible {
-        writeln!(out, "      apart from it if {what}")?;
-        trying.push_detail(alloc, room, "      ", out)?;
+    if !is_possible {
+        return Ok(());
     }
-    Ok(())
+    writeln!(out, "      apart from it if what is touched {what}");
+    trying.push_detail(alloc, room, "      ", out)
 }
 
 /// By how many cells what is touched is not apart from a zone, where that is a number whatever is known.
@@ -205,12 +181,11 @@ fn push_shared(
     room: &Sum,
     does: &str,
     place: &str,
-    out: &mut String,
+    out: &mut TextBuffer,
 ) -> Result<(), OutOfMemory> {
     if let Some(lack) = lack_of(alloc, room)? {
-        write!(out, "      what is touched {does} ")?;
-        push_cells(lack, out)?;
-        writeln!(out, " {place}")?;
+        let s = plural(lack);
+        writeln!(out, "      what is touched {does} {lack} cell{s} {place}");
     }
     Ok(())
 }
@@ -221,25 +196,13 @@ pub fn push_why_beside(
     trying: Trying<'_, '_>,
     z: &PlacedZone<'_>,
     y: &PlacedZone<'_>,
-    out: &mut String,
+    out: &mut TextBuffer,
 ) -> Result<(), Unanswered> {
-    push_candidate(trying.text(), z.zone.line, out)?;
+    push_candidate(trying.text(), z.zone.line, out);
     let before = between(alloc, z.moves, &z.zone.low, y.moves, &y.zone.high)?;
     let after = between(alloc, y.moves, &y.zone.low, z.moves, &z.zone.high)?;
     push_shared(alloc, &before, "ends", "behind where it begins", out)?;
     push_shared(alloc, &after, "begins", "before where it ends", out)?;
-    push_behind(
-        alloc,
-        trying,
-        "what is touched ends before it begins",
-        &before,
-        out,
-    )?;
-    push_behind(
-        alloc,
-        trying,
-        "what is touched begins where it ends",
-        &after,
-        out,
-    )
+    push_behind(alloc, trying, "ends before it begins", &before, out)?;
+    push_behind(alloc, trying, "begins where it ends", &after, out)
 }
