@@ -1,9 +1,9 @@
 //! What inequalities, and the conditions of branches, say.
 
-use annotate_sums::{
-    Edge, Equation, Sum, Way, block_at, definition_of, is_exact, is_used_beside, register_of,
-};
-use std::alloc::{AllocError, Global};
+use crate::definition::{Equation, definition_of, is_exact};
+use crate::edge::{Edge, Way, block_at, is_used_beside, register_of};
+use crate::heap::Heap;
+use crate::sum::Sum;
 use std::mem::replace;
 use syntax::{Function, Inequality, Instruction, Operand, Predicate, Step};
 
@@ -15,7 +15,7 @@ const MOST_INSTRUCTIONS: usize = 2_048;
 /// The facts that a function's text states anywhere, each once, as far as there is room.
 #[derive(Drop)]
 pub struct Facts<'a> {
-    alloc: Global,
+    heap: &'a Heap,
     function: &'a Function,
     /// Sums that are at least 0.
     pub sums: Vec<Sum<'a>>,
@@ -24,18 +24,18 @@ pub struct Facts<'a> {
 }
 
 impl<'a> Facts<'a> {
-    pub fn new(alloc: Global, function: &'a Function) -> Facts<'a> {
+    pub fn new(heap: &'a Heap, function: &'a Function) -> Facts<'a> {
         Facts {
-            alloc,
+            heap,
             function,
-            sums: Vec::new(alloc),
-            stated: Vec::new(alloc),
+            sums: heap.list(),
+            stated: heap.list(),
         }
     }
 
     /// The numbers of the facts that were stated since they were last taken.
     pub fn take(&mut self) -> Vec<usize> {
-        replace(&mut self.stated, Vec::new(self.alloc))
+        replace(&mut self.stated, self.heap.list())
     }
 
     /// The number of a fact that is stated already.
@@ -50,44 +50,36 @@ impl<'a> Facts<'a> {
     }
 
     /// States that a sum is at least 0, if it is stated already or there is room.
-    pub fn add(&mut self, sum: Sum<'a>) -> Result<(), AllocError> {
+    pub fn add(&mut self, sum: Sum<'a>) {
         if let Some(number) = self.find(&sum) {
-            self.stated.push(number)?;
+            self.heap.push(&mut self.stated, number);
         } else if self.sums.len() < MOST_FACTS {
-            self.stated.push(self.sums.len())?;
-            self.sums.push(sum)?;
+            self.heap.push(&mut self.stated, self.sums.len());
+            self.heap.push(&mut self.sums, sum);
         }
-        Ok(())
     }
 
     /// States that these sums are at least 0.
-    pub fn add_all(&mut self, sums: Vec<Sum<'a>>) -> Result<(), AllocError> {
+    pub fn add_all(&mut self, sums: Vec<Sum<'a>>) {
         for sum in sums {
-            self.add(sum)?;
+            self.add(sum);
         }
-        Ok(())
     }
 
     /// States what these inequalities say.
-    pub fn state(&mut self, inequalities: &'a [Inequality]) -> Result<(), AllocError> {
+    pub fn state(&mut self, inequalities: &'a [Inequality]) {
         for inequality in inequalities {
-            let sum = Sum::of_inequality(self.alloc, inequality)?;
-            self.add(sum)?;
+            let sum = Sum::of_inequality(self.heap, inequality);
+            self.add(sum);
         }
-        Ok(())
     }
 
     /// States `low <= high`, or `low < high`.
-    fn order(
-        &mut self,
-        low: &'a Operand,
-        high: &'a Operand,
-        is_strict: bool,
-    ) -> Result<(), AllocError> {
-        let mut sum = Sum::of_operand(self.alloc, high, 1)?;
-        sum.add_operand(low, -1)?;
+    fn order(&mut self, low: &'a Operand, high: &'a Operand, is_strict: bool) {
+        let mut sum = Sum::of_operand(self.heap, high, 1);
+        sum.add_operand(low, -1);
         sum.add_number(if is_strict { -1 } else { 0 });
-        self.add(sum)
+        self.add(sum);
     }
 
     /// States what a comparison says of signed numbers where it holds, or where it does not.
@@ -97,23 +89,17 @@ impl<'a> Facts<'a> {
         left: &'a Operand,
         right: &'a Operand,
         holds: bool,
-    ) -> Result<(), AllocError> {
+    ) {
         if let Some(is_strict) = order_of(predicate, holds, false) {
-            self.order(left, right, is_strict)?;
+            self.order(left, right, is_strict);
         }
         if let Some(is_strict) = order_of(predicate, holds, true) {
-            self.order(right, left, is_strict)?;
+            self.order(right, left, is_strict);
         }
-        Ok(())
     }
 
     /// States what the comparisons into this register say where they have this outcome.
-    fn decide_all(
-        &mut self,
-        steps: &'a [Step],
-        condition: &str,
-        holds: bool,
-    ) -> Result<(), AllocError> {
+    fn decide_all(&mut self, steps: &'a [Step], condition: &str, holds: bool) {
         for step in steps {
             if let Instruction::Compare {
                 register,
@@ -124,65 +110,57 @@ impl<'a> Facts<'a> {
             } = &step.instruction
             {
                 if register.as_str() == condition {
-                    self.compare(*predicate, left, right, holds)?;
+                    self.compare(*predicate, left, right, holds);
                 }
             }
         }
-        Ok(())
-    }
-
-    /// States that a register is this sum.
-    fn equate(&mut self, name: &'a str, value: &Sum<'a>) -> Result<(), AllocError> {
-        let equation = Equation::of(self.alloc, name, value)?;
-        self.add(equation.most)?;
-        self.add(equation.least)
     }
 
     /// States what an instruction says of a register that blocks beside its own take.
-    fn make(&mut self, index: usize, instruction: &'a Instruction) -> Result<(), AllocError> {
-        match register_of(instruction) {
-            Some(name) if is_exact(instruction) && is_used_beside(self.function, index, name) => {
-                match definition_of(self.alloc, instruction)? {
-                    Some(value) => self.equate(name, &value),
-                    None => Ok(()),
-                }
+    fn make(&mut self, index: usize, instruction: &'a Instruction) {
+        let Some(name) = register_of(instruction) else {
+            return;
+        };
+        if is_exact(instruction) && is_used_beside(self.function, index, name) {
+            if let Some(value) = definition_of(self.heap, instruction) {
+                let equation = Equation::of(self.heap, name, &value);
+                self.add(equation.most);
+                self.add(equation.least);
             }
-            _ => Ok(()),
         }
     }
 
     /// States what a block's own instructions make of registers that other blocks take, unless the function has many.
-    pub fn make_all(&mut self, index: usize) -> Result<(), AllocError> {
+    pub fn make_all(&mut self, index: usize) {
         if is_long(self.function) {
-            return Ok(());
+            return;
         }
         if let Some(block) = block_at(self.function, index) {
             for step in block.steps.as_slice() {
-                self.make(index, &step.instruction)?;
+                self.make(index, &step.instruction);
             }
         }
-        Ok(())
     }
 
     /// States the outcome of a branch along an edge.
-    fn branch(&mut self, steps: &'a [Step], way: Way<'a>) -> Result<(), AllocError> {
+    fn branch(&mut self, steps: &'a [Step], way: Way<'a>) {
         match way {
             Way::WhenTrue(condition) => self.decide_all(steps, condition, true),
             Way::WhenFalse(condition) => self.decide_all(steps, condition, false),
-            Way::Branch | Way::Detached | Way::Continued(_) | Way::Synced(_) => Ok(()),
+            Way::Branch | Way::Detached | Way::Continued(_) | Way::Synced(_) => {},
         }
     }
 
     /// States what a block adds on one of its edges: its `shows`, and the outcome of its branch.
-    pub fn pass(&mut self, edge: Edge<'a>) -> Result<(), AllocError> {
+    pub fn pass(&mut self, edge: Edge<'a>) {
         let Some(block) = block_at(self.function, edge.from) else {
-            return Ok(());
+            return;
         };
         for step in block.steps.as_slice() {
-            self.state(step.shows.as_slice())?;
+            self.state(step.shows.as_slice());
         }
         if let Some(ending) = &block.ending {
-            self.state(ending.shows.as_slice())?;
+            self.state(ending.shows.as_slice());
         }
         self.branch(block.steps.as_slice(), edge.way)
     }

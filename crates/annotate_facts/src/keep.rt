@@ -1,9 +1,11 @@
 //! What is known wherever a block begins, because all ways to it bring it along.
 
+use crate::bound::bound_among;
+use crate::edge::{Edge, defines, edges_of};
 use crate::fact::Facts;
 use crate::guess::{Place, dominators_of};
-use annotate_sums::{Edge, Sum, defines, edges_of};
-use std::alloc::{AllocError, Global};
+use crate::heap::Heap;
+use crate::sum::Sum;
 use syntax::{Block, Function};
 
 /// The most blocks of a function in which something is guessed, and rounds are counted.
@@ -11,7 +13,7 @@ pub const MOST_BLOCKS: usize = 256;
 
 /// The facts of a function, and which of them hold where.
 pub struct Known<'a> {
-    pub alloc: Global,
+    pub heap: &'a Heap,
     pub function: &'a Function,
     pub edges: Vec<Edge<'a>>,
     /// For each block the numbers of the edges that lead to it.
@@ -33,7 +35,7 @@ pub struct Known<'a> {
 impl Drop for Known<'_> {
     fn drop(self) {
         let Known {
-            alloc: _,
+            heap: _,
             function: _,
             edges: _,
             into: _,
@@ -66,116 +68,84 @@ fn row_has(rows: &[Vec<usize>], row: usize, number: usize) -> bool {
 }
 
 /// For each block the numbers of the edges that lead to it.
-fn into_blocks(
-    alloc: Global,
-    edges: &[Edge<'_>],
-    count: usize,
-) -> Result<Vec<Vec<usize>>, AllocError> {
-    let mut into = Vec::new(alloc);
+fn into_blocks(heap: &Heap, edges: &[Edge<'_>], count: usize) -> Vec<Vec<usize>> {
+    let mut into = heap.list();
     for _block in 0..count {
-        into.push(Vec::new(alloc))?;
+        heap.push(&mut into, heap.list());
     }
     for (number, edge) in edges.iter().enumerate() {
         if edge.to < into.len() {
-            into[edge.to].push(number)?;
+            heap.push(&mut into[edge.to], number);
         }
     }
-    Ok(into)
+    into
 }
 
 impl<'a> Known<'a> {
-    /// Nothing, of these edges.
-    fn new(
-        alloc: Global,
-        function: &'a Function,
-        edges: Vec<Edge<'a>>,
-        into: Vec<Vec<usize>>,
-    ) -> Known<'a> {
-        Known {
-            alloc,
-            function,
-            edges,
-            into,
-            facts: Facts::new(alloc, function),
-            given: Vec::new(alloc),
-            guessed: Vec::new(alloc),
-            added: Vec::new(alloc),
-            made: Vec::new(alloc),
-            marks: Vec::new(alloc),
-        }
-    }
-
     /// States what the blocks' heads say; at the entry what the function asks of its parameters too.
-    fn give_all(&mut self) -> Result<(), AllocError> {
+    fn give_all(&mut self) {
         let function = self.function;
-        self.facts.state(function.notes.requirements.as_slice())?;
+        self.facts.state(function.notes.requirements.as_slice());
         for block in function.blocks.as_slice() {
-            self.facts.state(block.notes.keeps.as_slice())?;
-            let given = self.facts.take();
-            self.given.push(given)?;
+            self.facts.state(block.notes.keeps.as_slice());
+            self.heap.push(&mut self.given, self.facts.take());
         }
-        Ok(())
     }
 
     /// States what the edges add.
-    fn add_all(&mut self) -> Result<(), AllocError> {
+    fn add_all(&mut self) {
         for edge in &self.edges {
-            self.facts.pass(*edge)?;
-            let added = self.facts.take();
-            self.added.push(added)?;
+            self.facts.pass(*edge);
+            self.heap.push(&mut self.added, self.facts.take());
         }
-        Ok(())
     }
 
     /// States what the instructions of the blocks make.
-    fn make_all(&mut self) -> Result<(), AllocError> {
+    fn make_all(&mut self) {
         for block in 0..self.function.blocks.len() {
-            self.facts.make_all(block)?;
-            let made = self.facts.take();
-            self.made.push(made)?;
+            self.facts.make_all(block);
+            self.heap.push(&mut self.made, self.facts.take());
         }
-        Ok(())
     }
 
     /// States what may be so of a block's counters, by the facts from this number on.
-    fn guess(&mut self, above: &[usize], block: usize, first: usize) -> Result<(), AllocError> {
+    fn guess(&mut self, above: &[usize], block: usize, first: usize) {
         let place = Place {
-            alloc: self.alloc,
+            heap: self.heap,
             function: self.function,
             above,
             block,
         };
         let sums = self.facts.sums.as_slice();
         let from = first.min(sums.len());
-        let guesses = place.guesses(&sums[from..])?;
-        self.facts.add_all(guesses)?;
+        let guesses = place.guesses(&sums[from..]);
+        self.facts.add_all(guesses);
         let stated = self.facts.take();
         if block < self.guessed.len() {
-            self.guessed[block].extend_from_slice(stated.as_slice())?;
+            let added = self.guessed[block].extend_from_slice(stated.as_slice());
+            self.heap.kept(added);
         }
-        Ok(())
     }
 
     /// The same of all blocks.
-    fn guess_from(&mut self, above: &[usize], first: usize) -> Result<(), AllocError> {
+    fn guess_from(&mut self, above: &[usize], first: usize) {
         for block in 0..self.function.blocks.len() {
-            self.guess(above, block, first)?;
+            self.guess(above, block, first);
         }
-        Ok(())
     }
 
     /// States what may be so at the heads of loops, unless the function has many blocks; then what may be so if that is.
-    fn guess_all(&mut self) -> Result<(), AllocError> {
+    fn guess_all(&mut self) {
         let count = self.function.blocks.len();
         for _block in 0..count {
-            self.guessed.push(Vec::new(self.alloc))?;
+            self.heap.push(&mut self.guessed, self.heap.list());
         }
         if count > MOST_BLOCKS {
-            return Ok(());
+            return;
         }
-        let above = dominators_of(self.alloc, self.edges.as_slice(), count)?;
+        let above = dominators_of(self.heap, self.edges.as_slice(), count);
         let stated = self.facts.sums.len();
-        self.guess_from(above.as_slice(), 0)?;
+        self.guess_from(above.as_slice(), 0);
         self.guess_from(above.as_slice(), stated)
     }
 
@@ -185,14 +155,14 @@ impl<'a> Known<'a> {
     }
 
     /// The facts that are known at a block.
-    pub fn facts_at(&self, block: usize) -> Result<Vec<Sum<'a>>, AllocError> {
-        let mut facts = Vec::new(self.alloc);
+    pub fn facts_at(&self, block: usize) -> Vec<Sum<'a>> {
+        let mut facts = self.heap.list();
         for number in 0..self.facts.sums.len() {
             if self.is_known(block, number) {
-                facts.push(self.facts.sums[number].copy()?)?;
+                self.heap.push(&mut facts, self.facts.sums[number].copy());
             }
         }
-        Ok(facts)
+        facts
     }
 
     /// Whether the fact is a guess at the block.
@@ -245,58 +215,49 @@ impl<'a> Known<'a> {
         for number in 0..self.facts.sums.len() {
             if self.is_known(block, number) {
                 let lack = lack_by(sum, &self.facts.sums[number]);
-                least = lesser(least, lack);
+                least = bound_among(least, lack, true);
             }
         }
         least
     }
 
     /// How much one sum lacks to be no less than the other.
-    pub fn lack_of(
-        &self,
-        block: usize,
-        one: &Sum<'a>,
-        other: &Sum<'a>,
-    ) -> Result<Option<i128>, AllocError> {
-        let difference = one.with(other, -1)?;
-        Ok(match difference.as_number() {
+    pub fn lack_of(&self, block: usize, one: &Sum<'a>, other: &Sum<'a>) -> Option<i128> {
+        let difference = one.with(other, -1);
+        match difference.as_number() {
             Some(number) => Some(number.saturating_neg().max(0)),
             None => self.lack(block, &difference),
-        })
+        }
     }
 
     /// The greater of two sums, or one with what it may lack, or their sum where nothing is known of that.
-    pub fn greater(
-        &self,
-        block: usize,
-        one: &Sum<'a>,
-        other: &Sum<'a>,
-    ) -> Result<Sum<'a>, AllocError> {
-        let second = self.lack_of(block, other, one)?;
-        match self.lack_of(block, one, other)? {
-            Some(first) => raised_less(one, first, other, second),
-            None => match second {
-                Some(second) => other.raised(second),
-                None => one.with(other, 1),
-            },
+    pub fn greater(&self, block: usize, one: &Sum<'a>, other: &Sum<'a>) -> Sum<'a> {
+        match (
+            self.lack_of(block, one, other),
+            self.lack_of(block, other, one),
+        ) {
+            (Some(first), Some(second)) if second < first => other.raised(second),
+            (Some(first), _) => one.raised(first),
+            (None, Some(second)) => other.raised(second),
+            (None, None) => one.with(other, 1),
         }
     }
 
     /// The marks of a block to begin with: each fact, but at the entry only what it states.
-    fn first_marks(&self, block: usize) -> Result<Vec<bool>, AllocError> {
-        let mut marks = Vec::new(self.alloc);
+    fn first_marks(&self, block: usize) -> Vec<bool> {
+        let mut marks = self.heap.list();
         for fact in 0..self.facts.sums.len() {
-            marks.push(block != 0 || self.is_given(block, fact))?;
+            let is_marked = block != 0 || self.is_given(block, fact);
+            self.heap.push(&mut marks, is_marked);
         }
-        Ok(marks)
+        marks
     }
 
-    fn mark_all(&mut self) -> Result<(), AllocError> {
+    fn mark_all(&mut self) {
         for block in 0..self.function.blocks.len() {
-            let marks = self.first_marks(block)?;
-            self.marks.push(marks)?;
+            let marks = self.first_marks(block);
+            self.heap.push(&mut self.marks, marks);
         }
-        Ok(())
     }
 
     /// Whether some way leads to the block and each of them brings the fact.
@@ -368,20 +329,19 @@ impl<'a> Known<'a> {
     }
 
     /// Finds the facts, and marks what is known at each block.
-    fn find(&mut self, has_guesses: bool) -> Result<(), AllocError> {
-        self.give_all()?;
-        self.add_all()?;
-        self.make_all()?;
+    fn find(&mut self, has_guesses: bool) {
+        self.give_all();
+        self.add_all();
+        self.make_all();
         if has_guesses {
-            self.guess_all()?;
+            self.guess_all();
         }
-        self.mark_all()?;
+        self.mark_all();
         for _round in 0..self.function.blocks.len() {
             if !self.settle_all() {
-                return Ok(());
+                return;
             }
         }
-        Ok(())
     }
 }
 
@@ -400,28 +360,6 @@ fn lack_by<'a>(sum: &Sum<'a>, fact: &Sum<'a>) -> Option<i128> {
     }
 }
 
-/// One sum and what it lacks, or the other, whichever lacks less.
-fn raised_less<'a>(
-    one: &Sum<'a>,
-    first: i128,
-    other: &Sum<'a>,
-    second: Option<i128>,
-) -> Result<Sum<'a>, AllocError> {
-    match second {
-        Some(second) if second < first => other.raised(second),
-        _ => one.raised(first),
-    }
-}
-
-/// The lesser of two numbers; the one that there is.
-fn lesser(one: Option<i128>, other: Option<i128>) -> Option<i128> {
-    match (one, other) {
-        (Some(one), Some(other)) => Some(one.min(other)),
-        (None, other) => other,
-        (one, None) => one,
-    }
-}
-
 /// Whether a sum names a register that the block defines.
 pub fn names_own(block: &Block, sum: &Sum<'_>) -> bool {
     for (name, coefficient) in &sum.terms {
@@ -434,14 +372,21 @@ pub fn names_own(block: &Block, sum: &Sum<'_>) -> bool {
 
 /// What is known at each block, by what heads state, `shows` and the outcomes of branches. A fact about registers that the block defines
 /// anew is not brought along to it. What may be so of counters is among it, if guesses are asked for.
-pub fn known_of<'a>(
-    alloc: Global,
-    function: &'a Function,
-    has_guesses: bool,
-) -> Result<Known<'a>, AllocError> {
-    let edges = edges_of(alloc, function)?;
-    let into = into_blocks(alloc, edges.as_slice(), function.blocks.len())?;
-    let mut known = Known::new(alloc, function, edges, into);
-    known.find(has_guesses)?;
-    Ok(known)
+pub fn known_of<'a>(heap: &'a Heap, function: &'a Function, has_guesses: bool) -> Known<'a> {
+    let edges = edges_of(heap, function);
+    let into = into_blocks(heap, edges.as_slice(), function.blocks.len());
+    let mut known = Known {
+        heap,
+        function,
+        edges,
+        into,
+        facts: Facts::new(heap, function),
+        given: heap.list(),
+        guessed: heap.list(),
+        added: heap.list(),
+        made: heap.list(),
+        marks: heap.list(),
+    };
+    known.find(has_guesses);
+    known
 }

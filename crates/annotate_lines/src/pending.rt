@@ -1,10 +1,8 @@
 //! The zones that children may still touch where a block begins, because they are handed on to it.
 
+use crate::cells::is_same_object;
 use crate::hull::Hull;
-use annotate_facts::{Place, dominators_of, names_own};
-use annotate_steps::is_same_object;
-use annotate_sums::{Edge, Sum, Way, block_at, edges_of};
-use std::alloc::{AllocError, Global};
+use annotate_facts::{Edge, Heap, Place, Sum, Way, block_at, dominators_of, names_own};
 use syntax::{Block, Form, Function, Pending, Zone};
 
 /// A zone that is pending of a region.
@@ -15,49 +13,34 @@ pub struct Handed<'a> {
 }
 
 /// Whether two forms are the same number whatever the registers hold.
-fn are_same(alloc: Global, one: &Form, other: &Form) -> Result<bool, AllocError> {
-    let mut difference = Sum::of_form(alloc, one)?;
-    difference.add_form(other, -1)?;
-    Ok(matches!(difference.as_number(), Some(0)))
-}
-
-/// Whether a form names a register that the block defines.
-fn form_names_own(alloc: Global, block: &Block, form: &Form) -> Result<bool, AllocError> {
-    let sum = Sum::of_form(alloc, form)?;
-    Ok(names_own(block, &sum))
-}
-
-/// Whether each register of a form has its value at a place.
-fn has_values(place: Place<'_, '_>, form: &Form) -> Result<bool, AllocError> {
-    let sum = Sum::of_form(place.alloc, form)?;
-    Ok(place.has_values(&sum))
+fn are_same<'a>(heap: &'a Heap, one: &'a Form, other: &'a Form) -> bool {
+    let mut difference = Sum::of_form(heap, one);
+    difference.add_form(other, -1);
+    matches!(difference.as_number(), Some(0))
 }
 
 impl<'a> Handed<'a> {
     /// Whether both are of one region and zone.
-    fn is_same(self, alloc: Global, other: Handed<'a>) -> Result<bool, AllocError> {
+    fn is_same(self, heap: &'a Heap, other: Handed<'a>) -> bool {
         let one = self.zone;
         let two = other.zone;
-        Ok(
-            self.region == other.region
-                && one.mode == two.mode
-                && is_same_object(&one.object, &two.object)
-                && are_same(alloc, &one.low, &two.low)?
-                && are_same(alloc, &one.high, &two.high)?,
-        )
+        self.region == other.region
+            && one.mode == two.mode
+            && is_same_object(&one.object, &two.object)
+            && are_same(heap, &one.low, &two.low)
+            && are_same(heap, &one.high, &two.high)
     }
 
     /// Whether an end of the zone names a register that the block defines.
-    fn is_renamed(self, alloc: Global, block: &Block) -> Result<bool, AllocError> {
-        Ok(
-            form_names_own(alloc, block, &self.zone.low)?
-                || form_names_own(alloc, block, &self.zone.high)?,
-        )
+    fn is_renamed(self, heap: &'a Heap, block: &Block) -> bool {
+        names_own(block, &Sum::of_form(heap, &self.zone.low))
+            || names_own(block, &Sum::of_form(heap, &self.zone.high))
     }
 
     /// Whether the registers of both ends have their values at a place.
-    fn may_stand(self, place: Place<'_, '_>) -> Result<bool, AllocError> {
-        Ok(has_values(place, &self.zone.low)? && has_values(place, &self.zone.high)?)
+    fn may_stand(self, place: Place<'_, 'a>) -> bool {
+        place.has_values(&Sum::of_form(place.heap, &self.zone.low))
+            && place.has_values(&Sum::of_form(place.heap, &self.zone.high))
     }
 
     /// Whether a block says itself what is pending of the region's object.
@@ -73,8 +56,8 @@ impl<'a> Handed<'a> {
     }
 
     /// Whether a block says that itself, or a register of the zone is another one there, or has no value.
-    fn is_kept_out(self, place: Place<'_, '_>, block: &Block) -> Result<bool, AllocError> {
-        Ok(self.is_said(block) || self.is_renamed(place.alloc, block)? || !self.may_stand(place)?)
+    fn is_kept_out(self, place: Place<'_, 'a>, block: &Block) -> bool {
+        self.is_said(block) || self.is_renamed(place.heap, block) || !self.may_stand(place)
     }
 }
 
@@ -88,33 +71,21 @@ fn goes_on(way: Way<'_>, region: &str) -> bool {
 }
 
 /// What is handed on to each block beside what it says itself.
-pub struct Waiting<'a> {
-    alloc: Global,
+#[derive(Drop)]
+struct Waiting<'a> {
+    heap: &'a Heap,
     function: &'a Function,
-    edges: Vec<Edge<'a>>,
+    edges: &'a [Edge<'a>],
     /// For each block one that is on all ways to it.
     above: Vec<usize>,
-    pub handed: Vec<Vec<Handed<'a>>>,
-}
-
-/// Written out, so that each path that lets go of it is short.
-impl Drop for Waiting<'_> {
-    fn drop(self) {
-        let Waiting {
-            alloc: _,
-            function: _,
-            edges: _,
-            above: _,
-            handed: _,
-        } = self;
-    }
+    handed: Vec<Vec<Handed<'a>>>,
 }
 
 impl<'a> Waiting<'a> {
     /// Where a block begins.
     fn place(&self, block: usize) -> Place<'_, 'a> {
         Place {
-            alloc: self.alloc,
+            heap: self.heap,
             function: self.function,
             above: self.above.as_slice(),
             block,
@@ -122,189 +93,151 @@ impl<'a> Waiting<'a> {
     }
 
     /// Hands a zone on to a block; whether that is new.
-    fn put(&mut self, to: usize, next: Handed<'a>) -> Result<bool, AllocError> {
-        let blocks = self.function.blocks.as_slice();
-        if to >= blocks.len() || to >= self.handed.len() {
-            return Ok(false);
-        }
-        if next.is_kept_out(self.place(to), &blocks[to])?
-            || is_put(self.alloc, self.handed[to].as_slice(), next)?
+    fn put(&mut self, to: usize, next: Handed<'a>) -> bool {
+        let Some(block) = block_at(self.function, to) else {
+            return false;
+        };
+        if to >= self.handed.len()
+            || next.is_kept_out(self.place(to), block)
+            || is_put(self.heap, self.handed[to].as_slice(), next)
         {
-            return Ok(false);
+            return false;
         }
-        self.handed[to].push(next)?;
-        Ok(true)
+        self.heap.push(&mut self.handed[to], next);
+        true
     }
 
     /// Adds the feet of the children that a block detaches.
-    fn push_feet(
-        &self,
-        along: &mut Vec<Handed<'a>>,
-        from: usize,
-        region: &'a str,
-    ) -> Result<(), AllocError> {
-        for edge in &self.edges {
+    fn push_feet(&self, along: &mut Vec<Handed<'a>>, from: usize, region: &'a str) {
+        for edge in self.edges {
             if edge.from == from && matches!(edge.way, Way::Detached) {
                 if let Some(child) = block_at(self.function, edge.to) {
-                    push_foot(along, region, child.notes.foot.as_slice())?;
+                    self.push_foot(along, region, child.notes.foot.as_slice());
                 }
             }
         }
-        Ok(())
     }
 
-    /// Adds the zones that go on along an edge.
-    fn push_along(&self, along: &mut Vec<Handed<'a>>, edge: Edge<'a>) -> Result<(), AllocError> {
-        if let Some(from) = block_at(self.function, edge.from) {
-            push_pending(along, edge.way, from.notes.pending.as_slice())?;
+    fn push_foot(&self, along: &mut Vec<Handed<'a>>, region: &'a str, foot: &'a [Zone]) {
+        for zone in foot {
+            self.heap.push(along, Handed { region, zone });
         }
-        if edge.from < self.handed.len() {
-            push_handed(along, edge.way, self.handed[edge.from].as_slice())?;
+    }
+
+    fn push_pending(&self, along: &mut Vec<Handed<'a>>, way: Way<'a>, all: &'a [Pending]) {
+        for pending in all {
+            let region = pending.region.as_str();
+            if goes_on(way, region) {
+                let zone = &pending.zone;
+                self.heap.push(along, Handed { region, zone });
+            }
+        }
+    }
+
+    fn push_handed(&self, along: &mut Vec<Handed<'a>>, way: Way<'a>, all: &[Handed<'a>]) {
+        for next in all {
+            if goes_on(way, next.region) {
+                self.heap.push(along, *next);
+            }
+        }
+    }
+
+    /// The zones that go on along an edge.
+    fn along(&self, edge: Edge<'a>) -> Vec<Handed<'a>> {
+        let mut along = self.heap.list();
+        if let Some(from) = block_at(self.function, edge.from) {
+            self.push_pending(&mut along, edge.way, from.notes.pending.as_slice());
+        }
+        if let Some(handed) = self.handed.get(edge.from) {
+            self.push_handed(&mut along, edge.way, handed.as_slice());
         }
         if let Way::Continued(region) = edge.way {
-            self.push_feet(along, edge.from, region)?;
+            self.push_feet(&mut along, edge.from, region);
         }
-        Ok(())
+        along
     }
 
-    /// Hands zones on to a block; whether one of them was new.
-    fn put_all(&mut self, to: usize, along: &[Handed<'a>]) -> Result<bool, AllocError> {
+    /// Hands on what goes along an edge; whether something was new.
+    fn hand_on(&mut self, edge: Edge<'a>) -> bool {
         let mut is_new = false;
-        for next in along {
-            if self.put(to, *next)? {
+        for next in self.along(edge) {
+            if self.put(edge.to, next) {
                 is_new = true;
             }
         }
-        Ok(is_new)
-    }
-
-    /// Hands on what goes along the edge of this number; whether something was new.
-    fn hand_on(&mut self, number: usize) -> Result<bool, AllocError> {
-        if number >= self.edges.len() {
-            return Ok(false);
-        }
-        let edge = self.edges[number];
-        let mut along = Vec::new(self.alloc);
-        self.push_along(&mut along, edge)?;
-        self.put_all(edge.to, along.as_slice())
+        is_new
     }
 
     /// One round along all edges; whether something was new.
-    fn hand_all_on(&mut self) -> Result<bool, AllocError> {
+    fn hand_all_on(&mut self) -> bool {
         let mut is_new = false;
-        for number in 0..self.edges.len() {
-            if self.hand_on(number)? {
+        let edges = self.edges;
+        for edge in edges {
+            if self.hand_on(*edge) {
                 is_new = true;
             }
         }
-        Ok(is_new)
+        is_new
     }
 
     /// Round after round until nothing is new.
-    fn hand_down(&mut self) -> Result<(), AllocError> {
+    fn hand_down(&mut self) {
         for _round in 0..self.handed.len() {
-            if !self.hand_all_on()? {
-                return Ok(());
+            if !self.hand_all_on() {
+                return;
             }
         }
-        Ok(())
     }
 
     /// Begins with nothing at each block.
-    fn begin(&mut self) -> Result<(), AllocError> {
+    fn begin(&mut self) {
         for _block in self.function.blocks.as_slice() {
-            self.handed.push(Vec::new(self.alloc))?;
+            self.heap.push(&mut self.handed, self.heap.list());
         }
-        Ok(())
     }
 
-    /// Puts in what may be pending at the heads of loops.
-    fn guess(&mut self, hulls: &'a [Hull<'a>]) -> Result<(), AllocError> {
-        for hull in hulls {
-            let region = hull.region;
-            let zone = &hull.zone;
-            self.put_guess(hull.block, Handed { region, zone })?;
-        }
-        Ok(())
-    }
-
-    /// Puts a zone to a block that does not say itself what is pending.
-    fn put_guess(&mut self, to: usize, next: Handed<'a>) -> Result<(), AllocError> {
-        let blocks = self.function.blocks.as_slice();
-        if to < blocks.len() && to < self.handed.len() && !next.is_said(&blocks[to]) {
-            if next.may_stand(self.place(to))? {
-                self.handed[to].push(next)?;
+    /// Puts what may be pending at the head of a loop to it, if it does not say itself what is pending.
+    fn guess(&mut self, hull: &'a Hull<'a>) {
+        let to = hull.block;
+        let next = Handed {
+            region: hull.region,
+            zone: &hull.zone,
+        };
+        if let Some(block) = block_at(self.function, to) {
+            if to < self.handed.len() && !next.is_said(block) && next.may_stand(self.place(to)) {
+                self.heap.push(&mut self.handed[to], next);
             }
         }
-        Ok(())
     }
 }
 
-fn is_put<'a>(alloc: Global, handed: &[Handed<'a>], next: Handed<'a>) -> Result<bool, AllocError> {
+fn is_put<'a>(heap: &'a Heap, handed: &[Handed<'a>], next: Handed<'a>) -> bool {
     for other in handed {
-        if other.is_same(alloc, next)? {
-            return Ok(true);
+        if other.is_same(heap, next) {
+            return true;
         }
     }
-    Ok(false)
+    false
 }
 
-fn push_pending<'a>(
-    along: &mut Vec<Handed<'a>>,
-    way: Way<'a>,
-    all: &'a [Pending],
-) -> Result<(), AllocError> {
-    for pending in all {
-        let region = pending.region.as_str();
-        if goes_on(way, region) {
-            let zone = &pending.zone;
-            along.push(Handed { region, zone })?;
-        }
-    }
-    Ok(())
-}
-
-fn push_handed<'a>(
-    along: &mut Vec<Handed<'a>>,
-    way: Way<'a>,
-    all: &[Handed<'a>],
-) -> Result<(), AllocError> {
-    for next in all {
-        if goes_on(way, next.region) {
-            along.push(*next)?;
-        }
-    }
-    Ok(())
-}
-
-fn push_foot<'a>(
-    along: &mut Vec<Handed<'a>>,
-    region: &'a str,
-    foot: &'a [Zone],
-) -> Result<(), AllocError> {
-    for zone in foot {
-        along.push(Handed { region, zone })?;
-    }
-    Ok(())
-}
-
-/// What is handed on along the edges of a function, again and again until nothing is new.
-pub fn waiting_of<'a>(
-    alloc: Global,
+/// What is handed on to each block along the edges of a function, again and again until nothing is new.
+pub fn handed_of<'a>(
+    heap: &'a Heap,
     function: &'a Function,
+    edges: &'a [Edge<'a>],
     hulls: &'a [Hull<'a>],
-) -> Result<Waiting<'a>, AllocError> {
-    let edges = edges_of(alloc, function)?;
-    let above = dominators_of(alloc, edges.as_slice(), function.blocks.len())?;
+) -> Vec<Vec<Handed<'a>>> {
     let mut waiting = Waiting {
-        alloc,
+        heap,
         function,
         edges,
-        above,
-        handed: Vec::new(alloc),
+        above: dominators_of(heap, edges, function.blocks.len()),
+        handed: heap.list(),
     };
-    waiting.begin()?;
-    waiting.guess(hulls)?;
-    waiting.hand_down()?;
-    Ok(waiting)
+    waiting.begin();
+    for hull in hulls {
+        waiting.guess(hull);
+    }
+    waiting.hand_down();
+    waiting.handed
 }

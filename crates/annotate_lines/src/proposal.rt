@@ -1,17 +1,20 @@
 //! The lines that are put in.
 
+use crate::cells::firsts_of;
+use crate::goal::Scope;
 use crate::hull::hulls_of;
-use crate::pending::{Handed, waiting_of};
-use annotate_costs::{Need, Total, needs_of};
-use annotate_facts::{Known, known_of};
-use annotate_steps::{Scope, Walk, Ways, firsts_of};
-use annotate_sums::Sum;
+use crate::left::{Need, needs_of};
+use crate::pending::{Handed, handed_of};
+use crate::step::Walk;
+use crate::total::Total;
+use annotate_facts::{Heap, Known, Sum, edges_of, known_of};
+use buffers::TextBuffer;
 use ir_annotation::push_zone;
 use ir_reader::read;
 use refusal::Refused;
 use std::alloc::{AllocError, Global};
 use std::hash::RandomState;
-use syntax::{Block, Ending, Function, Module, Step};
+use syntax::{Block, Function, Module};
 
 /// The lines of one word that may stand at one place.
 const MOST_LINES: usize = 32;
@@ -44,7 +47,7 @@ struct Proposal {
 /// What is put in, and what calls of the functions so far cost.
 #[derive(Drop)]
 struct Draft<'a> {
-    alloc: Global,
+    heap: &'a Heap,
     module: &'a Module,
     kind: Kind,
     /// What is left of the effort for `shows` lines.
@@ -60,68 +63,6 @@ fn is_kept<'a>(known: &Known<'a>, index: usize, number: usize, fact: &Sum<'a>) -
         && !known.is_given(index, number)
         && fact.is_form()
         && !known.is_weaker(index, fact)
-}
-
-/// Adds the facts that are known at a block and not stated there, as many as there is room for.
-fn push_keeps(
-    out: &mut String,
-    known: &Known<'_>,
-    index: usize,
-    block: &Block,
-) -> Result<(), AllocError> {
-    let mut lines = block.notes.keeps.len();
-    for number in 0..known.facts.sums.len() {
-        let fact = &known.facts.sums[number];
-        if lines < MOST_LINES && is_kept(known, index, number, fact) {
-            out.push_str("  ;! keeps ")?;
-            fact.spell_inequality(out)?;
-            out.push_str("\n")?;
-            lines = lines.saturating_add(1);
-        }
-    }
-    Ok(())
-}
-
-fn push_handed(out: &mut String, handed: Handed<'_>) -> Result<(), AllocError> {
-    out.push_str("  ;! pending %")?;
-    out.push_str(handed.region)?;
-    out.push_str(" ")?;
-    push_zone(out, handed.zone)?;
-    out.push_str("\n")
-}
-
-fn push_pending(out: &mut String, handed: &[Handed<'_>], block: &Block) -> Result<(), AllocError> {
-    let mut lines = block.notes.pending.len();
-    for next in handed {
-        if lines < MOST_LINES {
-            push_handed(out, *next)?;
-            lines = lines.saturating_add(1);
-        }
-    }
-    Ok(())
-}
-
-fn push_left(out: &mut String, block: &Block, need: &Need<'_>) -> Result<(), AllocError> {
-    if block.notes.left.line != block.line {
-        return Ok(());
-    }
-    out.push_str("  ;! left ")?;
-    need.calls.spell(out)?;
-    out.push_str(" ")?;
-    need.instructions.spell(out)?;
-    out.push_str("\n")
-}
-
-/// Adds what a function's head states of its parameters.
-fn push_requirements<'a>(
-    facts: &mut Vec<Sum<'a>>,
-    alloc: Global,
-    function: &'a Function,
-) -> Result<(), AllocError> {
-    for inequality in function.notes.requirements.as_slice() {
-        facts.push(Sum::of_inequality(alloc, inequality)?)?;
-    }
-    Ok(())
 }
 
 /// The last of a block's `keeps` lines, or its label.
@@ -143,235 +84,197 @@ fn end_of_pending(block: &Block) -> u32 {
 }
 
 impl<'a> Draft<'a> {
-    fn propose(&mut self, behind: u32, lines: String) -> Result<(), AllocError> {
+    fn propose(&mut self, behind: u32, lines: TextBuffer) {
         if !lines.is_empty() {
-            self.proposals.push(Proposal { behind, lines })?;
+            if let Some(lines) = self.heap.kept(lines.finish()) {
+                self.heap
+                    .push(&mut self.proposals, Proposal { behind, lines });
+            }
         }
-        Ok(())
     }
 
-    fn propose_total(&mut self, behind: u32, total: Total) -> Result<(), AllocError> {
+    fn propose_total(&mut self, behind: u32, total: Total) {
         let calls = total.self_calls;
         let instructions = total.instructions;
-        let mut line = String::new(self.alloc);
-        write!(line, "  ;! budget {calls} {instructions}\n")?;
-        self.propose(behind, line)
+        let mut line = self.heap.text();
+        write!(line, "  ;! budget {calls} {instructions}\n");
+        self.propose(behind, line);
     }
 
     /// Proposes the budget that covers what is left at the entry, if there is one.
-    fn propose_budget(
-        &mut self,
-        function: &'a Function,
-        entry: &Need<'a>,
-    ) -> Result<Option<Total>, AllocError> {
-        let mut facts = Vec::new(self.alloc);
-        push_requirements(&mut facts, self.alloc, function)?;
-        let total = Total::of_need(facts.as_slice(), entry)?;
-        if let Some(new) = total {
-            self.propose_total(function.line, new)?;
+    fn propose_budget(&mut self, function: &'a Function, entry: &Need<'a>) -> Option<Total> {
+        let mut facts = self.heap.list();
+        for inequality in function.notes.requirements.as_slice() {
+            self.heap
+                .push(&mut facts, Sum::of_inequality(self.heap, inequality));
         }
-        Ok(total)
+        let total = Total::of_need(facts.as_slice(), entry);
+        if let Some(new) = total {
+            self.propose_total(function.line, new);
+        }
+        total
     }
 
     /// Proposes the budget, where the function has none, and keeps what calls of it cost.
-    fn add_budget(
-        &mut self,
-        function: &'a Function,
-        entry: &Option<Need<'a>>,
-    ) -> Result<(), AllocError> {
+    fn add_budget(&mut self, function: &'a Function, entry: &Option<Need<'a>>) {
         let total = match (Total::given(function), entry) {
-            (None, Some(entry)) => self.propose_budget(function, entry)?,
+            (None, Some(entry)) => self.propose_budget(function, entry),
             (total, _) => total,
         };
         if let Some(total) = total {
             let cost = total.cost(function.notes.measure.bound);
-            self.costs.push((function.name.as_str(), cost))?;
+            self.heap
+                .push(&mut self.costs, (function.name.as_str(), cost));
         }
-        Ok(())
     }
 
-    /// Proposes what follows of facts at the head of a block.
-    fn propose_keeps(
-        &mut self,
-        known: &Known<'a>,
-        index: usize,
-        block: &Block,
-    ) -> Result<(), AllocError> {
-        let mut lines = String::new(self.alloc);
-        push_keeps(&mut lines, known, index, block)?;
-        self.propose(block.line, lines)
+    /// Proposes the facts that are known at a block and not stated there, as many as there is room for.
+    fn propose_keeps(&mut self, known: &Known<'a>, index: usize, block: &Block) {
+        let mut count = block.notes.keeps.len();
+        let mut lines = self.heap.text();
+        for (number, fact) in known.facts.sums.iter().enumerate() {
+            if count < MOST_LINES && is_kept(known, index, number, fact) {
+                lines.push_str("  ;! keeps ");
+                fact.spell_inequality(&mut lines);
+                lines.push_str("\n");
+                count = count.saturating_add(1);
+            }
+        }
+        self.propose(block.line, lines);
     }
 
     /// The same of all blocks; what an entry knows stands at the function's head already.
-    fn add_facts(&mut self, function: &'a Function) -> Result<(), AllocError> {
-        let known = known_of(self.alloc, function, self.kind == Kind::Guesses)?;
+    fn add_facts(&mut self, function: &'a Function) {
+        let known = known_of(self.heap, function, self.kind == Kind::Guesses);
         let blocks = function.blocks.as_slice();
         for index in 1..blocks.len() {
-            self.propose_keeps(&known, index, &blocks[index])?;
+            self.propose_keeps(&known, index, &blocks[index]);
         }
-        Ok(())
     }
 
-    /// Proposes how facts show what the steps of a block ask.
-    fn propose_steps(&mut self, walk: &mut Walk<'a>, steps: &'a [Step]) -> Result<(), AllocError> {
-        for step in steps {
-            let lines = walk.pass(step)?;
-            self.propose(step.line.saturating_sub(1), lines)?;
-        }
-        Ok(())
-    }
-
-    /// The same of its end.
-    fn propose_end(
-        &mut self,
-        walk: &mut Walk<'a>,
-        known: &Known<'a>,
-        ending: &'a Ending,
-    ) -> Result<(), AllocError> {
-        let ways = Ways {
-            edges: known.edges.as_slice(),
-            facts: known.facts.sums.as_slice(),
-            added: known.added.as_slice(),
-        };
-        let lines = walk.end(ways, ending)?;
-        self.propose(ending.line.saturating_sub(1), lines)
-    }
-
-    /// The same of a whole block.
-    fn add_steps_of(
-        &mut self,
-        known: &Known<'a>,
-        index: usize,
-        block: &'a Block,
-        first: usize,
-    ) -> Result<(), AllocError> {
+    /// Proposes how facts show what the steps of a block ask, and its end.
+    fn add_steps_of(&mut self, known: &Known<'a>, index: usize, block: &'a Block, first: usize) {
         let scope = Scope {
-            alloc: self.alloc,
+            heap: self.heap,
             module: self.module,
             function: known.function,
         };
-        let mut walk = Walk::new(scope, index, block, first, self.effort)?;
-        self.propose_steps(&mut walk, block.steps.as_slice())?;
+        let mut walk = Walk::new(scope, index, block, first, self.effort);
+        for step in block.steps.as_slice() {
+            self.propose(step.line.saturating_sub(1), walk.pass(step));
+        }
         if let Some(ending) = &block.ending {
-            self.propose_end(&mut walk, known, ending)?;
+            self.propose(ending.line.saturating_sub(1), walk.end(known, ending));
         }
         self.effort = walk.effort;
-        Ok(())
     }
 
     /// The same of all blocks.
-    fn add_steps(&mut self, function: &'a Function) -> Result<(), AllocError> {
-        let known = known_of(self.alloc, function, false)?;
+    fn add_steps(&mut self, function: &'a Function) {
+        let known = known_of(self.heap, function, false);
         let blocks = function.blocks.as_slice();
-        let firsts = firsts_of(self.alloc, known.edges.as_slice(), blocks.len())?;
+        let firsts = firsts_of(self.heap, known.edges.as_slice(), blocks.len());
         for (index, block) in blocks.iter().enumerate() {
             let first = firsts.get(index).copied().flatten().unwrap_or(0);
-            self.add_steps_of(&known, index, block, first)?;
+            self.add_steps_of(&known, index, block, first);
         }
-        Ok(())
     }
 
-    /// Proposes what is handed on to the head of a block.
-    fn propose_pending(&mut self, block: &Block, handed: &[Handed<'_>]) -> Result<(), AllocError> {
-        let mut lines = String::new(self.alloc);
-        push_pending(&mut lines, handed, block)?;
-        self.propose(end_of_keeps(block), lines)
+    fn push_handed(&self, out: &mut TextBuffer, handed: Handed<'_>) {
+        let mut zone = self.heap.string("");
+        self.heap.kept(push_zone(&mut zone, handed.zone));
+        out.push_str("  ;! pending %");
+        out.push_str(handed.region);
+        out.push_str(" ");
+        out.push_str(zone.as_str());
+        out.push_str("\n");
+    }
+
+    /// Proposes what is handed on to the head of a block, as far as there is room.
+    fn propose_pending(&mut self, block: &Block, handed: &[Handed<'_>]) {
+        let room = MOST_LINES.saturating_sub(block.notes.pending.len());
+        let count = room.min(handed.len());
+        let mut lines = self.heap.text();
+        for next in &handed[..count] {
+            self.push_handed(&mut lines, *next);
+        }
+        self.propose(end_of_keeps(block), lines);
     }
 
     /// The same of all blocks.
-    fn add_zones(&mut self, function: &'a Function) -> Result<(), AllocError> {
-        let hulls = hulls_of(self.alloc, function)?;
-        let waiting = waiting_of(self.alloc, function, hulls.as_slice())?;
-        let blocks = function.blocks.as_slice();
-        for (block, handed) in blocks.iter().zip(&waiting.handed) {
-            self.propose_pending(block, handed.as_slice())?;
+    fn add_zones(&mut self, function: &'a Function) {
+        let edges = edges_of(self.heap, function);
+        let hulls = hulls_of(self.heap, function, edges.as_slice());
+        let handed = handed_of(self.heap, function, edges.as_slice(), hulls.as_slice());
+        for (block, handed) in function.blocks.as_slice().iter().zip(&handed) {
+            self.propose_pending(block, handed.as_slice());
         }
-        Ok(())
     }
 
-    /// Proposes that the budget is left at the head of the entry.
-    fn propose_whole(&mut self, entry: &Block, total: Total) -> Result<(), AllocError> {
-        let mut lines = String::new(self.alloc);
-        if entry.notes.left.line == entry.line {
-            let calls = total.self_calls;
-            let instructions = total.instructions;
-            write!(lines, "  ;! left {calls} {instructions}\n")?;
+    /// Proposes what is left at the head of a block, if it does not say that itself.
+    fn propose_left(&mut self, block: &Block, need: &Need<'_>) {
+        if block.notes.left.line == block.line {
+            let mut lines = self.heap.text();
+            lines.push_str("  ;! left ");
+            need.calls.spell(&mut lines);
+            lines.push_str(" ");
+            need.instructions.spell(&mut lines);
+            lines.push_str("\n");
+            self.propose(end_of_pending(block), lines);
         }
-        self.propose(end_of_pending(entry), lines)
     }
 
-    /// Proposes what is left at the head of a block, if it is known.
-    fn propose_left(&mut self, block: &Block, need: &Option<Need<'a>>) -> Result<(), AllocError> {
-        let mut lines = String::new(self.alloc);
-        if let Some(need) = need {
-            push_left(&mut lines, block, need)?;
-        }
-        self.propose(end_of_pending(block), lines)
-    }
-
-    /// The same of all blocks; of the entry the budget, where the function has one.
-    fn propose_lefts(
-        &mut self,
-        function: &Function,
-        needs: &[Option<Need<'a>>],
-    ) -> Result<(), AllocError> {
+    /// The same of all blocks, where it is known; of the entry the budget, where the function has one.
+    fn propose_lefts(&mut self, function: &Function, needs: &[Option<Need<'a>>]) {
         for (index, block) in function.blocks.as_slice().iter().enumerate() {
             match (Total::given(function), needs.get(index)) {
-                (Some(total), _) if index == 0 => self.propose_whole(block, total)?,
-                (_, Some(need)) => self.propose_left(block, need)?,
+                (Some(total), _) if index == 0 => {
+                    self.propose_left(block, &total.as_need(self.heap));
+                }
+                (_, Some(Some(need))) => self.propose_left(block, need),
                 _ => {}
             }
         }
-        Ok(())
-    }
-
-    /// What the blocks of a function need, by what calls of those before it cost.
-    fn needs(&self, function: &'a Function) -> Result<Vec<Option<Need<'a>>>, AllocError> {
-        let known = known_of(self.alloc, function, false)?;
-        needs_of(&known, self.costs.as_slice())
     }
 
     /// Proposes what is left at the heads of the blocks, and the budget.
-    fn add_costs(&mut self, function: &'a Function) -> Result<(), AllocError> {
-        let needs = self.needs(function)?;
+    fn add_costs(&mut self, function: &'a Function) {
+        let known = known_of(self.heap, function, false);
+        let needs = needs_of(&known, self.costs.as_slice());
         if let [entry, ..] = needs.as_slice() {
-            self.add_budget(function, entry)?;
+            self.add_budget(function, entry);
         }
-        self.propose_lefts(function, needs.as_slice())
+        self.propose_lefts(function, needs.as_slice());
     }
 
-    fn add_functions(&mut self, functions: &'a [Function]) -> Result<(), AllocError> {
+    fn add_functions(&mut self, functions: &'a [Function]) {
         for function in functions {
             match self.kind {
-                Kind::Facts | Kind::Guesses => self.add_facts(function)?,
-                Kind::Steps => self.add_steps(function)?,
-                Kind::Zones => self.add_zones(function)?,
-                Kind::Costs => self.add_costs(function)?,
+                Kind::Facts | Kind::Guesses => self.add_facts(function),
+                Kind::Steps => self.add_steps(function),
+                Kind::Zones => self.add_zones(function),
+                Kind::Costs => self.add_costs(function),
             }
         }
-        Ok(())
     }
 
-    /// Adds the lines of the proposal of this index if they belong behind this line of the text; the index of the one that comes next.
-    fn put_behind(&self, out: &mut String, number: u32, index: usize) -> Result<usize, AllocError> {
-        if index < self.proposals.len() && self.proposals[index].behind == number {
-            out.push_str(self.proposals[index].lines.as_str())?;
-            return Ok(index.saturating_add(1));
-        }
-        Ok(index)
-    }
-
-    /// Adds the text with the lines put in.
-    fn put_in(&self, out: &mut String, text: &str) -> Result<(), AllocError> {
+    /// The text with the lines put in.
+    fn put_in(&self, text: &str) -> TextBuffer {
+        let mut out = self.heap.text();
         let mut number = 0u32;
         let mut index = 0usize;
         for line in text.lines() {
             number = number.saturating_add(1);
-            out.push_str(line)?;
-            out.push_str("\n")?;
-            index = self.put_behind(out, number, index)?;
+            out.push_str(line);
+            out.push_str("\n");
+            if let Some(next) = self.proposals.get(index) {
+                if next.behind == number {
+                    out.push_str(next.lines.as_str());
+                    index = index.saturating_add(1);
+                }
+            }
         }
-        Ok(())
+        out
     }
 }
 
@@ -382,18 +285,19 @@ fn with_lines(
     text: &str,
     kind: Kind,
 ) -> Result<String, AllocError> {
+    let heap = Heap::new(alloc);
     let mut draft = Draft {
-        alloc,
+        heap: &heap,
         module,
         kind,
         effort: MOST_EFFORT,
-        proposals: Vec::new(alloc),
-        costs: Vec::new(alloc),
+        proposals: heap.list(),
+        costs: heap.list(),
     };
-    draft.add_functions(module.functions.as_slice())?;
-    let mut out = String::new(alloc);
-    draft.put_in(&mut out, text)?;
-    Ok(out)
+    draft.add_functions(module.functions.as_slice());
+    let out = draft.put_in(text);
+    heap.finish()?;
+    out.finish()
 }
 
 /// A module's text with lines of a kind put in that follow from others; none is changed or taken away, and a last line without an end gets one. The

@@ -1,17 +1,16 @@
 //! What a text asks of numbers before its instructions and along its edges.
 
-use annotate_sums::{Sum, block_at, definition_of, moved};
+use annotate_facts::{Heap, Sum, block_at, definition_of};
 use lists::Name;
-use std::alloc::{AllocError, Global};
 use syntax::{
-    Address, Argument, BinaryOperator, Block, Form, Function, Inequality, Instruction, Module,
-    Operand, Parameter, Step, Width,
+    Address, Argument, BinaryOperator, Form, Function, Inequality, Instruction, Module, Operand,
+    Parameter, Step, Width,
 };
 
 /// A function of a module.
 #[derive(Clone, Copy)]
 pub struct Scope<'a> {
-    pub alloc: Global,
+    pub heap: &'a Heap,
     pub module: &'a Module,
     pub function: &'a Function,
 }
@@ -19,6 +18,7 @@ pub struct Scope<'a> {
 /// A call, as the annotations of its callee see it.
 #[derive(Clone, Copy)]
 pub struct Call<'a> {
+    heap: &'a Heap,
     pub callee: &'a Function,
     arguments: &'a [Argument],
     result: Option<&'a Name>,
@@ -43,43 +43,33 @@ impl<'a> Call<'a> {
         None
     }
 
-    fn put_term(self, placed: &mut Sum<'a>, name: &str, times: i128) -> Result<(), AllocError> {
+    fn put_term(self, placed: &mut Sum<'a>, name: &str, times: i128) {
         match (self.argument(name), self.result) {
             (Some(Argument::Number(value)), _) => placed.add_operand(value, times),
             (None, Some(result)) => placed.add_term(result.as_str(), times),
-            _ => Ok(()),
+            _ => {}
         }
     }
 
     /// A sum over the callee's parameters and result, with the call's in their place.
-    pub fn put_in(self, alloc: Global, sum: &Sum<'a>) -> Result<Sum<'a>, AllocError> {
-        let mut placed = Sum::number(alloc, sum.constant);
+    fn put_in(self, sum: &Sum<'a>) -> Sum<'a> {
+        let mut placed = Sum::number(self.heap, sum.constant);
         for (name, coefficient) in &sum.terms {
             if *coefficient != 0 {
-                self.put_term(&mut placed, name, *coefficient)?;
+                self.put_term(&mut placed, name, *coefficient);
             }
         }
-        Ok(placed)
+        placed
     }
 
     /// The same of a form.
-    pub fn put_in_form(self, alloc: Global, form: &'a Form) -> Result<Sum<'a>, AllocError> {
-        let sum = Sum::of_form(alloc, form)?;
-        self.put_in(alloc, &sum)
+    pub fn put_in_form(self, form: &'a Form) -> Sum<'a> {
+        self.put_in(&Sum::of_form(self.heap, form))
     }
 
-    /// What inequalities of the callee say of the call.
-    pub fn push_said(
-        self,
-        alloc: Global,
-        inequalities: &'a [Inequality],
-        out: &mut Vec<Sum<'a>>,
-    ) -> Result<(), AllocError> {
-        for inequality in inequalities {
-            let sum = Sum::of_inequality(alloc, inequality)?;
-            out.push(self.put_in(alloc, &sum)?)?;
-        }
-        Ok(())
+    /// What an inequality of the callee says of the call to be at least 0.
+    pub fn said(self, inequality: &'a Inequality) -> Sum<'a> {
+        self.put_in(&Sum::of_inequality(self.heap, inequality))
     }
 }
 
@@ -101,18 +91,6 @@ fn alloca_cells(steps: &[Step], name: &Name) -> Option<u64> {
         }
     }
     None
-}
-
-/// Asks that a value lies from one number to another.
-fn push_between<'a>(
-    value: &Sum<'a>,
-    low: i128,
-    high: i128,
-    out: &mut Vec<Sum<'a>>,
-) -> Result<(), AllocError> {
-    out.push(value.raised(0i128.saturating_sub(low))?)?;
-    out.push(value.below(high)?)?;
-    Ok(())
 }
 
 impl<'a> Scope<'a> {
@@ -169,6 +147,7 @@ impl<'a> Scope<'a> {
                 arguments,
             } => match self.function_of(callee) {
                 Some(callee) => Some(Call {
+                    heap: self.heap,
                     callee,
                     arguments: arguments.as_slice(),
                     result: register.as_ref(),
@@ -179,23 +158,46 @@ impl<'a> Scope<'a> {
         }
     }
 
-    fn push_operand(
-        self,
-        operand: &'a Operand,
-        low: i128,
-        high: i128,
-        out: &mut Vec<Sum<'a>>,
-    ) -> Result<(), AllocError> {
-        let value = Sum::of_operand(self.alloc, operand, 1)?;
-        push_between(&value, low, high, out)
+    /// What an instruction asks to be at least 0.
+    pub fn goals(self, instruction: &'a Instruction) -> Vec<Sum<'a>> {
+        let mut goals = Goals {
+            scope: self,
+            sums: self.heap.list(),
+        };
+        goals.push_own(instruction);
+        if let Some(call) = self.call_of(instruction) {
+            goals.push_asked(call);
+            goals.push_measure(call);
+        }
+        goals.sums
+    }
+}
+
+/// Sums that are to be at least 0, while they are gathered.
+#[derive(Drop)]
+struct Goals<'a> {
+    scope: Scope<'a>,
+    sums: Vec<Sum<'a>>,
+}
+
+impl<'a> Goals<'a> {
+    fn push(&mut self, sum: Sum<'a>) {
+        self.scope.heap.push(&mut self.sums, sum);
+    }
+
+    /// Asks that a value lies from one number to another.
+    fn push_between(&mut self, value: &Sum<'a>, low: i128, high: i128) {
+        self.push(value.raised(0i128.saturating_sub(low)));
+        self.push(value.below(high));
+    }
+
+    fn push_operand(&mut self, operand: &'a Operand, low: i128, high: i128) {
+        let value = Sum::of_operand(self.scope.heap, operand, 1);
+        self.push_between(&value, low, high);
     }
 
     /// Asks what the facts that an operation makes, or its result, ask of its operands.
-    fn push_operation(
-        self,
-        instruction: &'a Instruction,
-        out: &mut Vec<Sum<'a>>,
-    ) -> Result<(), AllocError> {
+    fn push_operation(&mut self, instruction: &'a Instruction) {
         let Instruction::Binary {
             operator,
             width,
@@ -204,100 +206,68 @@ impl<'a> Scope<'a> {
             ..
         } = instruction
         else {
-            return Ok(());
+            return;
         };
         let (low, high) = ends_of(*width);
         match operator {
             BinaryOperator::AddNoWrap
             | BinaryOperator::SubtractNoWrap
-            | BinaryOperator::MultiplyNoWrap => match definition_of(self.alloc, instruction)? {
-                Some(sum) => push_between(&sum, low, high, out),
-                None => Ok(()),
-            },
+            | BinaryOperator::MultiplyNoWrap => {
+                if let Some(sum) = definition_of(self.scope.heap, instruction) {
+                    self.push_between(&sum, low, high);
+                }
+            }
             BinaryOperator::SignedDivide | BinaryOperator::SignedRemainder => {
-                self.push_operand(left, 0, high, out)?;
-                self.push_operand(right, 1, high, out)
+                self.push_operand(left, 0, high);
+                self.push_operand(right, 1, high);
             }
             BinaryOperator::UnsignedDivide | BinaryOperator::UnsignedRemainder => {
-                self.push_operand(right, 1, high, out)
+                self.push_operand(right, 1, high);
             }
             BinaryOperator::ShiftLeft
             | BinaryOperator::LogicalShiftRight
             | BinaryOperator::ArithmeticShiftRight => {
                 let most = if *width == Width::Bits64 { 63 } else { 31 };
-                self.push_operand(right, 0, most, out)
+                self.push_operand(right, 0, most);
             }
-            _ => Ok(()),
+            _ => {}
+        }
+    }
+
+    /// Asks what an instruction asks of its operands.
+    fn push_own(&mut self, instruction: &'a Instruction) {
+        match instruction {
+            Instruction::ElementPointer { base, index, .. } => {
+                if let Some(cells) = self.scope.cells_of(base) {
+                    self.push_operand(index, 0, i128::from(cells).saturating_sub(1));
+                }
+            }
+            Instruction::Convert { value, .. } => {
+                let (low, high) = ends_of(Width::Bits32);
+                self.push_operand(value, low, high);
+            }
+            _ => self.push_operation(instruction),
+        }
+    }
+
+    /// Asks what a callee asks of its parameters.
+    fn push_asked(&mut self, call: Call<'a>) {
+        for inequality in call.callee.notes.requirements.as_slice() {
+            self.push(call.said(inequality));
         }
     }
 
     /// Asks that the measure falls at a self call, and is not below 0.
-    fn push_measure(self, call: Call<'a>, out: &mut Vec<Sum<'a>>) -> Result<(), AllocError> {
-        if !call.callee.name.is_same(&self.function.name) {
-            return Ok(());
+    fn push_measure(&mut self, call: Call<'a>) {
+        let function = self.scope.function;
+        if call.callee.name.is_same(&function.name) {
+            let measure = &function.notes.measure.form;
+            let next = call.put_in_form(measure);
+            let mut fallen = Sum::of_form(self.scope.heap, measure);
+            fallen.add(&next, -1);
+            fallen.add_number(-1);
+            self.push(fallen);
+            self.push(next);
         }
-        let measure = &self.function.notes.measure.form;
-        let next = call.put_in_form(self.alloc, measure)?;
-        let mut fallen = Sum::of_form(self.alloc, measure)?;
-        fallen.add(&next, -1)?;
-        fallen.add_number(-1);
-        out.push(fallen)?;
-        out.push(next)?;
-        Ok(())
-    }
-
-    /// Asks what an instruction asks of its operands.
-    fn push_own(
-        self,
-        instruction: &'a Instruction,
-        out: &mut Vec<Sum<'a>>,
-    ) -> Result<(), AllocError> {
-        match instruction {
-            Instruction::ElementPointer { base, index, .. } => match self.cells_of(base) {
-                Some(cells) => {
-                    self.push_operand(index, 0, i128::from(cells).saturating_sub(1), out)
-                }
-                None => Ok(()),
-            },
-            Instruction::Convert { value, .. } => {
-                let (low, high) = ends_of(Width::Bits32);
-                self.push_operand(value, low, high, out)
-            }
-            _ => self.push_operation(instruction, out),
-        }
-    }
-
-    /// What an instruction asks to be at least 0.
-    pub fn goals(self, instruction: &'a Instruction) -> Result<Vec<Sum<'a>>, AllocError> {
-        let mut out = Vec::new(self.alloc);
-        self.push_own(instruction, &mut out)?;
-        if let Some(call) = self.call_of(instruction) {
-            let asked = call.callee.notes.requirements.as_slice();
-            call.push_said(self.alloc, asked, &mut out)?;
-            self.push_measure(call, &mut out)?;
-        }
-        Ok(out)
-    }
-
-    /// What a block's head asks along an edge from another block.
-    pub fn goals_along(self, from: &Block, to: &'a Block) -> Result<Vec<Sum<'a>>, AllocError> {
-        let mut out = Vec::new(self.alloc);
-        for inequality in to.notes.keeps.as_slice() {
-            let sum = Sum::of_inequality(self.alloc, inequality)?;
-            out.push(moved(self.alloc, &sum, &from.label, to.phis.as_slice())?)?;
-        }
-        Ok(out)
-    }
-
-    /// What a return of this value asks.
-    pub fn goals_at_return(self, value: &'a Operand) -> Result<Vec<Sum<'a>>, AllocError> {
-        let result = Sum::of_operand(self.alloc, value, 1)?;
-        let mut out = Vec::new(self.alloc);
-        for inequality in self.function.notes.guarantees.as_slice() {
-            let mut sum = Sum::of_inequality(self.alloc, inequality)?;
-            sum.put(".ret", &result)?;
-            out.push(sum)?;
-        }
-        Ok(out)
     }
 }

@@ -1,7 +1,7 @@
 //! The search for facts that add up to a sum.
 
+use crate::heap::Heap;
 use crate::sum::Sum;
-use std::alloc::{AllocError, Global};
 
 /// The most sums that a search looks at.
 const MOST_RESTS: usize = 128;
@@ -19,7 +19,7 @@ struct Rest<'a> {
 /// The rests in the order in which they were found; the first one is what is to be shown.
 #[derive(Drop)]
 struct Search<'w, 'a> {
-    alloc: Global,
+    heap: &'a Heap,
     facts: &'w [Sum<'a>],
     rests: Vec<Rest<'a>>,
     /// How many rests were compared with others since that was last counted.
@@ -82,64 +82,50 @@ impl<'a> Search<'_, 'a> {
         false
     }
 
-    /// What is left of a rest without so many times a fact.
-    fn left_of(&self, of: usize, fact: usize, times: i128) -> Result<Option<Sum<'a>>, AllocError> {
-        match (self.rests.get(of), self.facts.get(fact)) {
-            (Some(rest), Some(fact)) => {
-                let left = rest.sum.with(fact, 0i128.saturating_sub(times))?;
-                Ok(Some(left))
-            }
-            _ => Ok(None),
-        }
-    }
-
     /// Adds what is left of a rest without so many times a fact. Its number, where that shows the rest: it is a number, and not below 0.
-    fn push(&mut self, of: usize, fact: usize, times: i128) -> Result<Option<usize>, AllocError> {
-        let Some(sum) = self.left_of(of, fact, times)? else {
-            return Ok(None);
+    fn push(&mut self, of: usize, fact: usize, times: i128) -> Option<usize> {
+        let (Some(rest), Some(taken)) = (self.rests.get(of), self.facts.get(fact)) else {
+            return None;
         };
+        let sum = rest.sum.with(taken, 0i128.saturating_sub(times));
         let number = self.rests.len();
         let is_shown = matches!(sum.as_number(), Some(left) if left >= 0);
         self.compared = self.compared.saturating_add(number);
         if is_shown || number < MOST_RESTS && sum.has_form_terms() && !self.is_found(&sum) {
-            self.rests.push(Rest {
+            let rest = Rest {
                 sum,
                 of,
                 fact,
                 times,
-            })?;
+            };
+            self.heap.push(&mut self.rests, rest);
         }
-        Ok(if is_shown { Some(number) } else { None })
+        if is_shown { Some(number) } else { None }
     }
 
     /// Takes each fact out of a rest that has a register as the rest has it. The number of a rest that is shown, as soon as there is one.
-    fn take_out(
-        &mut self,
-        of: usize,
-        name: &'a str,
-        coefficient: i128,
-    ) -> Result<Option<usize>, AllocError> {
+    fn take_out(&mut self, of: usize, name: &'a str, coefficient: i128) -> Option<usize> {
         let facts = self.facts;
         for (number, fact) in facts.iter().enumerate() {
             if let Some(times) = times_for(coefficient, fact.coefficient(name)) {
-                let shown = self.push(of, number, times)?;
+                let shown = self.push(of, number, times);
                 if shown.is_some() {
-                    return Ok(shown);
+                    return shown;
                 }
             }
         }
-        Ok(None)
+        None
     }
 
     /// Takes facts out of the rest of this number.
-    fn follow(&mut self, of: usize) -> Result<Option<usize>, AllocError> {
+    fn follow(&mut self, of: usize) -> Option<usize> {
         let found = match self.rests.get(of) {
             Some(rest) => self.register_of(&rest.sum),
             None => None,
         };
         match found {
             Some((name, coefficient)) => self.take_out(of, name, coefficient),
-            None => Ok(None),
+            None => None,
         }
     }
 
@@ -153,81 +139,66 @@ impl<'a> Search<'_, 'a> {
     }
 
     /// Looks at the rests in their order; the number of one that is shown. What is looked at is taken off the effort.
-    fn run(&mut self, effort: &mut usize) -> Result<Option<usize>, AllocError> {
+    fn run(&mut self, effort: &mut usize) -> Option<usize> {
         for of in 0..MOST_RESTS {
             if of >= self.rests.len() || *effort == 0 {
-                return Ok(None);
+                return None;
             }
-            let shown = self.follow(of)?;
+            let shown = self.follow(of);
             let cost = self.cost_of(of).saturating_add(self.compared);
             self.compared = 0;
             *effort = effort.saturating_sub(cost);
             if shown.is_some() {
-                return Ok(shown);
+                return shown;
             }
         }
-        Ok(None)
+        None
     }
 
     /// Adds so many times the fact of a rest, where the one that two facts are to show has no such factor. Whether it may stand in a line.
-    fn push_multiple(
-        &self,
-        rest: &Rest<'a>,
-        shown: usize,
-        lines: &mut Vec<Sum<'a>>,
-    ) -> Result<bool, AllocError> {
+    fn push_multiple(&self, rest: &Rest<'a>, shown: usize, lines: &mut Vec<Sum<'a>>) -> bool {
         let facts = self.facts;
         let (Some(whole), Some(fact)) = (self.rests.get(shown), facts.get(rest.fact)) else {
-            return Ok(false);
+            return false;
         };
         if is_factor(&whole.sum, rest.times) {
-            return Ok(true);
+            return true;
         }
-        let multiple = fact.times(rest.times)?;
+        let multiple = fact.times(rest.times);
         let is_line = multiple.is_form() && is_factor(&multiple, rest.times);
-        lines.push(multiple)?;
-        Ok(is_line)
+        self.heap.push(lines, multiple);
+        is_line
     }
 
     /// Adds a rest less what is over in the end. Whether it may stand in a line.
-    fn push_rest(
-        &self,
-        rest: &Rest<'a>,
-        over: i128,
-        lines: &mut Vec<Sum<'a>>,
-    ) -> Result<bool, AllocError> {
-        let line = rest.sum.raised(0i128.saturating_sub(over))?;
+    fn push_rest(&self, rest: &Rest<'a>, over: i128, lines: &mut Vec<Sum<'a>>) -> bool {
+        let line = rest.sum.raised(0i128.saturating_sub(over));
         let is_line = line.is_form();
-        lines.push(line)?;
-        Ok(is_line)
+        self.heap.push(lines, line);
+        is_line
     }
 
     /// Adds the lines with which the facts show what the rest of this number was made of. Whether all of them may stand in lines.
-    fn push_between(
-        &self,
-        number: usize,
-        end: End,
-        lines: &mut Vec<Sum<'a>>,
-    ) -> Result<bool, AllocError> {
+    fn push_between(&self, number: usize, end: End, lines: &mut Vec<Sum<'a>>) -> bool {
         let Some(rest) = self.rests.get(number) else {
-            return Ok(false);
+            return false;
         };
         let Some(whole) = self.rests.get(rest.of) else {
-            return Ok(false);
+            return false;
         };
         let is_last = number == end.last;
         let shown = if is_last { whole.of } else { rest.of };
-        if !self.push_multiple(rest, shown, lines)? {
-            return Ok(false);
+        if !self.push_multiple(rest, shown, lines) {
+            return false;
         }
         if is_last || rest.of == 0 && !end.is_stated {
-            return Ok(true);
+            return true;
         }
         self.push_rest(whole, end.over, lines)
     }
 
     /// The lines with which the facts show the first rest, by the one that is shown.
-    fn lines_to(&self, last: usize, is_stated: bool) -> Result<Option<Vec<Sum<'a>>>, AllocError> {
+    fn lines_to(&self, last: usize, is_stated: bool) -> Option<Vec<Sum<'a>>> {
         let over = match self.rests.get(last) {
             Some(rest) => rest.sum.constant,
             None => 0,
@@ -237,21 +208,21 @@ impl<'a> Search<'_, 'a> {
             over,
             is_stated,
         };
-        let mut lines = Vec::new(self.alloc);
+        let mut lines = self.heap.list();
         let mut number = last;
         for _step in 0..self.rests.len() {
             if number == 0 {
-                return Ok(Some(lines));
+                return Some(lines);
             }
-            if !self.push_between(number, end, &mut lines)? {
-                return Ok(None);
+            if !self.push_between(number, end, &mut lines) {
+                return None;
             }
             number = match self.rests.get(number) {
                 Some(rest) => rest.of,
                 None => 0,
             };
         }
-        Ok(None)
+        None
     }
 }
 
@@ -267,26 +238,27 @@ struct End {
 /// itself where `is_stated` asks for that and one fact alone does not show it. None where none are found within the effort, of which what was looked at is
 /// taken off.
 pub fn lines_between<'a>(
-    alloc: Global,
+    heap: &'a Heap,
     facts: &[Sum<'a>],
     sum: &Sum<'a>,
     is_stated: bool,
     effort: &mut usize,
-) -> Result<Option<Vec<Sum<'a>>>, AllocError> {
+) -> Option<Vec<Sum<'a>>> {
     let mut search = Search {
-        alloc,
+        heap,
         facts,
-        rests: Vec::new(alloc),
+        rests: heap.list(),
         compared: 0,
     };
-    search.rests.push(Rest {
-        sum: sum.copy()?,
+    let whole = Rest {
+        sum: sum.copy(),
         of: 0,
         fact: 0,
         times: 0,
-    })?;
-    match search.run(effort)? {
+    };
+    heap.push(&mut search.rests, whole);
+    match search.run(effort) {
         Some(last) => search.lines_to(last, is_stated),
-        None => Ok(None),
+        None => None,
     }
 }

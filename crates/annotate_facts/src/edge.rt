@@ -1,7 +1,7 @@
 //! The ways from block to block, by the labels of the text.
 
+use crate::heap::Heap;
 use lists::Name;
-use std::alloc::{AllocError, Global};
 use syntax::{Argument, Block, Function, Instruction, Operand, Phi, Step, Terminator};
 
 /// How a path goes along an edge. None goes along a reattach.
@@ -37,100 +37,70 @@ fn block_of(blocks: &[Block], label: &Name) -> Option<usize> {
     None
 }
 
-/// A label that a terminator names, and how a path goes there.
-#[derive(Clone, Copy)]
-struct Exit<'a> {
-    label: &'a Name,
-    way: Way<'a>,
+/// The edges of a function, while they are gathered.
+#[derive(Drop)]
+struct Finder<'a> {
+    heap: &'a Heap,
+    blocks: &'a [Block],
+    edges: Vec<Edge<'a>>,
 }
 
-/// The exit that a terminator names first.
-fn first_of(terminator: &Terminator) -> Option<Exit<'_>> {
-    let (label, way) = match terminator {
-        Terminator::Jump { target } => (target, Way::Branch),
-        Terminator::Branch {
-            condition,
-            when_true,
-            ..
-        } => (when_true, Way::WhenTrue(condition.as_str())),
-        Terminator::Switch { default, .. } => (default, Way::Branch),
-        Terminator::Detach { body, .. } => (body, Way::Detached),
-        Terminator::Sync { region, target } => (target, Way::Synced(region.as_str())),
-        Terminator::Return { .. } | Terminator::Reattach { .. } => return None,
-    };
-    Some(Exit { label, way })
-}
-
-/// The exit that it names next, beside the cases of a switch.
-fn second_of(terminator: &Terminator) -> Option<Exit<'_>> {
-    match terminator {
-        Terminator::Branch {
-            condition,
-            when_false,
-            ..
-        } => Some(Exit {
-            label: when_false,
-            way: Way::WhenFalse(condition.as_str()),
-        }),
-        Terminator::Detach {
-            region,
-            continuation,
-            ..
-        } => Some(Exit {
-            label: continuation,
-            way: Way::Continued(region.as_str()),
-        }),
-        _ => None,
-    }
-}
-
-/// Adds the edge of an exit; where no block has its label there is none.
-fn push_edge<'a>(
-    edges: &mut Vec<Edge<'a>>,
-    blocks: &[Block],
-    from: usize,
-    exit: Exit<'a>,
-) -> Result<(), AllocError> {
-    if let Some(to) = block_of(blocks, exit.label) {
-        let way = exit.way;
-        edges.push(Edge { from, to, way })?;
-    }
-    Ok(())
-}
-
-/// Adds the edges of a block, in the order of its terminator.
-fn push_edges<'a>(
-    edges: &mut Vec<Edge<'a>>,
-    blocks: &[Block],
-    from: usize,
-    terminator: &'a Terminator,
-) -> Result<(), AllocError> {
-    if let Some(exit) = first_of(terminator) {
-        push_edge(edges, blocks, from, exit)?;
-    }
-    if let Some(exit) = second_of(terminator) {
-        push_edge(edges, blocks, from, exit)?;
-    }
-    if let Terminator::Switch { cases, .. } = terminator {
-        for case in cases.as_slice() {
-            let label = &case.target;
-            let way = Way::Branch;
-            push_edge(edges, blocks, from, Exit { label, way })?;
+impl<'a> Finder<'a> {
+    /// Adds an edge to the block of a label; where no block has it there is none.
+    fn push(&mut self, from: usize, label: &Name, way: Way<'a>) {
+        if let Some(to) = block_of(self.blocks, label) {
+            self.heap.push(&mut self.edges, Edge { from, to, way });
         }
     }
-    Ok(())
+
+    /// Adds the edges of a block, in the order of its terminator.
+    fn push_all(&mut self, from: usize, terminator: &'a Terminator) {
+        match terminator {
+            Terminator::Jump { target } => self.push(from, target, Way::Branch),
+            Terminator::Branch {
+                condition,
+                when_true,
+                when_false,
+            } => {
+                self.push(from, when_true, Way::WhenTrue(condition.as_str()));
+                self.push(from, when_false, Way::WhenFalse(condition.as_str()));
+            }
+            Terminator::Switch { default, cases, .. } => {
+                self.push(from, default, Way::Branch);
+                for case in cases.as_slice() {
+                    self.push(from, &case.target, Way::Branch);
+                }
+            }
+            Terminator::Detach {
+                region,
+                body,
+                continuation,
+            } => {
+                self.push(from, body, Way::Detached);
+                self.push(from, continuation, Way::Continued(region.as_str()));
+            }
+            Terminator::Sync { region, target } => {
+                self.push(from, target, Way::Synced(region.as_str()));
+            }
+            Terminator::Return { .. } | Terminator::Reattach { .. } => {}
+        }
+    }
 }
 
 /// The edges of a function, in the order of its blocks and terminators.
-pub fn edges_of<'a>(alloc: Global, function: &'a Function) -> Result<Vec<Edge<'a>>, AllocError> {
+pub fn edges_of<'a>(heap: &'a Heap, function: &'a Function) -> Vec<Edge<'a>> {
     let blocks = function.blocks.as_slice();
-    let mut edges = Vec::new(alloc);
+    let mut finder = Finder {
+        heap,
+        blocks,
+        edges: heap.list(),
+    };
     for from in 0..blocks.len() {
         if let Some(ending) = &blocks[from].ending {
-            push_edges(&mut edges, blocks, from, &ending.terminator)?;
+            finder.push_all(from, &ending.terminator);
         }
     }
-    Ok(edges)
+    finder.edges
 }
 
 /// The last block from which an edge leads back to this one.
@@ -249,16 +219,14 @@ fn phi_of<'a>(phis: &'a [Phi], name: &str) -> Option<&'a Phi> {
     None
 }
 
+/// Whether one of these phis defines the register.
+pub fn is_phi(phis: &[Phi], name: &str) -> bool {
+    phi_of(phis, name).is_some()
+}
+
 /// Whether the block defines the register.
 pub fn defines(block: &Block, name: &str) -> bool {
-    for step in block.steps.as_slice() {
-        if let Some(register) = register_of(&step.instruction) {
-            if register == name {
-                return true;
-            }
-        }
-    }
-    phi_of(block.phis.as_slice(), name).is_some()
+    definition_among(block.steps.as_slice(), name).is_some() || is_phi(block.phis.as_slice(), name)
 }
 
 /// What a phi takes where the run comes from a block of this label.

@@ -1,10 +1,10 @@
 //! What instructions and phis make of registers.
 
-use crate::edge::phi_value;
+use crate::edge::{definition_in, phi_value};
+use crate::heap::Heap;
 use crate::sum::Sum;
 use lists::Name;
-use std::alloc::{AllocError, Global};
-use syntax::{BinaryOperator, Instruction, Operand, Phi};
+use syntax::{BinaryOperator, Function, Instruction, Operand, Phi};
 
 /// How often an operator's left and right operand stand in the sum that it makes, but for what its width cannot hold; none where it makes
 /// no sum.
@@ -21,10 +21,7 @@ fn times_of(operator: BinaryOperator, right: &Operand) -> Option<(i128, i128)> {
 }
 
 /// The sum that an instruction makes; none where it makes no sum.
-pub fn definition_of<'a>(
-    alloc: Global,
-    instruction: &'a Instruction,
-) -> Result<Option<Sum<'a>>, AllocError> {
+pub fn definition_of<'a>(heap: &'a Heap, instruction: &'a Instruction) -> Option<Sum<'a>> {
     let Instruction::Binary {
         operator,
         left,
@@ -32,14 +29,22 @@ pub fn definition_of<'a>(
         ..
     } = instruction
     else {
-        return Ok(None);
+        return None;
     };
     let Some((of_left, of_right)) = times_of(*operator, right) else {
-        return Ok(None);
+        return None;
     };
-    let mut sum = Sum::of_operand(alloc, left, of_left)?;
-    sum.add_operand(right, of_right)?;
-    Ok(Some(sum))
+    let mut sum = Sum::of_operand(heap, left, of_left);
+    sum.add_operand(right, of_right);
+    Some(sum)
+}
+
+/// The sum that a function's instruction makes of a register; none where that makes no sum, or none defines the register.
+pub fn value_of<'a>(heap: &'a Heap, function: &'a Function, name: &str) -> Option<Sum<'a>> {
+    match definition_in(function, name) {
+        Some(instruction) => definition_of(heap, instruction),
+        None => None,
+    }
 }
 
 /// Whether an instruction makes its sum or product as it is, without a remainder by the width.
@@ -64,30 +69,25 @@ pub struct Equation<'a> {
 
 impl<'a> Equation<'a> {
     /// That a register is this sum.
-    pub fn of(alloc: Global, name: &'a str, value: &Sum<'a>) -> Result<Equation<'a>, AllocError> {
-        let own = Sum::of_register(alloc, name, 1)?;
-        Ok(Equation {
-            most: value.with(&own, -1)?,
-            least: own.with(value, -1)?,
-        })
+    pub fn of(heap: &'a Heap, name: &'a str, value: &Sum<'a>) -> Equation<'a> {
+        let own = Sum::of_register(heap, name, 1);
+        Equation {
+            most: value.with(&own, -1),
+            least: own.with(value, -1),
+        }
     }
 }
 
 /// A sum at a block's start, with what its phis take on an edge from a block of this label put in.
-pub fn moved<'a>(
-    alloc: Global,
-    sum: &Sum<'a>,
-    label: &Name,
-    phis: &'a [Phi],
-) -> Result<Sum<'a>, AllocError> {
-    let mut moved = Sum::number(alloc, sum.constant);
+pub fn moved<'a>(heap: &'a Heap, sum: &Sum<'a>, label: &Name, phis: &'a [Phi]) -> Sum<'a> {
+    let mut moved = Sum::number(heap, sum.constant);
     for (name, coefficient) in &sum.terms {
         if *coefficient != 0 {
             match phi_value(phis, name, label) {
-                Some(value) => moved.add_operand(value, *coefficient)?,
-                None => moved.add_term(name, *coefficient)?,
+                Some(value) => moved.add_operand(value, *coefficient),
+                None => moved.add_term(name, *coefficient),
             }
         }
     }
-    Ok(moved)
+    moved
 }

@@ -1,8 +1,7 @@
 //! What a function may use in all, by what is left at its entry.
 
 use crate::left::Need;
-use annotate_sums::{Sum, greatest};
-use std::alloc::AllocError;
+use annotate_facts::{Heap, Sum, greatest};
 use syntax::Function;
 
 /// Self calls and instructions, as numbers.
@@ -14,15 +13,23 @@ pub struct Total {
 
 impl Total {
     /// The budget that covers what is left at the entry, whatever the arguments are by these facts; none where there is none.
-    pub fn of_need<'a>(facts: &[Sum<'a>], need: &Need<'a>) -> Result<Option<Total>, AllocError> {
-        let self_calls = greatest(facts, &need.calls)?;
-        let instructions = greatest(facts, &need.instructions)?;
+    pub fn of_need<'a>(facts: &[Sum<'a>], need: &Need<'a>) -> Option<Total> {
+        let self_calls = greatest(facts, &need.calls);
+        let instructions = greatest(facts, &need.instructions);
         match (self_calls, instructions) {
-            (Some(self_calls), Some(instructions)) => Ok(Some(Total {
+            (Some(self_calls), Some(instructions)) => Some(Total {
                 self_calls,
                 instructions,
-            })),
-            _ => Ok(None),
+            }),
+            _ => None,
+        }
+    }
+
+    /// What is left at the entry, where that is the whole budget.
+    pub fn as_need(self, heap: &Heap) -> Need<'_> {
+        Need {
+            calls: Sum::number(heap, i128::from(self.self_calls)),
+            instructions: Sum::number(heap, i128::from(self.instructions)),
         }
     }
 

@@ -1,11 +1,12 @@
 //! Sums of registers, for reckoning.
 
-use std::alloc::{AllocError, Global};
+use crate::heap::Heap;
+use buffers::TextBuffer;
 use syntax::{Form, Inequality, Operand, Relation};
 
 /// Registers times numbers, and a number. A register stands in it once at most; numbers past 128 bits stay at the last one.
 pub struct Sum<'a> {
-    alloc: Global,
+    heap: &'a Heap,
     /// Some coefficients may be 0.
     pub terms: Vec<(&'a str, i128)>,
     pub constant: i128,
@@ -15,7 +16,7 @@ pub struct Sum<'a> {
 impl Drop for Sum<'_> {
     fn drop(self) {
         let Sum {
-            alloc: _,
+            heap: _,
             terms: _,
             constant: _,
         } = self;
@@ -30,125 +31,117 @@ const MOST_COEFFICIENT: i128 = 1_000_000;
 const MOST_CONSTANT: i128 = 9_223_372_036_854_775_807;
 
 impl<'a> Sum<'a> {
-    pub fn number(alloc: Global, constant: i128) -> Sum<'a> {
+    pub fn number(heap: &'a Heap, constant: i128) -> Sum<'a> {
         Sum {
-            alloc,
-            terms: Vec::new(alloc),
+            heap,
+            terms: heap.list(),
             constant,
         }
     }
 
     /// So many times a register.
-    pub fn of_register(alloc: Global, name: &'a str, times: i128) -> Result<Sum<'a>, AllocError> {
-        let mut sum = Sum::number(alloc, 0);
-        sum.add_term(name, times)?;
-        Ok(sum)
+    pub fn of_register(heap: &'a Heap, name: &'a str, times: i128) -> Sum<'a> {
+        let mut sum = Sum::number(heap, 0);
+        sum.add_term(name, times);
+        sum
     }
 
     /// So many times an operand.
-    pub fn of_operand(
-        alloc: Global,
-        operand: &'a Operand,
-        times: i128,
-    ) -> Result<Sum<'a>, AllocError> {
-        let mut sum = Sum::number(alloc, 0);
-        sum.add_operand(operand, times)?;
-        Ok(sum)
+    pub fn of_operand(heap: &'a Heap, operand: &'a Operand, times: i128) -> Sum<'a> {
+        let mut sum = Sum::number(heap, 0);
+        sum.add_operand(operand, times);
+        sum
     }
 
-    pub fn of_form(alloc: Global, form: &'a Form) -> Result<Sum<'a>, AllocError> {
-        let mut sum = Sum::number(alloc, 0);
-        sum.add_form(form, 1)?;
-        Ok(sum)
+    pub fn of_form(heap: &'a Heap, form: &'a Form) -> Sum<'a> {
+        let mut sum = Sum::number(heap, 0);
+        sum.add_form(form, 1);
+        sum
     }
 
     /// What an inequality says is at least 0.
-    pub fn of_inequality(alloc: Global, inequality: &'a Inequality) -> Result<Sum<'a>, AllocError> {
+    pub fn of_inequality(heap: &'a Heap, inequality: &'a Inequality) -> Sum<'a> {
         let (greater, lesser) = match inequality.relation {
             Relation::AtMost => (&inequality.right, &inequality.left),
             Relation::AtLeast => (&inequality.left, &inequality.right),
         };
-        let mut sum = Sum::number(alloc, 0);
-        sum.add_form(greater, 1)?;
-        sum.add_form(lesser, -1)?;
-        Ok(sum)
+        let mut sum = Sum::number(heap, 0);
+        sum.add_form(greater, 1);
+        sum.add_form(lesser, -1);
+        sum
     }
 
     pub fn add_number(&mut self, number: i128) {
         self.constant = self.constant.saturating_add(number);
     }
 
-    pub fn add_term(&mut self, name: &'a str, coefficient: i128) -> Result<(), AllocError> {
+    pub fn add_term(&mut self, name: &'a str, coefficient: i128) {
         for term in &mut self.terms {
             if term.0 == name {
                 term.1 = term.1.saturating_add(coefficient);
-                return Ok(());
+                return;
             }
         }
-        self.terms.push((name, coefficient))?;
-        Ok(())
+        self.heap.push(&mut self.terms, (name, coefficient));
     }
 
     /// Adds another sum so many times.
-    pub fn add(&mut self, other: &Sum<'a>, times: i128) -> Result<(), AllocError> {
+    pub fn add(&mut self, other: &Sum<'a>, times: i128) {
         self.add_number(other.constant.saturating_mul(times));
         for (name, coefficient) in &other.terms {
-            self.add_term(name, coefficient.saturating_mul(times))?;
+            self.add_term(name, coefficient.saturating_mul(times));
         }
-        Ok(())
     }
 
     /// Adds a form so many times.
-    pub fn add_form(&mut self, form: &'a Form, times: i128) -> Result<(), AllocError> {
+    pub fn add_form(&mut self, form: &'a Form, times: i128) {
         self.add_number(i128::from(form.constant).saturating_mul(times));
         for term in form.terms.as_slice() {
             let coefficient = i128::from(term.coefficient).saturating_mul(times);
-            self.add_term(term.register.as_str(), coefficient)?;
+            self.add_term(term.register.as_str(), coefficient);
         }
-        Ok(())
     }
 
     /// Adds an operand so many times.
-    pub fn add_operand(&mut self, operand: &'a Operand, times: i128) -> Result<(), AllocError> {
+    pub fn add_operand(&mut self, operand: &'a Operand, times: i128) {
         match operand {
             Operand::Number(number) => {
                 self.add_number(i128::from(*number).saturating_mul(times));
-                Ok(())
             }
             Operand::Register(name) => self.add_term(name.as_str(), times),
         }
     }
 
     /// So many times the sum.
-    pub fn times(&self, times: i128) -> Result<Sum<'a>, AllocError> {
-        let mut sum = Sum::number(self.alloc, 0);
-        sum.add(self, times)?;
-        Ok(sum)
+    pub fn times(&self, times: i128) -> Sum<'a> {
+        let mut sum = Sum::number(self.heap, 0);
+        sum.add(self, times);
+        sum
     }
 
-    pub fn copy(&self) -> Result<Sum<'a>, AllocError> {
+    pub fn copy(&self) -> Sum<'a> {
         self.times(1)
     }
 
     /// The sum and a number.
-    pub fn raised(&self, number: i128) -> Result<Sum<'a>, AllocError> {
-        let mut sum = self.times(1)?;
+    pub fn raised(&self, number: i128) -> Sum<'a> {
+        let mut sum = self.times(1);
         sum.add_number(number);
-        Ok(sum)
+        sum
     }
 
     /// The number less the sum.
-    pub fn below(&self, number: i128) -> Result<Sum<'a>, AllocError> {
-        let mut sum = self.times(-1)?;
+    pub fn below(&self, number: i128) -> Sum<'a> {
+        let mut sum = self.times(-1);
         sum.add_number(number);
-        Ok(sum)
+        sum
     }
 
     /// The sum and so many times another one.
-    pub fn with(&self, other: &Sum<'a>, times: i128) -> Result<Sum<'a>, AllocError> {
-        let mut sum = self.times(1)?;
-        sum.add(other, times)?;
-        Ok(sum)
+    pub fn with(&self, other: &Sum<'a>, times: i128) -> Sum<'a> {
+        let mut sum = self.times(1);
+        sum.add(other, times);
+        sum
     }
 
     pub fn coefficient(&self, name: &str) -> i128 {
@@ -226,23 +219,30 @@ impl<'a> Sum<'a> {
         true
     }
 
-    /// Takes the register out, and another sum in its place.
-    pub fn put(&mut self, name: &str, value: &Sum<'a>) -> Result<(), AllocError> {
-        let times = self.coefficient(name);
+    /// Takes the register out; how often it stood in the sum.
+    fn take_out(&mut self, name: &str) -> i128 {
         for term in &mut self.terms {
             if term.0 == name {
+                let times = term.1;
                 term.1 = 0;
+                return times;
             }
         }
-        self.add(value, times)
+        0
+    }
+
+    /// Takes the register out, and another sum in its place.
+    pub fn put(&mut self, name: &str, value: &Sum<'a>) {
+        let times = self.take_out(name);
+        self.add(value, times);
     }
 
     /// The sum with another register in the place of this one.
-    pub fn renamed(&self, name: &str, other: &'a str) -> Result<Sum<'a>, AllocError> {
-        let own = Sum::of_register(self.alloc, other, 1)?;
-        let mut sum = self.times(1)?;
-        sum.put(name, &own)?;
-        Ok(sum)
+    pub fn renamed(&self, name: &str, other: &'a str) -> Sum<'a> {
+        let mut sum = self.copy();
+        let times = sum.take_out(name);
+        sum.add_term(other, times);
+        sum
     }
 
     /// Whether a form may name as many registers, with coefficients as great.
@@ -265,25 +265,33 @@ impl<'a> Sum<'a> {
     }
 
     /// The terms in the order of their names.
-    pub fn sorted(&self) -> Result<Vec<(&'a str, i128)>, AllocError> {
-        let mut terms = Vec::new(self.alloc);
+    pub fn sorted(&self) -> Vec<(&'a str, i128)> {
+        let mut terms = self.heap.list();
         for term in &self.terms {
-            terms.push(*term)?;
+            self.heap.push(&mut terms, *term);
         }
-        terms.sort()?;
-        Ok(terms)
+        self.heap.kept(terms.sort());
+        terms
     }
 
     /// Adds the form's canonical spelling.
-    pub fn spell(&self, out: &mut String) -> Result<(), AllocError> {
-        let terms = self.sorted()?;
-        spell_side(out, terms.as_slice(), Side::Whole, self.constant)
+    pub fn spell(&self, out: &mut TextBuffer) {
+        let terms = self.sorted();
+        spell_side(out, terms.as_slice(), Side::Whole, self.constant);
     }
 
-    /// Adds that the sum is at least 0: what has a minus on the lesser side, the rest on the other.
-    pub fn spell_inequality(&self, out: &mut String) -> Result<(), AllocError> {
-        let terms = self.sorted()?;
-        spell_sides(out, terms.as_slice(), self.constant)
+    /// Adds that the sum is at least 0: what has a minus on the lesser side, the rest on the other; what has registers stands first.
+    pub fn spell_inequality(&self, out: &mut TextBuffer) {
+        let sorted = self.sorted();
+        let terms = sorted.as_slice();
+        let (first, relation, second) = if has_minus(terms) {
+            (Side::Lesser, " <= ", Side::Greater)
+        } else {
+            (Side::Greater, " >= ", Side::Lesser)
+        };
+        spell_side(out, terms, first, self.constant);
+        out.push_str(relation);
+        spell_side(out, terms, second, self.constant);
     }
 }
 
@@ -314,34 +322,17 @@ fn has_minus(terms: &[(&str, i128)]) -> bool {
     false
 }
 
-/// Both sides with the relation between them; what has registers stands first.
-fn spell_sides(out: &mut String, terms: &[(&str, i128)], constant: i128) -> Result<(), AllocError> {
-    let (first, relation, second) = if has_minus(terms) {
-        (Side::Lesser, " <= ", Side::Greater)
-    } else {
-        (Side::Greater, " >= ", Side::Lesser)
-    };
-    spell_side(out, terms, first, constant)?;
-    out.push_str(relation)?;
-    spell_side(out, terms, second, constant)
-}
-
 /// The part of terms, which are in the order of their names, and of a number.
-fn spell_side(
-    out: &mut String,
-    terms: &[(&str, i128)],
-    side: Side,
-    constant: i128,
-) -> Result<(), AllocError> {
+fn spell_side(out: &mut TextBuffer, terms: &[(&str, i128)], side: Side, constant: i128) {
     let mut is_first = true;
     for (name, coefficient) in terms {
         let coefficient = side.part_of(*coefficient);
         if coefficient != 0 {
-            spell_term(out, is_first, name, coefficient)?;
+            spell_term(out, is_first, name, coefficient);
             is_first = false;
         }
     }
-    spell_constant(out, is_first, side.part_of(constant))
+    spell_constant(out, is_first, side.part_of(constant));
 }
 
 fn is_within(number: i128, most: i128) -> bool {
@@ -359,26 +350,21 @@ fn sign_of(is_first: bool, number: i128) -> &'static str {
 }
 
 /// The number behind the terms, unless it is 0 and there are some.
-fn spell_constant(out: &mut String, is_first: bool, constant: i128) -> Result<(), AllocError> {
+fn spell_constant(out: &mut TextBuffer, is_first: bool, constant: i128) {
     if !is_first && constant == 0 {
-        return Ok(());
+        return;
     }
-    out.push_str(sign_of(is_first, constant))?;
+    out.push_str(sign_of(is_first, constant));
     let size = constant.unsigned_abs();
-    write!(out, "{size}")
+    write!(out, "{size}");
 }
 
-fn spell_term(
-    out: &mut String,
-    is_first: bool,
-    name: &str,
-    coefficient: i128,
-) -> Result<(), AllocError> {
-    out.push_str(sign_of(is_first, coefficient))?;
+fn spell_term(out: &mut TextBuffer, is_first: bool, name: &str, coefficient: i128) {
+    out.push_str(sign_of(is_first, coefficient));
     let size = coefficient.unsigned_abs();
     if size != 1 {
-        write!(out, "{size}*")?;
+        write!(out, "{size}*");
     }
-    out.push_str("%")?;
-    out.push_str(name)
+    out.push_str("%");
+    out.push_str(name);
 }

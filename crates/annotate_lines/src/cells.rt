@@ -1,10 +1,11 @@
 //! The cells that instructions touch, and the zones that may cover them.
 
 use crate::goal::{Call, Scope};
-use annotate_sums::{Edge, Sum, Way, block_at};
+use annotate_facts::{Edge, Heap, Sum, Way, block_at};
 use lists::Name;
-use std::alloc::{AllocError, Global};
-use syntax::{Address, Argument, Function, Instruction, Mode, Operand, Parameter, Step, Zone};
+use syntax::{
+    Address, Argument, Function, FunctionNotes, Instruction, Mode, Operand, Parameter, Step, Zone,
+};
 
 /// How often the edges are gone along to find the children that blocks belong to.
 const MOST_ROUNDS: usize = 16;
@@ -39,46 +40,26 @@ pub fn is_same_object(one: &Address, other: &Address) -> bool {
 }
 
 impl<'a> Cells<'a> {
-    /// Some of an object's cells from the first one on, or of those from a register's or a number's on.
-    fn of(
-        mode: Mode,
-        object: &'a Address,
-        low: Sum<'a>,
-        count: i128,
-    ) -> Result<Cells<'a>, AllocError> {
-        let high = low.raised(count)?;
-        Ok(Cells {
-            mode,
-            object,
-            low,
-            high,
-        })
-    }
-
     /// The cells of a zone.
-    pub fn of_zone(alloc: Global, zone: &'a Zone) -> Result<Cells<'a>, AllocError> {
-        Ok(Cells {
+    pub fn of_zone(heap: &'a Heap, zone: &'a Zone) -> Cells<'a> {
+        Cells {
             mode: zone.mode,
             object: &zone.object,
-            low: Sum::of_form(alloc, &zone.low)?,
-            high: Sum::of_form(alloc, &zone.high)?,
-        })
+            low: Sum::of_form(heap, &zone.low),
+            high: Sum::of_form(heap, &zone.high),
+        }
     }
 
     /// The cells that a call touches by a zone of its callee; none where it is of no object of the caller's.
-    fn of_call(
-        alloc: Global,
-        call: Call<'a>,
-        zone: &'a Zone,
-    ) -> Result<Option<Cells<'a>>, AllocError> {
+    fn of_call(call: Call<'a>, zone: &'a Zone) -> Option<Cells<'a>> {
         match object_of(call, zone) {
-            Some(object) => Ok(Some(Cells {
+            Some(object) => Some(Cells {
                 mode: zone.mode,
                 object,
-                low: call.put_in_form(alloc, &zone.low)?,
-                high: call.put_in_form(alloc, &zone.high)?,
-            })),
-            None => Ok(None),
+                low: call.put_in_form(&zone.low),
+                high: call.put_in_form(&zone.high),
+            }),
+            None => None,
         }
     }
 
@@ -175,82 +156,59 @@ fn access_of(instruction: &Instruction) -> Option<Access<'_>> {
 }
 
 /// The cells that an instruction of a block touches by its address.
-fn accessed<'a>(
-    alloc: Global,
-    steps: &'a [Step],
-    access: Access<'a>,
-) -> Result<Cells<'a>, AllocError> {
+fn accessed<'a>(heap: &'a Heap, steps: &'a [Step], access: Access<'a>) -> Cells<'a> {
     let (object, low) = match element_of(steps, access.address) {
-        Some(Element { object, cell }) => (object, Sum::of_operand(alloc, cell, 1)?),
-        None => (access.address, Sum::number(alloc, 0)),
+        Some(Element { object, cell }) => (object, Sum::of_operand(heap, cell, 1)),
+        None => (access.address, Sum::number(heap, 0)),
     };
-    Cells::of(access.mode, object, low, access.count)
-}
-
-/// Adds the cells that a call touches by some zones of its callee.
-fn push_called<'a>(
-    alloc: Global,
-    call: Call<'a>,
-    zones: &'a [Zone],
-    out: &mut Vec<Cells<'a>>,
-) -> Result<(), AllocError> {
-    for zone in zones {
-        if let Some(cells) = Cells::of_call(alloc, call, zone)? {
-            out.push(cells)?;
-        }
+    let high = low.raised(access.count);
+    Cells {
+        mode: access.mode,
+        object,
+        low,
+        high,
     }
-    Ok(())
 }
 
-/// The same by all its zones.
-fn push_call<'a>(
-    alloc: Global,
-    call: Call<'a>,
-    out: &mut Vec<Cells<'a>>,
-) -> Result<(), AllocError> {
-    let notes = &call.callee.notes;
-    push_called(alloc, call, notes.reads.as_slice(), out)?;
-    push_called(alloc, call, notes.writes.as_slice(), out)?;
-    push_called(alloc, call, notes.adds.as_slice(), out)
-}
-
-fn push_zones<'a>(out: &mut Vec<&'a Zone>, zones: &'a [Zone]) -> Result<(), AllocError> {
-    for zone in zones {
-        out.push(zone)?;
-    }
-    Ok(())
+/// The zones of a function, by their modes.
+fn zones_of(notes: &FunctionNotes) -> [&[Zone]; 3] {
+    [
+        notes.reads.as_slice(),
+        notes.writes.as_slice(),
+        notes.adds.as_slice(),
+    ]
 }
 
 impl<'a> Scope<'a> {
+    /// Adds the cells that a call touches by some zones of its callee.
+    fn push_called(self, out: &mut Vec<Cells<'a>>, call: Call<'a>, zones: &'a [Zone]) {
+        for zone in zones {
+            if let Some(cells) = Cells::of_call(call, zone) {
+                self.heap.push(out, cells);
+            }
+        }
+    }
+
     /// The cells that an instruction of a block touches.
-    pub fn touched(
-        self,
-        steps: &'a [Step],
-        instruction: &'a Instruction,
-    ) -> Result<Vec<Cells<'a>>, AllocError> {
-        let mut out = Vec::new(self.alloc);
+    pub fn touched(self, steps: &'a [Step], instruction: &'a Instruction) -> Vec<Cells<'a>> {
+        let mut out = self.heap.list();
         if let Some(access) = access_of(instruction) {
-            out.push(accessed(self.alloc, steps, access)?)?;
+            self.heap.push(&mut out, accessed(self.heap, steps, access));
         }
         if let Some(call) = self.call_of(instruction) {
-            push_call(self.alloc, call, &mut out)?;
+            for zones in &zones_of(&call.callee.notes) {
+                self.push_called(&mut out, call, zones);
+            }
         }
-        Ok(out)
+        out
     }
 
     /// The zones that cover what the blocks of a child may touch, by the child's first block; what the function may touch, where that is the entry.
-    pub fn covering(self, first: usize) -> Result<Vec<&'a Zone>, AllocError> {
-        let mut zones = Vec::new(self.alloc);
+    pub fn covering(self, first: usize) -> [&'a [Zone]; 3] {
         match block_at(self.function, first) {
-            Some(child) if first != 0 => push_zones(&mut zones, child.notes.foot.as_slice())?,
-            _ => {
-                let notes = &self.function.notes;
-                push_zones(&mut zones, notes.reads.as_slice())?;
-                push_zones(&mut zones, notes.writes.as_slice())?;
-                push_zones(&mut zones, notes.adds.as_slice())?;
-            }
+            Some(child) if first != 0 => [child.notes.foot.as_slice(), &[], &[]],
+            _ => zones_of(&self.function.notes),
         }
-        Ok(zones)
     }
 }
 
@@ -278,19 +236,15 @@ fn pass_all_on(firsts: &mut Vec<Option<usize>>, edges: &[Edge<'_>]) -> bool {
 }
 
 /// For each block the first one of the child that it belongs to: the entry, where that is the function itself; none where it is not known.
-pub fn firsts_of(
-    alloc: Global,
-    edges: &[Edge<'_>],
-    count: usize,
-) -> Result<Vec<Option<usize>>, AllocError> {
-    let mut firsts = Vec::new(alloc);
+pub fn firsts_of(heap: &Heap, edges: &[Edge<'_>], count: usize) -> Vec<Option<usize>> {
+    let mut firsts = heap.list();
     for block in 0..count {
-        firsts.push(if block == 0 { Some(0) } else { None })?;
+        heap.push(&mut firsts, if block == 0 { Some(0) } else { None });
     }
     for _round in 0..MOST_ROUNDS {
         if !pass_all_on(&mut firsts, edges) {
-            return Ok(firsts);
+            return firsts;
         }
     }
-    Ok(firsts)
+    firsts
 }

@@ -1,7 +1,6 @@
 //! Bounds of registers by facts about them alone, and of sums by those.
 
 use crate::sum::Sum;
-use std::alloc::AllocError;
 
 /// The greatest number of a budget.
 const MOST: i128 = 1_000_000_000_000;
@@ -43,7 +42,7 @@ pub fn greatest_apart(facts: &[Sum<'_>], sum: &Sum<'_>) -> Option<i128> {
 }
 
 /// The lesser of two bounds, or the greater one; the one that there is.
-fn bound_among(one: Option<i128>, other: Option<i128>, is_lesser: bool) -> Option<i128> {
+pub fn bound_among(one: Option<i128>, other: Option<i128>, is_lesser: bool) -> Option<i128> {
     match (one, other) {
         (Some(one), Some(other)) if is_lesser => Some(one.min(other)),
         (Some(one), Some(other)) => Some(one.max(other)),
@@ -59,42 +58,38 @@ fn greatest_without<'a>(
     sum: &Sum<'a>,
     fact: &Sum<'a>,
     name: &str,
-) -> Result<Option<i128>, AllocError> {
+) -> Option<i128> {
     let coefficient = sum.coefficient(name);
     let times = coefficient.checked_div(fact.coefficient(name)).unwrap_or(0);
     let times = 0i128.saturating_sub(times);
     if times <= 0 {
-        return Ok(None);
+        return None;
     }
-    let rest = sum.with(fact, times)?;
-    Ok(if rest.has(name) {
+    let rest = sum.with(fact, times);
+    if rest.has(name) {
         None
     } else {
         greatest_apart(facts, &rest)
-    })
+    }
 }
 
 /// The same, where the fact stands for one of its registers: of `3*%hi-3*%lo`, `%hi <= %lo+8` leaves 24.
-fn greatest_by<'a>(
-    facts: &[Sum<'_>],
-    sum: &Sum<'a>,
-    fact: &Sum<'a>,
-) -> Result<Option<i128>, AllocError> {
+fn greatest_by<'a>(facts: &[Sum<'_>], sum: &Sum<'a>, fact: &Sum<'a>) -> Option<i128> {
     let mut most = None;
     for (name, _coefficient) in &fact.terms {
-        most = bound_among(most, greatest_without(facts, sum, fact, name)?, true);
+        most = bound_among(most, greatest_without(facts, sum, fact, name), true);
     }
-    Ok(most)
+    most
 }
 
 /// The greatest number that a sum may come to, from 0 to that of a budget; none where there is none.
-pub fn greatest<'a>(facts: &[Sum<'a>], sum: &Sum<'a>) -> Result<Option<u64>, AllocError> {
+pub fn greatest<'a>(facts: &[Sum<'a>], sum: &Sum<'a>) -> Option<u64> {
     let mut most = greatest_apart(facts, sum);
     for fact in facts {
-        most = bound_among(most, greatest_by(facts, sum, fact)?, true);
+        most = bound_among(most, greatest_by(facts, sum, fact), true);
     }
     match most {
-        Some(most) if most <= MOST => Ok(u64::try_from(most).ok()),
-        _ => Ok(None),
+        Some(most) if most <= MOST => u64::try_from(most).ok(),
+        _ => None,
     }
 }

@@ -1,10 +1,8 @@
 //! Loops that a counter leads round: what falls each time, and what a round needs.
 
-use annotate_facts::{Known, names_own};
-use annotate_sums::{
-    Edge, Sum, block_at, definition_in, definition_of, greatest_apart, last_of, phi_value,
+use annotate_facts::{
+    Edge, Known, Sum, block_at, greatest_apart, last_of, names_own, phi_value, value_of,
 };
-use std::alloc::AllocError;
 use syntax::{Block, Function, Operand};
 
 /// A loop, from the block at its head to the last one in the text from which an edge leads back.
@@ -28,12 +26,11 @@ impl<'a> Ring<'a> {
     }
 
     /// Adds a round's cost to a sum as often as rounds are left.
-    pub fn add_rounds(&self, sum: &mut Sum<'a>, cost: i128) -> Result<(), AllocError> {
+    pub fn add_rounds(&self, sum: &mut Sum<'a>, cost: i128) {
         let over = cost.saturating_add(self.step).saturating_sub(1);
         let times = over.checked_div(self.step).unwrap_or(0);
-        sum.add(&self.rank, times)?;
+        sum.add(&self.rank, times);
         sum.add_number(0i128.saturating_sub(times.saturating_mul(self.least)));
-        Ok(())
     }
 }
 
@@ -50,105 +47,81 @@ pub fn names_inner(known: &Known<'_>, head: usize, last: usize, sum: &Sum<'_>) -
 }
 
 /// Adds what a phi takes next so many times, by what its instruction makes of it.
-fn add_next<'a>(
-    known: &Known<'a>,
-    fall: &mut Sum<'a>,
-    value: &'a Operand,
-    times: i128,
-) -> Result<(), AllocError> {
+fn add_next<'a>(known: &Known<'a>, fall: &mut Sum<'a>, value: &'a Operand, times: i128) {
     if let Operand::Register(next) = value {
-        if let Some(instruction) = definition_in(known.function, next.as_str()) {
-            if let Some(sum) = definition_of(known.alloc, instruction)? {
-                return fall.add(&sum, times);
-            }
+        if let Some(sum) = value_of(known.heap, known.function, next.as_str()) {
+            fall.add(&sum, times);
+            return;
         }
     }
-    fall.add_operand(value, times)
+    fall.add_operand(value, times);
 }
 
 /// By how much a sum at the head falls along an edge that leads back from this block.
-fn fall_along<'a>(
-    known: &Known<'a>,
-    head: &'a Block,
-    from: &'a Block,
-    rank: &Sum<'a>,
-) -> Result<Sum<'a>, AllocError> {
-    let mut fall = Sum::number(known.alloc, 0);
+fn fall_along<'a>(known: &Known<'a>, head: &'a Block, from: &'a Block, rank: &Sum<'a>) -> Sum<'a> {
+    let mut fall = Sum::number(known.heap, 0);
     for (name, coefficient) in &rank.terms {
         if let Some(value) = phi_value(head.phis.as_slice(), name, &from.label) {
-            fall.add_term(name, *coefficient)?;
-            add_next(known, &mut fall, value, 0i128.saturating_sub(*coefficient))?;
+            fall.add_term(name, *coefficient);
+            add_next(known, &mut fall, value, 0i128.saturating_sub(*coefficient));
         }
     }
-    Ok(fall)
+    fall
 }
 
 /// The least number that a sum may come to at a block, by the bounds of its registers.
-fn least_of<'a>(
-    known: &Known<'a>,
-    block: usize,
-    sum: &Sum<'a>,
-) -> Result<Option<i128>, AllocError> {
-    let opposite = sum.times(-1)?;
-    let facts = known.facts_at(block)?;
-    Ok(match greatest_apart(facts.as_slice(), &opposite) {
+fn least_of<'a>(known: &Known<'a>, block: usize, sum: &Sum<'a>) -> Option<i128> {
+    let opposite = sum.times(-1);
+    let facts = known.facts_at(block);
+    match greatest_apart(facts.as_slice(), &opposite) {
         Some(most) => Some(0i128.saturating_sub(most)),
         None => None,
-    })
+    }
 }
 
 /// By how much a sum at the head of a loop falls each time round at least: the same number on each edge that leads back, 1 or more.
-fn fall_of<'a>(known: &Known<'a>, head: usize, rank: &Sum<'a>) -> Result<Option<i128>, AllocError> {
+fn fall_of<'a>(known: &Known<'a>, head: usize, rank: &Sum<'a>) -> Option<i128> {
     let mut found = None;
     for edge in &known.edges {
         if edge.to == head && edge.from >= head {
-            let fall = fall_by(known, *edge, rank)?;
+            let fall = fall_by(known, *edge, rank);
             if fall.is_none() || found.is_some() && found != fall {
-                return Ok(None);
+                return None;
             }
             found = fall;
         }
     }
-    Ok(found)
+    found
 }
 
-fn fall_by<'a>(
-    known: &Known<'a>,
-    edge: Edge<'a>,
-    rank: &Sum<'a>,
-) -> Result<Option<i128>, AllocError> {
+fn fall_by<'a>(known: &Known<'a>, edge: Edge<'a>, rank: &Sum<'a>) -> Option<i128> {
     let (Some(head), Some(from)) = (
         block_at(known.function, edge.to),
         block_at(known.function, edge.from),
     ) else {
-        return Ok(None);
+        return None;
     };
-    let fall = fall_along(known, head, from, rank)?;
-    Ok(match least_of(known, edge.to, &fall)? {
+    let fall = fall_along(known, head, from, rank);
+    match least_of(known, edge.to, &fall) {
         Some(fall) if fall >= 1 => Some(fall),
         _ => None,
-    })
+    }
 }
 
 /// What is at least 0 at the head, if this is so on an edge that leads back to it from this block: each phi in place of what it takes there.
-fn at_head<'a>(head: &'a Block, from: &Block, fact: &Sum<'a>) -> Result<Sum<'a>, AllocError> {
-    let mut rank = fact.copy()?;
+fn at_head<'a>(head: &'a Block, from: &Block, fact: &Sum<'a>) -> Sum<'a> {
+    let mut rank = fact.copy();
     for phi in head.phis.as_slice() {
         let name = phi.register.as_str();
         if let Some(Operand::Register(next)) = phi_value(head.phis.as_slice(), name, &from.label) {
-            rank = rank.renamed(next.as_str(), name)?;
+            rank = rank.renamed(next.as_str(), name);
         }
     }
-    Ok(rank)
+    rank
 }
 
 /// The same of an edge within the loop; where it does not lead back to the head, the fact itself.
-fn rank_by<'a>(
-    function: &'a Function,
-    head: usize,
-    edge: Edge<'a>,
-    fact: &Sum<'a>,
-) -> Result<Sum<'a>, AllocError> {
+fn rank_by<'a>(function: &'a Function, head: usize, edge: Edge<'a>, fact: &Sum<'a>) -> Sum<'a> {
     match (block_at(function, edge.to), block_at(function, edge.from)) {
         (Some(to), Some(from)) if edge.to == head => at_head(to, from, fact),
         _ => fact.copy(),
@@ -156,15 +129,10 @@ fn rank_by<'a>(
 }
 
 /// The least number that a rank has at the head where it falls by `step`.
-fn least_at<'a>(
-    known: &Known<'a>,
-    head: usize,
-    rank: &Sum<'a>,
-    step: i128,
-) -> Result<i128, AllocError> {
-    let nothing = Sum::number(known.alloc, 0);
-    let lack = known.lack_of(head, rank, &nothing)?;
-    Ok(0i128.saturating_sub(lack.unwrap_or(step)))
+fn least_at<'a>(known: &Known<'a>, head: usize, rank: &Sum<'a>, step: i128) -> i128 {
+    let nothing = Sum::number(known.heap, 0);
+    let lack = known.lack_of(head, rank, &nothing);
+    0i128.saturating_sub(lack.unwrap_or(step))
 }
 
 /// What falls each time round a loop, by this fact on this edge within it.
@@ -174,16 +142,16 @@ fn ring_by<'a>(
     head: usize,
     edge: Edge<'a>,
     fact: &Sum<'a>,
-) -> Result<Option<Ring<'a>>, AllocError> {
-    let rank = rank_by(known.function, head, edge, fact)?;
+) -> Option<Ring<'a>> {
+    let rank = rank_by(known.function, head, edge, fact);
     if names_inner(known, head, last, &rank) {
-        return Ok(None);
+        return None;
     }
-    let Some(step) = fall_of(known, head, &rank)? else {
-        return Ok(None);
+    let Some(step) = fall_of(known, head, &rank) else {
+        return None;
     };
-    let least = least_at(known, head, &rank, step)?;
-    Ok(Some(Ring {
+    let least = least_at(known, head, &rank, step);
+    Some(Ring {
         head,
         last,
         rank,
@@ -191,7 +159,7 @@ fn ring_by<'a>(
         least,
         calls: 0,
         instructions: 0,
-    }))
+    })
 }
 
 /// What falls each time round a loop by a fact on this edge.
@@ -201,33 +169,33 @@ fn ring_on<'a>(
     last: usize,
     number: usize,
     edge: Edge<'a>,
-) -> Result<Option<Ring<'a>>, AllocError> {
+) -> Option<Ring<'a>> {
     for fact in known.facts_on(number) {
         if *fact < known.facts.sums.len() {
-            let ring = ring_by(known, last, head, edge, &known.facts.sums[*fact])?;
+            let ring = ring_by(known, last, head, edge, &known.facts.sums[*fact]);
             if ring.is_some() {
-                return Ok(ring);
+                return ring;
             }
         }
     }
-    Ok(None)
+    None
 }
 
 /// What falls each time round the loop of this head, by a branch at the head or on an edge that leads back; none where nothing is found.
-pub fn ring_of<'a>(known: &Known<'a>, head: usize) -> Result<Option<Ring<'a>>, AllocError> {
+pub fn ring_of<'a>(known: &Known<'a>, head: usize) -> Option<Ring<'a>> {
     let Some(last) = last_of(known.edges.as_slice(), head) else {
-        return Ok(None);
+        return None;
     };
     for number in 0..known.edges.len() {
         let edge = known.edges[number];
         let is_inside = head <= edge.to && edge.to <= last;
         let is_asked = edge.from == head || edge.to == head && edge.from >= head;
         if is_inside && is_asked {
-            let ring = ring_on(known, head, last, number, edge)?;
+            let ring = ring_on(known, head, last, number, edge);
             if ring.is_some() {
-                return Ok(ring);
+                return ring;
             }
         }
     }
-    Ok(None)
+    None
 }

@@ -1,0 +1,411 @@
+//! Lines within blocks, with which facts show what is asked at an instruction or along an edge: lines to be tried.
+
+use crate::cells::Cells;
+use crate::goal::{Call, Scope, ends_of};
+use annotate_facts::{
+    Equation, Known, Sum, Way, block_at, definition_of, is_exact, lines_between, moved, register_of,
+};
+use buffers::TextBuffer;
+use syntax::{
+    BinaryOperator, Block, Conversion, Ending, Inequality, Instruction, Operand, Step, Terminator,
+    Width, Zone,
+};
+
+/// The most facts of a block that are looked at, and the lines that may stand before one instruction.
+const MOST_FACTS: usize = 1_024;
+
+const MOST_LINES: usize = 32;
+
+/// What is known in a block as far as one has come.
+pub struct Walk<'a> {
+    scope: Scope<'a>,
+    place: usize,
+    block: &'a Block,
+    /// Whether the block belongs to the function itself, and not to a child.
+    is_function: bool,
+    facts: Vec<Sum<'a>>,
+    /// What is left of the effort.
+    pub effort: usize,
+    /// The zones that cover what the block may touch.
+    covering: [&'a [Zone]; 3],
+    /// What is told before an instruction, beside so many lines of the text.
+    told: Vec<Sum<'a>>,
+    stated: usize,
+}
+
+/// Written out, so that no crate above proves it anew.
+impl Drop for Walk<'_> {
+    fn drop(self) {
+        let Walk {
+            scope: _,
+            place: _,
+            block: _,
+            is_function: _,
+            facts: _,
+            effort: _,
+            covering: _,
+            told: _,
+            stated: _,
+        } = self;
+    }
+}
+
+impl<'a> Walk<'a> {
+    /// At the head of the block of this number, of the child with this first block.
+    pub fn new(
+        scope: Scope<'a>,
+        place: usize,
+        block: &'a Block,
+        first: usize,
+        effort: usize,
+    ) -> Walk<'a> {
+        let mut walk = Walk {
+            scope,
+            place,
+            block,
+            is_function: first == 0,
+            facts: scope.heap.list(),
+            effort,
+            covering: scope.covering(first),
+            told: scope.heap.list(),
+            stated: 0,
+        };
+        walk.learn_all(if place == 0 {
+            scope.function.notes.requirements.as_slice()
+        } else {
+            block.notes.keeps.as_slice()
+        });
+        walk
+    }
+
+    fn learn(&mut self, fact: Sum<'a>) {
+        if self.facts.len() < MOST_FACTS {
+            self.scope.heap.push(&mut self.facts, fact);
+        }
+    }
+
+    /// States what the text says.
+    fn learn_all(&mut self, inequalities: &'a [Inequality]) {
+        for inequality in inequalities {
+            let sum = Sum::of_inequality(self.scope.heap, inequality);
+            self.learn(sum);
+        }
+    }
+
+    /// States that a sum lies from one number to another.
+    fn learn_between(&mut self, value: &Sum<'a>, low: i128, high: i128) {
+        self.learn(value.raised(0i128.saturating_sub(low)));
+        self.learn(value.below(high))
+    }
+
+    /// States that a register does.
+    fn learn_bounds(&mut self, name: &'a str, low: i128, high: i128) {
+        let own = Sum::of_register(self.scope.heap, name, 1);
+        self.learn_between(&own, low, high)
+    }
+
+    /// States that a register is this sum.
+    fn learn_equal(&mut self, name: &'a str, value: &Sum<'a>) {
+        let equation = Equation::of(self.scope.heap, name, value);
+        self.learn(equation.most);
+        self.learn(equation.least)
+    }
+
+    /// Says in lines that sums are at least 0, and states them, if there is room for the lines.
+    fn tell_all(&mut self, lines: Vec<Sum<'a>>) {
+        let count = self.stated.saturating_add(self.told.len());
+        if count.saturating_add(lines.len()) > MOST_LINES {
+            return;
+        }
+        for line in lines {
+            self.learn(line.copy());
+            self.scope.heap.push(&mut self.told, line);
+        }
+    }
+
+    /// Tells how the facts show a sum; whether they do.
+    fn reach(&mut self, sum: &Sum<'a>, is_stated: bool) -> bool {
+        if let Some(number) = sum.as_number() {
+            return number >= 0;
+        }
+        let heap = self.scope.heap;
+        let mut effort = self.effort;
+        let found = lines_between(heap, self.facts.as_slice(), sum, is_stated, &mut effort);
+        self.effort = effort;
+        match found {
+            Some(lines) => {
+                self.tell_all(lines);
+                true
+            }
+            None => false,
+        }
+    }
+
+    /// Tells how the facts show what an instruction asks.
+    fn reach_goals(&mut self, instruction: &'a Instruction) {
+        for goal in self.scope.goals(instruction) {
+            self.reach(&goal, false);
+        }
+    }
+
+    /// Tells how they show what a return of this value asks.
+    fn reach_return(&mut self, value: &'a Operand) {
+        let result = Sum::of_operand(self.scope.heap, value, 1);
+        for inequality in self.scope.function.notes.guarantees.as_slice() {
+            let mut goal = Sum::of_inequality(self.scope.heap, inequality);
+            goal.put(".ret", &result);
+            self.reach(&goal, false);
+        }
+    }
+
+    /// Whether it is known that so many times an operand is at least a number.
+    fn is_at_least(&mut self, times: i128, operand: &'a Operand, number: i128) -> bool {
+        let mut sum = Sum::of_operand(self.scope.heap, operand, times);
+        sum.add_number(0i128.saturating_sub(number));
+        self.reach(&sum, false)
+    }
+
+    /// States what a quotient or a remainder by a number is.
+    fn learn_part(
+        &mut self,
+        name: &'a str,
+        operator: BinaryOperator,
+        whole: &'a Operand,
+        divisor: i128,
+    ) {
+        if operator == BinaryOperator::SignedRemainder {
+            return self.learn_bounds(name, 0, divisor.saturating_sub(1));
+        }
+        let mut rest = Sum::of_operand(self.scope.heap, whole, 1);
+        rest.add_term(name, 0i128.saturating_sub(divisor));
+        self.learn_between(&rest, 0, divisor.saturating_sub(1));
+        self.learn(Sum::of_register(self.scope.heap, name, 1))
+    }
+
+    /// States what an operation with a number on its right makes known.
+    fn learn_operation(
+        &mut self,
+        name: &'a str,
+        operator: BinaryOperator,
+        left: &'a Operand,
+        right: i128,
+    ) {
+        match operator {
+            BinaryOperator::And if right >= 0 => self.learn_bounds(name, 0, right),
+            BinaryOperator::SignedDivide | BinaryOperator::SignedRemainder
+                if right >= 1 && right <= 1_000_000 => {
+                if self.is_at_least(1, left, 0) {
+                    self.learn_part(name, operator, left, right);
+                }
+            }
+            _ => {},
+        }
+    }
+
+    /// Whether it is known that a conversion changes no number.
+    fn is_same(&mut self, conversion: Conversion, operand: &'a Operand) -> bool {
+        match conversion {
+            Conversion::SignExtend => true,
+            Conversion::ZeroExtend => self.is_at_least(1, operand, 0),
+            Conversion::Truncate => {
+                let (low, high) = ends_of(Width::Bits32);
+                self.is_at_least(1, operand, low)
+                    && self.is_at_least(-1, operand, 0i128.saturating_sub(high))
+            }
+        }
+    }
+
+    fn learn_conversion(&mut self, name: &'a str, conversion: Conversion, operand: &'a Operand) {
+        if self.is_same(conversion, operand) {
+            let value = Sum::of_operand(self.scope.heap, operand, 1);
+            self.learn_equal(name, &value);
+        }
+        let (low, high) = match conversion {
+            Conversion::ZeroExtend => (0, 4_294_967_295),
+            _ => ends_of(Width::Bits32),
+        };
+        self.learn_bounds(name, low, high)
+    }
+
+    /// States what an instruction makes known of the register that it defines.
+    fn learn_register(&mut self, name: &'a str, instruction: &'a Instruction) {
+        match instruction {
+            Instruction::Binary { .. } if is_exact(instruction) => {
+                if let Some(value) = definition_of(self.scope.heap, instruction) {
+                    self.learn_equal(name, &value);
+                }
+            }
+            Instruction::Binary {
+                operator,
+                left,
+                right: Operand::Number(right),
+                ..
+            } => self.learn_operation(name, *operator, left, i128::from(*right)),
+            Instruction::Convert {
+                conversion,
+                value,
+                ..
+            } => self.learn_conversion(name, *conversion, value),
+            _ => {},
+        }
+    }
+
+    /// States what the callee says of a call.
+    fn learn_call(&mut self, call: Call<'a>) {
+        for inequality in call.callee.notes.guarantees.as_slice() {
+            self.learn(call.said(inequality));
+        }
+    }
+
+    /// States what an instruction makes known.
+    fn learn_step(&mut self, instruction: &'a Instruction) {
+        if let Some(call) = self.scope.call_of(instruction) {
+            self.learn_call(call);
+        }
+        if let Some(name) = register_of(instruction) {
+            self.learn_register(name, instruction);
+        }
+    }
+
+    /// Begins with the lines of the text before an instruction.
+    fn begin(&mut self, shows: &'a [Inequality]) {
+        self.told.clear();
+        self.stated = shows.len();
+        self.learn_all(shows)
+    }
+
+    /// The lines before an instruction.
+    fn spell_told(&self) -> TextBuffer {
+        let mut lines = self.scope.heap.text();
+        for fact in &self.told {
+            lines.push_str("  ;! shows ");
+            fact.spell_inequality(&mut lines);
+            lines.push_str("\n");
+        }
+        lines
+    }
+
+    /// Tells how the facts show that cells lie in a zone. Whether they do.
+    fn reach_ends(&mut self, cells: &Cells<'a>, zone: &'a Zone) -> bool {
+        let mut low = cells.low.copy();
+        low.add_form(&zone.low, -1);
+        let mut high = Sum::of_form(self.scope.heap, &zone.high);
+        high.add(&cells.high, -1);
+        self.reach(&low, false) && self.reach(&high, false)
+    }
+
+    /// The same; nothing is told where they do not.
+    fn reach_zone(&mut self, cells: &Cells<'a>, zone: &'a Zone) -> bool {
+        let facts = self.facts.len();
+        let told = self.told.len();
+        let is_covered = self.reach_ends(cells, zone);
+        if !is_covered {
+            self.facts.truncate(facts);
+            self.told.truncate(told);
+        }
+        is_covered
+    }
+
+    /// Tells how the facts show that one of these zones has the cells; whether they do.
+    fn reach_among(&mut self, cells: &Cells<'a>, zones: &'a [Zone]) -> bool {
+        for zone in zones {
+            if cells.may_lie_in(zone) && self.reach_zone(cells, zone) {
+                return true;
+            }
+        }
+        false
+    }
+
+    /// The same of the covering zones; of the function's own cells nothing where it touches them itself.
+    fn reach_cover(&mut self, cells: &Cells<'a>) {
+        if self.is_function && cells.is_own(self.scope.function) {
+            return;
+        }
+        let covering = self.covering;
+        for zones in &covering {
+            if self.reach_among(cells, zones) {
+                return;
+            }
+        }
+    }
+
+    /// The same of all cells that an instruction touches.
+    fn reach_covers(&mut self, instruction: &'a Instruction) {
+        let steps = self.block.steps.as_slice();
+        for cells in self.scope.touched(steps, instruction) {
+            self.reach_cover(&cells);
+        }
+    }
+
+    /// Tells how the facts show that the zones of new children are covered.
+    fn reach_foot(&mut self, child: &'a Block) {
+        for zone in child.notes.foot.as_slice() {
+            self.reach_cover(&Cells::of_zone(self.scope.heap, zone));
+        }
+    }
+
+    /// Goes over a step; the lines that may stand before it.
+    pub fn pass(&mut self, step: &'a Step) -> TextBuffer {
+        self.begin(step.shows.as_slice());
+        if self.effort == 0 {
+            return self.spell_told();
+        }
+        self.reach_goals(&step.instruction);
+        self.effort = self.effort.saturating_sub(self.block.steps.len());
+        self.reach_covers(&step.instruction);
+        self.learn_step(&step.instruction);
+        self.spell_told()
+    }
+
+    /// Tells how the facts show a sum along an edge, with what being taken says of it, or without.
+    fn reach_along(&mut self, known: &Known<'a>, edge: usize, goal: &Sum<'a>) {
+        if self.reach(goal, false) {
+            return;
+        }
+        for number in known.facts_on(edge) {
+            if let Some(fact) = known.facts.sums.get(*number) {
+                let rest = goal.with(fact, -1);
+                if self.reach(&rest, true) {
+                    return;
+                }
+            }
+        }
+    }
+
+    /// Tells how the facts show what a block's head asks along an edge.
+    fn reach_edge(&mut self, known: &Known<'a>, edge: usize, to: &'a Block) {
+        for inequality in to.notes.keeps.as_slice() {
+            let goal = Sum::of_inequality(self.scope.heap, inequality);
+            let goal = moved(
+                self.scope.heap,
+                &goal,
+                &self.block.label,
+                to.phis.as_slice(),
+            );
+            self.reach_along(known, edge, &goal);
+        }
+    }
+
+    fn reach_edges(&mut self, known: &Known<'a>) {
+        for (number, edge) in known.edges.iter().enumerate() {
+            if edge.from == self.place {
+                if let Some(to) = block_at(self.scope.function, edge.to) {
+                    self.reach_edge(known, number, to);
+                    if matches!(edge.way, Way::Detached) {
+                        self.reach_foot(to);
+                    }
+                }
+            }
+        }
+    }
+
+    /// Goes over the end of the block; the lines that may stand before it.
+    pub fn end(&mut self, known: &Known<'a>, ending: &'a Ending) -> TextBuffer {
+        self.begin(ending.shows.as_slice());
+        if let Terminator::Return { value: Some(value) } = &ending.terminator {
+            self.reach_return(value);
+        }
+        self.reach_edges(known);
+        self.spell_told()
+    }
+}
