@@ -1,18 +1,18 @@
 //! The lines of a text, of which some were put in.
 
+use buffers::{ListBuffer, TextBuffer};
 use std::alloc::{AllocError, Global};
 
 /// The numbers of lines that were put into a text, counted from 1.
 #[derive(Drop)]
 pub struct NewLines {
-    alloc: Global,
     marks: Vec<bool>,
 }
 
 impl NewLines {
     /// The lines of `more` that `text` has not, where all its lines stand in `more` in their order.
     pub fn between(alloc: Global, text: &str, more: &str) -> Result<NewLines, AllocError> {
-        let mut marks = Vec::new(alloc);
+        let mut marks = ListBuffer::new(alloc);
         let mut old = text.lines();
         let mut next = old.next();
         for line in more.lines() {
@@ -20,9 +20,11 @@ impl NewLines {
             if is_old {
                 next = old.next();
             }
-            marks.push(!is_old)?;
+            marks.push(!is_old);
         }
-        Ok(NewLines { alloc, marks })
+        Ok(NewLines {
+            marks: marks.finish()?,
+        })
     }
 
     /// Whether the line of this number was put in.
@@ -67,14 +69,14 @@ fn has_number(numbers: &[u32], number: u32) -> bool {
 
 /// The text without the lines of these numbers.
 pub fn without(alloc: Global, text: &str, numbers: &[u32]) -> Result<String, AllocError> {
-    let mut out = String::new(alloc);
+    let mut out = TextBuffer::new(alloc);
     let mut number = 0u32;
     for line in text.lines() {
         number = number.saturating_add(1);
         if !has_number(numbers, number) {
-            out.push_str(line)?;
-            out.push_str("\n")?;
+            out.push_str(line);
+            out.push_str("\n");
         }
     }
-    Ok(out)
+    out.finish()
 }

@@ -3,6 +3,7 @@ ghost use Rattle.annotate.specs.Kept.{IsAcceptedText};
 
 use crate::new_lines::without;
 use crate::trying::copied;
+use buffers::ListBuffer;
 use explain_facts::spend;
 use ranges::{Effort, Unanswered};
 use std::alloc::{AllocError, Global};
@@ -17,15 +18,15 @@ const MOST_ROUNDS: usize = 16;
 
 /// The numbers of the annotation lines of a text, counted from 1.
 fn annotation_lines(alloc: Global, text: &str) -> Result<Vec<u32>, AllocError> {
-    let mut numbers = Vec::new(alloc);
+    let mut numbers = ListBuffer::new(alloc);
     let mut number = 0u32;
     for line in text.lines() {
         number = number.saturating_add(1);
         if line.trim().starts_with(";!") {
-            numbers.push(number)?;
+            numbers.push(number);
         }
     }
-    Ok(numbers)
+    numbers.finish()
 }
 
 /// Whether a text is accepted.

@@ -1,7 +1,8 @@
 //! Which of the lines that were put in are refused, by the functions of the phases.
 
 use crate::new_lines::NewLines;
-use crate::plain::push_plain;
+use crate::plain::{is_plain, said_of};
+use buffers::ListBuffer;
 use explain_costs::cost_findings;
 use explain_facts::Matched;
 use footprints::passes_on;
@@ -16,7 +17,18 @@ pub struct Trial<'a> {
     pub alloc: Global,
     pub new: &'a NewLines,
     pub effort: &'a Effort,
-    pub refused: Vec<u32>,
+    pub refused: ListBuffer<u32>,
+}
+
+/// What is refused of blocks.
+#[derive(Clone, Copy)]
+pub enum Part {
+    /// The `keeps` lines that an edge does not show, and the `shows` lines that their places do not.
+    Facts,
+    /// The `keeps` lines that say no more than another one of their block.
+    Plain,
+    /// The `pending` lines that an edge does not hand on.
+    Zones,
 }
 
 fn keeps_of(blocks: &[Block], block: BlockId) -> &[Inequality] {
@@ -27,27 +39,70 @@ fn keeps_of(blocks: &[Block], block: BlockId) -> &[Inequality] {
 }
 
 impl Trial<'_> {
-    fn refuse(&mut self, line: u32) -> Result<(), Unanswered> {
-        self.refused.push(line)?;
-        Ok(())
+    /// What is known in a block.
+    fn table(
+        &self,
+        program: &Program,
+        function: &Function,
+        index: usize,
+        block: &Block,
+    ) -> Result<BlockFacts, Unanswered> {
+        let (table, _broken) = block_facts(
+            self.alloc,
+            program,
+            function,
+            index,
+            block,
+            self.effort,
+        )?;
+        Ok(table)
     }
 
-    /// Refuses a `keeps` line that was put in, where an edge does not show it.
-    fn try_keep(
+    fn try_block(
         &mut self,
-        facts: &FactBranches<'_>,
-        edge: &EdgeFacts,
-        inequality: &Inequality,
+        program: &Program,
+        function: &Function,
+        index: usize,
+        block: &Block,
+        part: Part,
     ) -> Result<(), Unanswered> {
-        if self.new.has(inequality.line) {
-            let sum = difference_of(self.alloc, edge.moves.as_slice(), inequality)?;
-            if !shows_at(self.alloc, &facts.known(), &sum)? {
-                self.refuse(inequality.line)?;
+        let blocks = function.blocks.as_slice();
+        match part {
+            Part::Facts => {
+                let table = self.table(program, function, index, block)?;
+                self.try_edges(blocks, &table)?;
+                self.try_steps(block, &table)
             }
+            Part::Plain => self.try_plain(block),
+            Part::Zones if block.pending.is_empty() => Ok(()),
+            Part::Zones => {
+                let table = self.table(program, function, index, block)?;
+                self.try_zones(blocks, block, &table)
+            }
+        }
+    }
+
+    fn try_function(
+        &mut self,
+        program: &Program,
+        function: &Function,
+        part: Part,
+    ) -> Result<(), Unanswered> {
+        for (index, block) in function.blocks.as_slice().iter().enumerate() {
+            self.try_block(program, function, index, block, part)?;
         }
         Ok(())
     }
 
+    /// Refuses lines of all blocks.
+    pub fn try_blocks(&mut self, program: &Program, part: Part) -> Result<(), Unanswered> {
+        for function in program.functions.as_slice() {
+            self.try_function(program, function, part)?;
+        }
+        Ok(())
+    }
+
+    /// Refuses the `keeps` lines of its target that an edge does not show.
     fn try_keeps(
         &mut self,
         facts: &FactBranches<'_>,
@@ -55,85 +110,27 @@ impl Trial<'_> {
         keeps: &[Inequality],
     ) -> Result<(), Unanswered> {
         for inequality in keeps {
-            self.try_keep(facts, edge, inequality)?;
+            if self.new.has(inequality.line) {
+                let sum = difference_of(self.alloc, edge.moves.as_slice(), inequality)?;
+                if !shows_at(self.alloc, &facts.known(), &sum)? {
+                    self.refused.push(inequality.line);
+                }
+            }
         }
         Ok(())
-    }
-
-    /// Refuses what an edge does not show of its target.
-    fn try_edge(
-        &mut self,
-        blocks: &[Block],
-        facts: &mut FactBranches<'_>,
-        edge: &EdgeFacts,
-    ) -> Result<(), Unanswered> {
-        facts.switch_to(self.alloc, edge.facts.as_slice())?;
-        self.try_keeps(&*facts, edge, keeps_of(blocks, edge.to))
     }
 
     /// Refuses what the edges of a block do not show.
     fn try_edges(&mut self, blocks: &[Block], table: &BlockFacts) -> Result<(), Unanswered> {
         let mut facts = FactBranches::new(self.alloc, table.facts.as_slice(), self.effort);
         for edge in table.edges.as_slice() {
-            self.try_edge(blocks, &mut facts, edge)?;
+            facts.switch_to(self.alloc, edge.facts.as_slice())?;
+            self.try_keeps(&facts, edge, keeps_of(blocks, edge.to))?;
         }
         Ok(())
     }
 
-    fn try_function(&mut self, program: &Program, function: &Function) -> Result<(), Unanswered> {
-        let blocks = function.blocks.as_slice();
-        for (index, block) in blocks.iter().enumerate() {
-            let (table, _broken) = block_facts(
-                self.alloc,
-                program,
-                function,
-                index,
-                block,
-                self.effort,
-            )?;
-            self.try_edges(blocks, &table)?;
-            self.try_steps(block, &table)?;
-        }
-        Ok(())
-    }
-
-    /// Refuses the `keeps` lines that an edge does not show, and the `shows` lines that their places do not.
-    pub fn try_facts(&mut self, program: &Program) -> Result<(), Unanswered> {
-        for function in program.functions.as_slice() {
-            self.try_function(program, function)?;
-        }
-        Ok(())
-    }
-}
-
-impl Trial<'_> {
-    /// Refuses the `keeps` lines that say no more than another one of their block.
-    pub fn try_plain(&mut self, program: &Program) -> Result<(), Unanswered> {
-        push_plain(self.alloc, self.new, program, &mut self.refused)
-    }
-}
-
-/// What is shown within blocks.
-impl Trial<'_> {
-    /// Refuses a `shows` line that was put in, where the first facts, so many of them, do not show it.
-    fn try_shown(
-        &mut self,
-        cursor: &mut FactCursor<'_>,
-        count: usize,
-        inequality: &Inequality,
-    ) -> Result<(), Unanswered> {
-        if self.new.has(inequality.line) {
-            cursor.seek(count);
-            cursor.index()?;
-            let sum = difference_of(self.alloc, &[], inequality)?;
-            if !shows_at(self.alloc, &cursor.known(), &sum)? {
-                self.refuse(inequality.line)?;
-            }
-        }
-        Ok(())
-    }
-
-    /// The same of all `shows` lines of a place, behind which so many facts are known.
+    /// Refuses the `shows` lines of a place that the facts before them do not show; behind the place so many are known.
     fn try_shows(
         &mut self,
         cursor: &mut FactCursor<'_>,
@@ -142,7 +139,14 @@ impl Trial<'_> {
     ) -> Result<(), Unanswered> {
         let before = count.saturating_sub(shows.len());
         for (place, inequality) in shows.iter().enumerate() {
-            self.try_shown(cursor, before.saturating_add(place), inequality)?;
+            if self.new.has(inequality.line) {
+                cursor.seek(before.saturating_add(place));
+                cursor.index()?;
+                let sum = difference_of(self.alloc, &[], inequality)?;
+                if !shows_at(self.alloc, &cursor.known(), &sum)? {
+                    self.refused.push(inequality.line);
+                }
+            }
         }
         Ok(())
     }
@@ -159,43 +163,19 @@ impl Trial<'_> {
             None => Ok(()),
         }
     }
-}
 
-fn line_of_end(block: &Block) -> Option<u32> {
-    match &block.ending {
-        Some(ending) => Some(ending.line),
-        None => None,
-    }
-}
-
-/// The zones that are pending at blocks.
-impl Trial<'_> {
-    /// Refuses a `pending` line that was put in and that an edge does not hand on, where it hands on what a new child may touch.
-    fn try_zone(
-        &mut self,
-        blocks: &[Block],
-        facts: &mut FactBranches<'_>,
-        block: &Block,
-        place: usize,
-        edge: &EdgeFacts,
-    ) -> Result<(), Unanswered> {
-        let pending = block.pending.as_slice();
-        let Some(ending) = &block.ending else {
-            return Ok(());
-        };
-        if place >= pending.len() || !self.new.has(pending[place].zone.line) {
-            return Ok(());
-        }
-        let terminator = &ending.terminator;
-        let one = &pending[place..place + 1];
-        if !passes_on(self.alloc, blocks, facts, one, terminator, edge)?
-            && passes_on(self.alloc, blocks, facts, &[], terminator, edge)?
-        {
-            self.refuse(pending[place].zone.line)?;
+    /// Refuses the `keeps` lines of a block that say no more than another one.
+    fn try_plain(&mut self, block: &Block) -> Result<(), Unanswered> {
+        let said = said_of(self.alloc, block)?;
+        for one in &said {
+            if self.new.has(one.line) && is_plain(self.alloc, said.as_slice(), one) {
+                self.refused.push(one.line);
+            }
         }
         Ok(())
     }
 
+    /// Refuses the `pending` lines of a block that an edge does not hand on, where it hands on what a new child may touch.
     fn try_zones_on(
         &mut self,
         blocks: &[Block],
@@ -203,13 +183,27 @@ impl Trial<'_> {
         block: &Block,
         edge: &EdgeFacts,
     ) -> Result<(), Unanswered> {
-        for place in 0..block.pending.len() {
-            self.try_zone(blocks, facts, block, place, edge)?;
+        let Some(ending) = &block.ending else {
+            return Ok(());
+        };
+        let pending = block.pending.as_slice();
+        let terminator = &ending.terminator;
+        for place in 0..pending.len() {
+            let line = pending[place].zone.line;
+            if self.new.has(line) {
+                let one = &pending[place..place + 1];
+                if !passes_on(self.alloc, blocks, facts, one, terminator, edge)?
+                    && passes_on(self.alloc, blocks, facts, &[], terminator, edge)?
+                {
+                    self.refused.push(line);
+                }
+            }
         }
         Ok(())
     }
 
-    fn try_block_zones(
+    /// The same of all edges of the block.
+    fn try_zones(
         &mut self,
         blocks: &[Block],
         block: &Block,
@@ -221,71 +215,45 @@ impl Trial<'_> {
         }
         Ok(())
     }
+}
 
-    fn try_function_zones(
-        &mut self,
-        program: &Program,
-        function: &Function,
-    ) -> Result<(), Unanswered> {
-        let blocks = function.blocks.as_slice();
-        for (index, block) in blocks.iter().enumerate() {
-            if !block.pending.is_empty() {
-                let (table, _broken) = block_facts(
-                    self.alloc,
-                    program,
-                    function,
-                    index,
-                    block,
-                    self.effort,
-                )?;
-                self.try_block_zones(blocks, block, &table)?;
-            }
-        }
-        Ok(())
-    }
-
-    /// Refuses the `pending` lines that an edge does not hand on.
-    pub fn try_zones(&mut self, program: &Program) -> Result<(), Unanswered> {
-        for function in program.functions.as_slice() {
-            self.try_function_zones(program, function)?;
-        }
-        Ok(())
+fn line_of_end(block: &Block) -> Option<u32> {
+    match &block.ending {
+        Some(ending) => Some(ending.line),
+        None => None,
     }
 }
 
 /// What blocks may still use.
 impl Trial<'_> {
     /// Refuses the `left` line of a block, if it was put in and does not cover what a fault at this line says.
-    fn try_left(&mut self, block: &Block, line: u32) -> Result<(), Unanswered> {
+    fn try_left(&mut self, block: &Block, line: u32) {
         let left = block.left.line;
         if self.new.has(left) && (left == line || line_of_end(block) == Some(line)) {
-            self.refuse(left)?;
+            self.refused.push(left);
         }
-        Ok(())
     }
 
-    fn try_function_costs(&mut self, function: &Function, line: u32) -> Result<(), Unanswered> {
+    fn try_function_costs(&mut self, function: &Function, line: u32) {
         let budget = function.budget.line;
         if budget == line && self.new.has(budget) {
-            self.refuse(budget)?;
+            self.refused.push(budget);
         }
         for block in function.blocks.as_slice() {
-            self.try_left(block, line)?;
+            self.try_left(block, line);
         }
-        Ok(())
     }
 
-    fn try_costs_at(&mut self, program: &Program, line: u32) -> Result<(), Unanswered> {
+    fn try_costs_at(&mut self, program: &Program, line: u32) {
         for function in program.functions.as_slice() {
-            self.try_function_costs(function, line)?;
+            self.try_function_costs(function, line);
         }
-        Ok(())
     }
 
     /// Refuses the `left` and `budget` lines that do not cover what is used.
     pub fn try_costs(&mut self, matched: &Matched) -> Result<(), Unanswered> {
         for finding in cost_findings(self.alloc, matched, self.effort)? {
-            self.try_costs_at(&matched.graph.program, finding.line)?;
+            self.try_costs_at(&matched.graph.program, finding.line);
         }
         Ok(())
     }

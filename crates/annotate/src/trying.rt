@@ -2,8 +2,9 @@ ghost use Rattle.std.specs.Prelude.{◌≡◌, IfOk};
 ghost use Rattle.annotate.specs.Kept.{StaysAccepted};
 
 use crate::new_lines::{NewLines, without};
-use crate::trial::Trial;
+use crate::trial::{Part, Trial};
 use annotate_lines::{Kind, proposed};
+use buffers::ListBuffer;
 use explain_facts::{match_text, spend};
 use ir_reader::read;
 use ranges::{Effort, Unanswered};
@@ -78,17 +79,17 @@ fn refused_of(
         alloc,
         new,
         effort,
-        refused: Vec::new(alloc),
+        refused: ListBuffer::new(alloc),
     };
-    trial.try_facts(program)?;
+    trial.try_blocks(program, Part::Facts)?;
     if trial.refused.is_empty() {
-        trial.try_plain(program)?;
+        trial.try_blocks(program, Part::Plain)?;
     }
     if trial.refused.is_empty() {
-        trial.try_zones(program)?;
+        trial.try_blocks(program, Part::Zones)?;
         trial.try_costs(&matched)?;
     }
-    Ok(Some(trial.refused))
+    Ok(Some(trial.refused.finish()?))
 }
 
 /// A text with those of the proposed lines put in that stand their trial; the text as it was, where that cannot be tried.
@@ -144,13 +145,13 @@ fn with_kind(
 
 /// The lines of a text, by numbers of one with more lines; the numbers of lines that it has not are left out.
 fn own_lines(alloc: Global, more: &NewLines, numbers: &[u32]) -> Result<Vec<u32>, AllocError> {
-    let mut own = Vec::new(alloc);
+    let mut own = ListBuffer::new(alloc);
     for number in numbers {
         if !more.has(*number) {
-            own.push(more.own_line(*number))?;
+            own.push(more.own_line(*number));
         }
     }
-    Ok(own)
+    own.finish()
 }
 
 /// A text with guesses put in that stand their trial beside the `shows` lines by which edges show them. As long as a guess is refused, what is shown without
