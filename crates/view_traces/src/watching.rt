@@ -176,7 +176,8 @@ impl<'v> Watch<'v> {
             return Ok(Settings::none(self.alloc));
         };
         self.objects.begin(program, view.top_path, view.top)?;
-        self.given(view.top)
+        let given = parameters_at(self.alloc, program, view.top)?;
+        self.objects.settings(program, view.top, given.as_slice())
     }
 
     /// Moments do not tell any more what was set.
