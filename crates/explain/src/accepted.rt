@@ -1,5 +1,7 @@
 //! What an accepted module could do without.
 
+use crate::trial::fault_of;
+use buffers::TextBuffer;
 use explain_costs::push_budgets;
 use explain_facts::spend;
 use explain_findings::{Source, with_line_at};
@@ -8,7 +10,7 @@ use lists::OutOfMemory;
 use program::Program;
 use ranges::Unanswered;
 use std::alloc::Global;
-use verifier::{Effort, Refused, Unverified, verify_within};
+use verifier::{Effort, Refused};
 
 /// How many annotations are tried: each asks the verifier once.
 const MOST_TRIED: usize = 1_000;
@@ -25,15 +27,7 @@ fn is_unneeded(
 ) -> Result<bool, Unanswered> {
     spend(effort, source.text.len().saturating_mul(STEPS_A_BYTE))?;
     let without = with_line_at(alloc, source.text, number, "")?;
-    match verify_within(alloc, source.state, without.as_bytes(), effort) {
-        Ok(verified) => {
-            drop(verified);
-            Ok(true)
-        }
-        Err(Unverified::Refused(Refused::Fault { .. })) => Ok(false),
-        Err(Unverified::Refused(Refused::Memory)) => Err(Unanswered::OutOfMemory),
-        Err(Unverified::OutOfEffort) => Err(Unanswered::OutOfEffort),
-    }
+    Ok(fault_of(alloc, source.state, without.as_str(), effort)?.is_none())
 }
 
 /// A line of this number, where the module is accepted as well without it.
@@ -43,10 +37,10 @@ fn push_if_unneeded(
     number: u32,
     words: &str,
     effort: &Effort,
-    out: &mut String,
+    out: &mut TextBuffer,
 ) -> Result<(), Unanswered> {
     if is_unneeded(alloc, source, number, effort)? {
-        writeln!(out, "accepted without line {number}: {words}")?;
+        writeln!(out, "accepted without line {number}: {words}");
     }
     Ok(())
 }
@@ -56,7 +50,7 @@ fn push_unneeded(
     alloc: Global,
     source: Source<'_>,
     effort: &Effort,
-    out: &mut String,
+    out: &mut TextBuffer,
 ) -> Result<(), Unanswered> {
     let mut number: u32 = 0;
     let mut tried: usize = 0;
@@ -78,18 +72,18 @@ pub fn remarks(
     program: &Program,
     effort: &Effort,
 ) -> Result<String, OutOfMemory> {
-    let mut out = String::new(alloc);
+    let mut out = TextBuffer::new(alloc);
     match read(alloc, source.state, source.text.as_bytes()) {
         Ok(whole) => push_budgets(alloc, program, &whole, &mut out)?,
-        Err(Refused::Fault { .. }) => return Ok(out),
+        Err(Refused::Fault { .. }) => return Ok(String::new(alloc)),
         Err(Refused::Memory) => return Err(OutOfMemory),
     }
     match push_unneeded(alloc, source, effort, &mut out) {
-        Ok(()) => Ok(out),
-        Err(Unanswered::OutOfMemory) => Err(OutOfMemory),
+        Ok(()) => {}
+        Err(Unanswered::OutOfMemory) => return Err(OutOfMemory),
         Err(Unanswered::OutOfEffort) => {
-            out.push_str("the effort is spent: the other annotations are not tried\n")?;
-            Ok(out)
+            out.push_str("the effort is spent: the other annotations are not tried\n")
         }
     }
+    Ok(out.finish()?)
 }

@@ -4,15 +4,27 @@ ghost use Rattle.explain.specs.Verdict.{IsVerdictOn};
 use crate::accepted::remarks;
 use crate::alloca::alloca_notes;
 use crate::report::Explanation;
+use buffers::{ListBuffer, TextBuffer};
 use explain_costs::told_cost_findings;
 use explain_facts::{Matched, match_text, number_findings};
-use explain_findings::{Finding, Source, name_finding, push_finding, word_findings};
+use explain_findings::{Finding, Source, name_finding, word_findings};
 use explain_zones::zone_findings;
 use lists::{OutOfMemory, Seq};
 use ranges::Unanswered;
-use std::alloc::{AllocError, Global};
+use std::alloc::Global;
 use std::hash::RandomState;
 use verifier::{Effort, Refused, Unverified, verify_within};
+
+/// A fault without a cause that is told.
+fn lone_finding(number: u16, line: u32, notes: String) -> Finding {
+    Finding {
+        number,
+        line,
+        cause: None,
+        follows: false,
+        notes,
+    }
+}
 
 /// The faults of a phase over the program: that of numbers, of zones or of costs.
 fn matched_findings(
@@ -58,35 +70,12 @@ fn findings_of(
     if number >= 500 {
         return program_findings(alloc, source, number, effort);
     }
-    let mut findings: Vec<Finding> = Vec::new(alloc);
-    if number == 402 {
-        push_finding(
-            &mut findings,
-            number,
-            line,
-            alloca_notes(alloc, source, line, effort)?,
-        )?;
+    let finding = if number == 402 {
+        lone_finding(number, line, alloca_notes(alloc, source, line, effort)?)
     } else {
-        findings.push(name_finding(alloc, source, number, line)?)?;
-    }
-    Ok(findings)
-}
-
-/// Adds what is said of the fault that the verifier names to it, and the other faults to the others.
-fn part(
-    findings: Vec<Finding>,
-    first: &mut Finding,
-    others: &mut Vec<Finding>,
-) -> Result<(), AllocError> {
-    for finding in findings {
-        if finding.number == first.number && finding.line == first.line {
-            first.cause = first.cause.or(finding.cause);
-            first.notes.push_str(finding.notes.as_str())?;
-        } else {
-            others.push(finding)?;
-        }
-    }
-    Ok(())
+        name_finding(alloc, source, number, line)?
+    };
+    Ok(vec![in alloc; finding]?)
 }
 
 /// The faults of the phase as far as the effort reaches; where it is spent, the fault alone that the verifier names, and that no more is told.
@@ -102,9 +91,7 @@ fn findings_within(
         Err(Unanswered::OutOfMemory) => Err(OutOfMemory),
         Err(Unanswered::OutOfEffort) => {
             let notes = String::from_str(alloc, "  the effort is spent: no more is told\n")?;
-            let mut findings: Vec<Finding> = Vec::new(alloc);
-            push_finding(&mut findings, number, line, notes)?;
-            Ok(findings)
+            Ok(vec![in alloc; lone_finding(number, line, notes)]?)
         }
     }
 }
@@ -119,15 +106,22 @@ fn told_of(
     effort: &Effort,
 ) -> Result<(Finding, Vec<Finding>), OutOfMemory> {
     let findings = findings_within(alloc, source, number, line, effort)?;
-    let mut first = Finding {
-        number,
-        line,
-        cause: None,
-        follows: false,
-        notes: String::new(alloc),
+    let mut cause = None;
+    let mut notes = TextBuffer::new(alloc);
+    let mut others: ListBuffer<Finding> = ListBuffer::new(alloc);
+    for finding in findings {
+        if finding.number == number && finding.line == line {
+            cause = cause.or(finding.cause);
+            notes.push_str(finding.notes.as_str());
+        } else {
+            others.push(finding);
+        }
+    }
+    let first = Finding {
+        cause,
+        ..lone_finding(number, line, notes.finish()?)
     };
-    let mut others: Vec<Finding> = Vec::new(alloc);
-    part(findings, &mut first, &mut others)?;
+    let mut others = others.finish()?;
     others.sort_by_key(|finding| (finding.follows, finding.line, finding.number))?;
     Ok((first, others))
 }

@@ -9,6 +9,7 @@ mod alloca;
 mod explaining;
 mod printing;
 mod report;
+mod trial;
 
 pub use explain_findings::Finding;
 pub use explaining::explain;

@@ -1,7 +1,8 @@
 //! Faults of costs, each with both sides and the difference.
 
-use crate::left::{Need, push_missing_left};
-use crate::sums::{Counted, Share, amount, less_number, less_sum, number_less, put_in};
+use crate::left::{Need, missing_left};
+use crate::sums::{Counted, Share, amount, less_form, number_sum, plus_form};
+use buffers::{ListBuffer, TextBuffer};
 use cost_table::{Table, Work, make_table, work_of};
 use explain_facts::{
     Known, Matched, Scene, Trying, edge_known, fact_lines, lack_of, push_form, start_lines,
@@ -9,10 +10,7 @@ use explain_facts::{
 use explain_findings::{Finding, Source, push_finding};
 use linear::{Fact, Form};
 use lists::OutOfMemory;
-use program::{
-    Argument, Block, BlockId, Budget, Ending, Function, Instruction, Left, Measure, Step,
-    Terminator,
-};
+use program::{Argument, Block, BlockId, Ending, Function, Instruction, Left, Step, Terminator};
 use ranges::{
     BlockFacts, EdgeFacts, Effort, Move, Sum, Unanswered, argument_moves, block_facts, start_facts,
     stated,
@@ -55,49 +53,37 @@ impl Doing<'_, '_> {
         shares: &[Share<'_>],
     ) -> Result<Sum, OutOfMemory> {
         let done = amount(counted.of_work(self.work));
-        let mut rest = less_number(alloc, counted.of_left(&self.block.left), done)?;
+        let left = counted.of_left(&self.block.left);
+        let mut rest = plus_form(number_sum(alloc, 0i128.saturating_sub(done)), &[], left)?;
         for share in shares {
-            let next = put_in(alloc, share.moves, counted.of_left(share.left))?;
-            rest = less_sum(rest, &next)?;
+            rest = less_form(rest, share.moves, counted.of_left(share.left))?;
         }
         Ok(rest)
     }
 
-    /// What is left at the block's start, and what it does of that.
-    fn push_own(
-        &self,
-        alloc: Global,
-        counted: Counted,
-        out: &mut String,
-    ) -> Result<(), OutOfMemory> {
+    /// What is left at the block's start, what it does of that, and what is left at each of these places.
+    fn push_sides(&self, counted: Counted, shares: &[Share<'_>], out: &mut TextBuffer) {
         let word = counted.word();
         let done = counted.of_work(self.work);
         let scene = self.trying.known.scene;
-        write!(out, "  {word}: left ")?;
-        push_form(alloc, scene, counted.of_left(&self.block.left), out)?;
-        Ok(write!(out, ", the block does {done}")?)
-    }
-
-    fn push_share(
-        &self,
-        alloc: Global,
-        counted: Counted,
-        share: &Share<'_>,
-        out: &mut String,
-    ) -> Result<(), OutOfMemory> {
-        let scene = self.trying.known.scene;
-        let label = scene.label(share.to);
-        write!(out, ", left at %{label} ")?;
-        push_form(alloc, scene, counted.of_left(share.left), out)
+        write!(out, "  {word}: left ");
+        push_form(scene, counted.of_left(&self.block.left), out);
+        write!(out, ", the block does {done}");
+        for share in shares {
+            let label = scene.label(share.to);
+            write!(out, ", left at %{label} ");
+            push_form(scene, counted.of_left(share.left), out);
+        }
+        out.push_str("\n");
     }
 
     /// The edge, where there is only one.
-    fn push_edge_to(&self, shares: &[Share<'_>], out: &mut String) -> Result<(), OutOfMemory> {
+    fn push_edge_to(&self, shares: &[Share<'_>], out: &mut TextBuffer) {
         if let [only] = shares {
             let label = self.trying.known.scene.label(only.to);
-            write!(out, " on the edge to %{label}")?;
+            write!(out, " on the edge to %{label}");
         }
-        Ok(())
+        out.push_str("\n");
     }
 
     /// How much too little is left: a number, or what is to be shown.
@@ -107,40 +93,18 @@ impl Doing<'_, '_> {
         counted: Counted,
         shares: &[Share<'_>],
         rest: &Sum,
-        out: &mut String,
+        out: &mut TextBuffer,
     ) -> Result<(), Unanswered> {
-        match lack_of(alloc, rest)? {
-            Some(lack) => {
-                let unit = counted.unit();
-                let plural = if lack == 1 { "" } else { "s" };
-                write!(out, "    {lack} {unit}{plural} too few")?;
-                self.push_edge_to(shares, out)?;
-                Ok(out.push_str("\n")?)
-            }
-            None => {
-                out.push_str("    that may be too few")?;
-                self.push_edge_to(shares, out)?;
-                out.push_str("\n")?;
-                self.trying.push_detail(alloc, rest, "    ", out)
-            }
+        if let Some(lack) = lack_of(alloc, rest)? {
+            let unit = counted.unit();
+            let plural = if lack == 1 { "" } else { "s" };
+            write!(out, "    {lack} {unit}{plural} too few");
+            self.push_edge_to(shares, out);
+            return Ok(());
         }
-    }
-
-    /// Both sides of what is not covered.
-    fn push_sides(
-        &self,
-        alloc: Global,
-        counted: Counted,
-        shares: &[Share<'_>],
-        rest: &Sum,
-        out: &mut String,
-    ) -> Result<(), Unanswered> {
-        self.push_own(alloc, counted, out)?;
-        for share in shares {
-            self.push_share(alloc, counted, share, out)?;
-        }
-        out.push_str("\n")?;
-        self.push_too_little(alloc, counted, shares, rest, out)
+        out.push_str("    that may be too few");
+        self.push_edge_to(shares, out);
+        self.trying.push_detail(alloc, rest, "    ", out)
     }
 
     fn push_counted(
@@ -148,14 +112,14 @@ impl Doing<'_, '_> {
         alloc: Global,
         counted: Counted,
         shares: &[Share<'_>],
-        out: &mut String,
-    ) -> Result<bool, Unanswered> {
+        out: &mut TextBuffer,
+    ) -> Result<(), Unanswered> {
         let rest = self.rest(alloc, counted, shares)?;
         if self.trying.known.shows(alloc, &rest)? {
-            return Ok(false);
+            return Ok(());
         }
-        self.push_sides(alloc, counted, shares, &rest, out)?;
-        Ok(true)
+        self.push_sides(counted, shares, out);
+        self.push_too_little(alloc, counted, shares, &rest, out)
     }
 
     /// What there is to say where the block does not leave what is left at all of these places; nothing where it does.
@@ -163,11 +127,10 @@ impl Doing<'_, '_> {
         &self,
         alloc: Global,
         shares: &[Share<'_>],
-        notes: &mut String,
+        notes: &mut TextBuffer,
     ) -> Result<(), Unanswered> {
         self.push_counted(alloc, Counted::SelfCalls, shares, notes)?;
-        self.push_counted(alloc, Counted::Instructions, shares, notes)?;
-        Ok(())
+        self.push_counted(alloc, Counted::Instructions, shares, notes)
     }
 
     /// 702 with these notes, if there are any: of a block without a `left` line that it has none, and which would do.
@@ -178,17 +141,13 @@ impl Doing<'_, '_> {
         notes: String,
         findings: &mut Vec<Finding>,
     ) -> Result<(), Unanswered> {
-        if notes.is_empty() {
-            return Ok(());
-        }
-        let line = self.trying.known.line;
         let has_left = self.block.left.line != self.block.line;
-        if has_left || !self.trying.is_told() {
-            return Ok(push_finding(findings, 702, line, notes)?);
-        }
-        let mut notes = String::new(alloc);
-        push_missing_left(alloc, self.trying, self.block, self.work, needs, &mut notes)?;
-        Ok(push_finding(findings, 702, line, notes)?)
+        let notes = if notes.is_empty() || has_left || !self.trying.is_told() {
+            notes
+        } else {
+            missing_left(alloc, self.trying, self.block, self.work, needs)?
+        };
+        Ok(push_if_any(findings, 702, self.trying.known.line, notes)?)
     }
 }
 
@@ -204,18 +163,16 @@ fn share_of<'a>(function: &'a Function, to: BlockId, moves: &'a [Move]) -> Optio
     }
 }
 
-/// What there is to say of an edge where this is known.
+/// What there is to say of an edge to this place where this is known.
 fn push_edge(
     alloc: Global,
     doing: Doing<'_, '_>,
     edge: &EdgeFacts,
-    notes: &mut String,
+    share: Share<'_>,
+    notes: &mut TextBuffer,
 ) -> Result<(), Unanswered> {
     let known = doing.trying.known;
     let facts = edge_known(alloc, known.facts, edge)?;
-    let Some(share) = share_of(known.scene.function, edge.to, edge.moves.as_slice()) else {
-        return Ok(());
-    };
     let there = Doing {
         trying: doing.trying.with_known(Known {
             facts: facts.as_slice(),
@@ -226,14 +183,6 @@ fn push_edge(
     there.push_lack(alloc, &[share], notes)
 }
 
-/// What comes next along an edge.
-fn need_of<'a>(function: &'a Function, edge: &'a EdgeFacts) -> Option<Need<'a>> {
-    match share_of(function, edge.to, edge.moves.as_slice()) {
-        Some(share) => Some(Need::one(share)),
-        None => None,
-    }
-}
-
 /// 702 on each edge.
 fn push_edges(
     alloc: Global,
@@ -242,15 +191,19 @@ fn push_edges(
     findings: &mut Vec<Finding>,
 ) -> Result<(), Unanswered> {
     let function = doing.trying.known.scene.function;
-    let mut notes = String::new(alloc);
-    let mut needs: Vec<Need<'_>> = Vec::new(alloc);
+    let mut notes = TextBuffer::new(alloc);
+    let mut needs: ListBuffer<Need<'_>> = ListBuffer::new(alloc);
     for edge in edges {
-        push_edge(alloc, doing, edge, &mut notes)?;
-        if let Some(need) = need_of(function, edge) {
-            needs.push(need)?;
+        if let Some(share) = share_of(function, edge.to, edge.moves.as_slice()) {
+            push_edge(alloc, doing, edge, share, &mut notes)?;
+            needs.push(Need {
+                first: Some(share),
+                second: None,
+            });
         }
     }
-    doing.push_fault(alloc, needs.as_slice(), notes, findings)
+    let needs = needs.finish()?;
+    doing.push_fault(alloc, needs.as_slice(), notes.finish()?, findings)
 }
 
 /// 702 where all of this comes next.
@@ -261,9 +214,9 @@ fn push_all(
     shares: &[Share<'_>],
     findings: &mut Vec<Finding>,
 ) -> Result<(), Unanswered> {
-    let mut notes = String::new(alloc);
+    let mut notes = TextBuffer::new(alloc);
     doing.push_lack(alloc, shares, &mut notes)?;
-    doing.push_fault(alloc, &[need], notes, findings)
+    doing.push_fault(alloc, &[need], notes.finish()?, findings)
 }
 
 /// 702 at a terminator.
@@ -277,7 +230,11 @@ fn push_ending(
     let function = doing.trying.known.scene.function;
     match &ending.terminator {
         Terminator::Return { .. } | Terminator::Reattach { .. } => {
-            push_all(alloc, doing, Need::nothing(), &[], findings)
+            let nothing = Need {
+                first: None,
+                second: None,
+            };
+            push_all(alloc, doing, nothing, &[], findings)
         }
         Terminator::Detach {
             body,
@@ -286,9 +243,12 @@ fn push_ending(
         } => {
             let child = share_of(function, *body, &[]);
             let parent = share_of(function, *continuation, &[]);
+            let need = Need {
+                first: child,
+                second: parent,
+            };
             match (child, parent) {
                 (Some(child), Some(parent)) => {
-                    let need = Need::two(child, parent);
                     push_all(alloc, doing, need, &[child, parent], findings)
                 }
                 _ => Ok(()),
@@ -298,36 +258,23 @@ fn push_ending(
     }
 }
 
-/// What is not so, or is not shown.
-fn push_unshown(
-    alloc: Global,
-    trying: Trying<'_, '_>,
-    what: &str,
-    sum: &Sum,
-    notes: &mut String,
-) -> Result<(), Unanswered> {
-    match lack_of(alloc, sum)? {
-        Some(lack) => Ok(writeln!(notes, "  not so, by {lack}: {what}")?),
-        None => {
-            writeln!(notes, "  not shown: {what}")?;
-            trying.push_detail(alloc, sum, "  ", notes)
-        }
-    }
-}
-
-/// A sum that is to be at least 0, where it is not shown to be.
+/// A sum that is to be at least 0, where it is not so, or is not shown.
 fn push_sum(
     alloc: Global,
     trying: Trying<'_, '_>,
     what: &str,
     sum: &Sum,
-    notes: &mut String,
+    notes: &mut TextBuffer,
 ) -> Result<(), Unanswered> {
     if trying.known.shows(alloc, sum)? {
-        Ok(())
-    } else {
-        push_unshown(alloc, trying, what, sum, notes)
+        return Ok(());
     }
+    if let Some(lack) = lack_of(alloc, sum)? {
+        writeln!(notes, "  not so, by {lack}: {what}");
+        return Ok(());
+    }
+    writeln!(notes, "  not shown: {what}");
+    trying.push_detail(alloc, sum, "  ", notes)
 }
 
 /// A form that is to be at least 0, where it is not shown to be.
@@ -336,9 +283,9 @@ fn push_low(
     trying: Trying<'_, '_>,
     what: &str,
     form: &Form,
-    notes: &mut String,
+    notes: &mut TextBuffer,
 ) -> Result<(), Unanswered> {
-    let sum = put_in(alloc, &[], form)?;
+    let sum = plus_form(number_sum(alloc, 0), &[], form)?;
     push_sum(alloc, trying, what, &sum, notes)
 }
 
@@ -349,9 +296,9 @@ fn push_high(
     what: &str,
     number: u64,
     form: &Form,
-    notes: &mut String,
+    notes: &mut TextBuffer,
 ) -> Result<(), Unanswered> {
-    let sum = number_less(alloc, i128::from(number), &[], form)?;
+    let sum = less_form(number_sum(alloc, i128::from(number)), &[], form)?;
     push_sum(alloc, trying, what, &sum, notes)
 }
 
@@ -360,11 +307,11 @@ fn push_if_any(
     number: u16,
     line: u32,
     notes: String,
-) -> Result<(), Unanswered> {
-    if !notes.is_empty() {
-        push_finding(findings, number, line, notes)?;
+) -> Result<(), OutOfMemory> {
+    if notes.is_empty() {
+        return Ok(());
     }
-    Ok(())
+    push_finding(findings, number, line, notes)
 }
 
 /// 701 of a block.
@@ -374,31 +321,12 @@ fn push_start(
     left: &Left,
     findings: &mut Vec<Finding>,
 ) -> Result<(), Unanswered> {
-    let mut notes = String::new(alloc);
-    push_left_notes(alloc, trying, left, &mut notes)?;
-    push_if_any(findings, 701, left.line, notes)
-}
-
-fn push_left_notes(
-    alloc: Global,
-    trying: Trying<'_, '_>,
-    left: &Left,
-    notes: &mut String,
-) -> Result<(), Unanswered> {
-    push_low(
-        alloc,
-        trying,
-        "the self calls left are at least 0",
-        &left.self_calls,
-        notes,
-    )?;
-    push_low(
-        alloc,
-        trying,
-        "the instructions left are at least 0",
-        &left.instructions,
-        notes,
-    )
+    let mut notes = TextBuffer::new(alloc);
+    let what = "the self calls left are at least 0";
+    push_low(alloc, trying, what, &left.self_calls, &mut notes)?;
+    let what = "the instructions left are at least 0";
+    push_low(alloc, trying, what, &left.instructions, &mut notes)?;
+    Ok(push_if_any(findings, 701, left.line, notes.finish()?)?)
 }
 
 /// 703 of a self call.
@@ -420,7 +348,7 @@ fn push_call(
         return Ok(());
     }
     let notes = call_notes(alloc, trying, arguments.as_slice())?;
-    push_if_any(findings, 703, step.line, notes)
+    Ok(push_if_any(findings, 703, step.line, notes)?)
 }
 
 /// Whether the function has a `measure` line: where it has none, the measure stands on the function's own.
@@ -444,8 +372,9 @@ fn call_notes(
     trying: Trying<'_, '_>,
     arguments: &[Argument],
 ) -> Result<String, Unanswered> {
-    let mut notes = String::new(alloc);
+    let mut notes = TextBuffer::new(alloc);
     push_call_notes(alloc, trying, arguments, &mut notes)?;
+    let notes = notes.finish()?;
     if notes.is_empty() || has_measure(trying.known.scene.function) {
         Ok(notes)
     } else {
@@ -453,35 +382,20 @@ fn call_notes(
     }
 }
 
-/// What is not shown of the measure that a self call has.
+/// What is not shown of the measure that a self call has, by itself and beside the one here.
 fn push_call_notes(
     alloc: Global,
     trying: Trying<'_, '_>,
     arguments: &[Argument],
-    notes: &mut String,
+    notes: &mut TextBuffer,
 ) -> Result<(), Unanswered> {
     let form = &trying.known.scene.function.measure.form;
     let moves = argument_moves(alloc, arguments)?;
-    let next = put_in(alloc, moves.as_slice(), form)?;
-    push_next_notes(alloc, trying, form, &next, notes)
-}
-
-/// What is not shown of a measure beside that of the next call.
-fn push_next_notes(
-    alloc: Global,
-    trying: Trying<'_, '_>,
-    form: &Form,
-    next: &Sum,
-    notes: &mut String,
-) -> Result<(), Unanswered> {
-    push_sum(
-        alloc,
-        trying,
-        "the call's measure is at least 0",
-        next,
-        notes,
-    )?;
-    let falls = less_sum(less_number(alloc, form, 1)?, next)?;
+    let next = plus_form(number_sum(alloc, 0), moves.as_slice(), form)?;
+    let what = "the call's measure is at least 0";
+    push_sum(alloc, trying, what, &next, notes)?;
+    let below = plus_form(number_sum(alloc, -1), &[], form)?;
+    let falls = less_form(below, moves.as_slice(), form)?;
     let what = "the call's measure is below the one here";
     push_sum(alloc, trying, what, &falls, notes)
 }
@@ -519,21 +433,13 @@ fn push_measure(
     findings: &mut Vec<Finding>,
 ) -> Result<(), Unanswered> {
     let measure = &trying.known.scene.function.measure;
-    let mut notes = String::new(alloc);
-    push_measure_notes(alloc, trying, measure, &mut notes)?;
-    push_if_any(findings, 703, measure.line, notes)
-}
-
-fn push_measure_notes(
-    alloc: Global,
-    trying: Trying<'_, '_>,
-    measure: &Measure,
-    notes: &mut String,
-) -> Result<(), Unanswered> {
     let form = &measure.form;
-    push_low(alloc, trying, "the measure is at least 0", form, notes)?;
+    let mut notes = TextBuffer::new(alloc);
+    let what = "the measure is at least 0";
+    push_low(alloc, trying, what, form, &mut notes)?;
     let what = "the measure is at most its bound";
-    push_high(alloc, trying, what, measure.bound, form, notes)
+    push_high(alloc, trying, what, measure.bound, form, &mut notes)?;
+    Ok(push_if_any(findings, 703, measure.line, notes.finish()?)?)
 }
 
 fn push_budget(
@@ -543,36 +449,21 @@ fn push_budget(
     findings: &mut Vec<Finding>,
 ) -> Result<(), Unanswered> {
     let budget = &trying.known.scene.function.budget;
-    let mut notes = String::new(alloc);
-    push_budget_notes(alloc, trying, budget, left, &mut notes)?;
-    push_if_any(findings, 704, budget.line, notes)
-}
-
-fn push_budget_notes(
-    alloc: Global,
-    trying: Trying<'_, '_>,
-    budget: &Budget,
-    left: &Left,
-    notes: &mut String,
-) -> Result<(), Unanswered> {
+    let calls = budget.self_calls;
+    let instructions = budget.instructions;
+    let mut notes = TextBuffer::new(alloc);
     let what = "the self calls left at the entry are within the budget";
-    push_high(
-        alloc,
-        trying,
-        what,
-        budget.self_calls,
-        &left.self_calls,
-        notes,
-    )?;
+    push_high(alloc, trying, what, calls, &left.self_calls, &mut notes)?;
     let what = "the instructions left at the entry are within the budget";
     push_high(
         alloc,
         trying,
         what,
-        budget.instructions,
+        instructions,
         &left.instructions,
-        notes,
-    )
+        &mut notes,
+    )?;
+    Ok(push_if_any(findings, 704, budget.line, notes.finish()?)?)
 }
 
 /// 705 of a function.
@@ -587,11 +478,9 @@ fn push_whole(
     if cost <= GREATEST_COST {
         return Ok(());
     }
-    let mut notes = String::new(alloc);
     let more = if cost == u64::MAX { " or more" } else { "" };
-    writeln!(
-        notes,
-        "  a call of measure {measure} may cost {cost}{more}; the greatest is {GREATEST_COST}"
+    let notes = format!(in alloc;
+        "  a call of measure {measure} may cost {cost}{more}; the greatest is {GREATEST_COST}\n"
     )?;
     push_finding(findings, 705, scene.function.line, notes)
 }

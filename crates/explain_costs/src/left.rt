@@ -1,12 +1,13 @@
 //! What is said of a block without a `left` line, and the line that would do.
 
-use crate::sums::{Counted, Share, amount, less_sum, plus_sum, put_in};
+use crate::sums::{Counted, Share, amount, less_form, number_sum, plus_form};
+use buffers::TextBuffer;
 use cost_table::Work;
-use explain_facts::{Scene, Trying, push_form};
-use linear::{Fact, Form, FormFault, RegisterId};
-use lists::{OutOfMemory, Seq};
+use explain_facts::{Scene, Trying, push_form, within_bounds};
+use linear::{Fact, Form, RegisterId};
+use lists::OutOfMemory;
 use program::{Block, Function, Instruction, Step};
-use ranges::{Sum, Unanswered, sum_form};
+use ranges::{Unanswered, sum_form};
 use std::alloc::Global;
 
 /// A number that no coefficient of a form reaches: 2^24.
@@ -15,31 +16,8 @@ const FACTOR_LIMIT: u64 = 16_777_216;
 /// What comes next behind a block, on one of its ways: what is left at no place, at one, or at both targets of a detach.
 #[derive(Clone, Copy)]
 pub struct Need<'a> {
-    first: Option<Share<'a>>,
-    second: Option<Share<'a>>,
-}
-
-impl<'a> Need<'a> {
-    pub fn nothing() -> Need<'a> {
-        Need {
-            first: None,
-            second: None,
-        }
-    }
-
-    pub fn one(share: Share<'a>) -> Need<'a> {
-        Need {
-            first: Some(share),
-            second: None,
-        }
-    }
-
-    pub fn two(first: Share<'a>, second: Share<'a>) -> Need<'a> {
-        Need {
-            first: Some(first),
-            second: Some(second),
-        }
-    }
+    pub first: Option<Share<'a>>,
+    pub second: Option<Share<'a>>,
 }
 
 /// A block without a `left` line, with what it does.
@@ -101,11 +79,7 @@ fn by_fact(
     if factor.unsigned_abs() >= FACTOR_LIMIT {
         return Ok(None);
     }
-    match form.copy(alloc)?.plus_multiple(factor, &fact.form) {
-        Ok(form) => Ok(Some(form)),
-        Err(FormFault::Bounds) => Ok(None),
-        Err(FormFault::Memory) => Err(OutOfMemory),
-    }
+    within_bounds(form.copy(alloc)?.plus_multiple(factor, &fact.form))
 }
 
 /// The coefficient that a register has in a form.
@@ -141,44 +115,12 @@ fn named_by(step: &Step, form: &Form) -> Option<RegisterId> {
     }
 }
 
-/// A sum and what is left at a place.
-fn plus_share(
-    alloc: Global,
-    sum: Sum,
-    counted: Counted,
-    share: &Share<'_>,
-) -> Result<Sum, OutOfMemory> {
-    let next = put_in(alloc, share.moves, counted.of_left(share.left))?;
-    plus_sum(sum, &next)
-}
-
 /// Whether a block has a `left` line: where it has none, what is left stands on the label's own.
 fn has_left(function: &Function, share: &Share<'_>) -> bool {
     match function.blocks.as_slice().get(share.to.0) {
         Some(block) => block.left.line != block.line,
         None => false,
     }
-}
-
-/// What is left at a place behind a block, or that the place has no line for that.
-fn push_share(
-    alloc: Global,
-    scene: &Scene<'_>,
-    share: &Share<'_>,
-    out: &mut String,
-) -> Result<(), OutOfMemory> {
-    let label = scene.label(share.to);
-    if !has_left(scene.function, share) {
-        return Ok(writeln!(
-            out,
-            "    behind it comes %{label}, which has no `left` line either"
-        )?);
-    }
-    write!(out, "    behind it comes %{label}, with `left ")?;
-    push_form(alloc, scene, &share.left.self_calls, out)?;
-    out.push_str(" ")?;
-    push_form(alloc, scene, &share.left.instructions, out)?;
-    Ok(out.push_str("`\n")?)
 }
 
 impl Bare<'_, '_> {
@@ -193,15 +135,12 @@ impl Bare<'_, '_> {
         counted: Counted,
         need: Need<'_>,
     ) -> Result<Option<Form>, OutOfMemory> {
-        let mut sum = Sum {
-            constant: amount(counted.of_work(self.work)),
-            parts: Seq::new(alloc),
-        };
-        if let Some(share) = &need.first {
-            sum = plus_share(alloc, sum, counted, share)?;
+        let mut sum = number_sum(alloc, amount(counted.of_work(self.work)));
+        if let Some(share) = need.first {
+            sum = plus_form(sum, share.moves, counted.of_left(share.left))?;
         }
-        if let Some(share) = &need.second {
-            sum = plus_share(alloc, sum, counted, share)?;
+        if let Some(share) = need.second {
+            sum = plus_form(sum, share.moves, counted.of_left(share.left))?;
         }
         sum_form(alloc, &sum)
     }
@@ -232,7 +171,8 @@ impl Bare<'_, '_> {
 
     /// Whether one form is known to be at least another.
     fn is_at_least(&self, alloc: Global, high: &Form, low: &Form) -> Result<bool, Unanswered> {
-        let difference = less_sum(put_in(alloc, &[], high)?, &put_in(alloc, &[], low)?)?;
+        let high = plus_form(number_sum(alloc, 0), &[], high)?;
+        let difference = less_form(high, &[], low)?;
         self.trying.known.shows(alloc, &difference)
     }
 
@@ -283,89 +223,91 @@ impl Bare<'_, '_> {
         &self,
         alloc: Global,
         wanted: &Wanted,
-        out: &mut String,
+        out: &mut TextBuffer,
     ) -> Result<(), Unanswered> {
-        let mut line = String::from_str(alloc, ";! left ")?;
-        push_form(alloc, self.scene(), &wanted.self_calls, &mut line)?;
-        line.push_str(" ")?;
-        push_form(alloc, self.scene(), &wanted.instructions, &mut line)?;
+        let mut line = TextBuffer::new(alloc);
+        line.push_str(";! left ");
+        push_form(self.scene(), &wanted.self_calls, &mut line);
+        line.push_str(" ");
+        push_form(self.scene(), &wanted.instructions, &mut line);
+        let line = line.finish()?;
         let after = self.block.line;
         if self.trying.is_line(alloc, line.as_str(), after)? {
-            writeln!(out, "    try: {line}, after line {after}")?;
+            writeln!(out, "    try: {line}, after line {after}");
         }
         Ok(())
     }
 
     /// What the block does, for which nothing is left.
-    fn push_head(&self, out: &mut String) -> Result<(), OutOfMemory> {
+    fn push_head(&self, out: &mut TextBuffer) {
         let label = self.scene().label(self.trying.known.block);
         let instructions = self.work.instructions;
         let plural = if instructions == 1 { "" } else { "s" };
         write!(
             out,
             "  %{label} has no `left` line, so nothing is left there: it does {instructions} instruction{plural}"
-        )?;
+        );
         if self.work.calls > 0 {
             let calls = self.work.calls;
             let plural = if calls == 1 { "" } else { "s" };
-            write!(out, " and {calls} self call{plural}")?;
+            write!(out, " and {calls} self call{plural}");
         }
-        Ok(out.push_str("\n")?)
+        out.push_str("\n");
+    }
+
+    /// What is left at a place behind the block; false where the place has no line for that.
+    fn push_share(&self, place: Option<Share<'_>>, out: &mut TextBuffer) -> bool {
+        let Some(share) = place else {
+            return true;
+        };
+        let scene = self.scene();
+        let label = scene.label(share.to);
+        write!(out, "    behind it comes %{label}, ");
+        if !has_left(scene.function, &share) {
+            out.push_str("which has no `left` line either\n");
+            return false;
+        }
+        out.push_str("with `left ");
+        push_form(scene, &share.left.self_calls, out);
+        out.push_str(" ");
+        push_form(scene, &share.left.instructions, out);
+        out.push_str("`\n");
+        true
     }
 
     /// What comes next on each way; false where something of it has no `left` line itself.
-    fn push_shares(
-        &self,
-        alloc: Global,
-        shares: &[Share<'_>],
-        out: &mut String,
-    ) -> Result<bool, OutOfMemory> {
+    fn push_needs(&self, needs: &[Need<'_>], out: &mut TextBuffer) -> bool {
         let mut is_whole = true;
-        for share in shares {
-            push_share(alloc, self.scene(), share, out)?;
-            is_whole = is_whole && has_left(self.scene().function, share);
+        for need in needs {
+            let is_first_whole = self.push_share(need.first, out);
+            let is_second_whole = self.push_share(need.second, out);
+            is_whole = is_whole && is_first_whole && is_second_whole;
         }
-        Ok(is_whole)
+        is_whole
     }
 }
 
-/// The places behind a block.
-fn shares_of<'a>(alloc: Global, needs: &[Need<'a>]) -> Result<Vec<Share<'a>>, OutOfMemory> {
-    let mut shares: Vec<Share<'a>> = Vec::new(alloc);
-    for need in needs {
-        if let Some(share) = need.first {
-            shares.push(share)?;
-        }
-        if let Some(share) = need.second {
-            shares.push(share)?;
-        }
-    }
-    Ok(shares)
-}
-
-/// Says that the block has no `left` line, what it does and what comes next on each of its ways, and a line that would do.
-pub fn push_missing_left(
+/// That the block has no `left` line, what it does and what comes next on each of its ways, and a line that would do.
+pub fn missing_left(
     alloc: Global,
     trying: Trying<'_, '_>,
     block: &Block,
     work: Work,
     needs: &[Need<'_>],
-    out: &mut String,
-) -> Result<(), Unanswered> {
+) -> Result<String, Unanswered> {
     let bare = Bare {
         trying,
         block,
         work,
     };
-    bare.push_head(out)?;
-    let shares = shares_of(alloc, needs)?;
-    if !bare.push_shares(alloc, shares.as_slice(), out)? {
-        return Ok(out.push_str(
+    let mut out = TextBuffer::new(alloc);
+    bare.push_head(&mut out);
+    if !bare.push_needs(needs, &mut out) {
+        out.push_str(
             "    begin with the last blocks; in a loop `tapirvm annotate` finds the lines where the counter has bounds\n",
-        )?);
+        );
+    } else if let Some(wanted) = bare.most_wanted(alloc, needs)? {
+        bare.push_line(alloc, &wanted, &mut out)?;
     }
-    match bare.most_wanted(alloc, needs)? {
-        Some(wanted) => bare.push_line(alloc, &wanted, out),
-        None => Ok(()),
-    }
+    Ok(out.finish()?)
 }

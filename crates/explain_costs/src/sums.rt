@@ -57,69 +57,34 @@ pub fn amount(done: u128) -> i128 {
     i128::try_from(done).unwrap_or(i128::MAX)
 }
 
-/// A form, less a number.
-pub fn less_number(alloc: Global, form: &Form, done: i128) -> Result<Sum, OutOfMemory> {
-    let side = side_of(form);
-    let mut parts = Vec::new(alloc);
-    push_parts(&mut parts, &[], 1, side.terms)?;
-    Ok(Sum {
-        constant: side.constant.saturating_sub(done),
-        parts: Seq::from_vec(parts),
-    })
+/// A number alone.
+pub fn number_sum(alloc: Global, number: i128) -> Sum {
+    Sum {
+        constant: number,
+        parts: Seq::new(alloc),
+    }
 }
 
-/// A number, less a form with the moves put in.
-pub fn number_less(
-    alloc: Global,
-    number: i128,
-    moves: &[Move],
-    form: &Form,
-) -> Result<Sum, OutOfMemory> {
+/// A sum, and a form with the moves put in.
+pub fn plus_form(sum: Sum, moves: &[Move], form: &Form) -> Result<Sum, OutOfMemory> {
+    let Sum { constant, parts } = sum;
     let side = side_of(form);
-    let mut parts = Vec::new(alloc);
-    push_parts(&mut parts, moves, -1, side.terms)?;
-    Ok(Sum {
-        constant: number.saturating_sub(side.constant),
-        parts: Seq::from_vec(parts),
-    })
-}
-
-/// A form with the moves put in.
-pub fn put_in(alloc: Global, moves: &[Move], form: &Form) -> Result<Sum, OutOfMemory> {
-    let side = side_of(form);
-    let mut parts = Vec::new(alloc);
+    let mut parts = parts.into_vec();
     push_parts(&mut parts, moves, 1, side.terms)?;
     Ok(Sum {
-        constant: side.constant,
+        constant: constant.saturating_add(side.constant),
         parts: Seq::from_vec(parts),
     })
 }
 
-/// A sum, less another.
-pub fn less_sum(left: Sum, right: &Sum) -> Result<Sum, OutOfMemory> {
-    let Sum { constant, parts } = left;
+/// A sum, less a form with the moves put in.
+pub fn less_form(sum: Sum, moves: &[Move], form: &Form) -> Result<Sum, OutOfMemory> {
+    let Sum { constant, parts } = sum;
+    let side = side_of(form);
     let mut parts = parts.into_vec();
-    for part in right.parts.as_slice() {
-        parts.push(ranges::Part {
-            factor: 0i64.saturating_sub(part.factor),
-            operand: part.operand,
-        })?;
-    }
+    push_parts(&mut parts, moves, -1, side.terms)?;
     Ok(Sum {
-        constant: constant.saturating_sub(right.constant),
-        parts: Seq::from_vec(parts),
-    })
-}
-
-/// The sum of two.
-pub fn plus_sum(left: Sum, right: &Sum) -> Result<Sum, OutOfMemory> {
-    let Sum { constant, parts } = left;
-    let mut parts = parts.into_vec();
-    for part in right.parts.as_slice() {
-        parts.push(*part)?;
-    }
-    Ok(Sum {
-        constant: constant.saturating_add(right.constant),
+        constant: constant.saturating_sub(side.constant),
         parts: Seq::from_vec(parts),
     })
 }
