@@ -96,11 +96,9 @@ fn push_quoted(alloc: Global, out: &mut TextBuffer, text: &str) -> Result<(), Al
 /// The lines of the source, as a list of texts.
 fn push_source(alloc: Global, out: &mut TextBuffer, source: &str) -> Result<(), AllocError> {
     out.push_str("\"source\":[");
-    let mut before = "\n";
-    for line in source.lines() {
-        out.push_str(before);
+    for (number, line) in source.lines().enumerate() {
+        out.push_str(if number == 0 { "\n" } else { ",\n" });
         push_quoted(alloc, out, line)?;
-        before = ",\n";
     }
     out.push_str("],\n");
     Ok(())
