@@ -12,30 +12,3 @@ returns-then-not-is_at_most c =
       λ h. absurd (false≢true h),
       λ s. absurd (false≢true (sym c.if-not-is_at_most.true ∙ c.is_at_most.ensures.1 (simp to_z-of_z (rw (c.requires.first.constant, c.requires.second.constant, c.side_of.ensures.constant) s.constant)))),
     )
-
-pub is_at_most-requires-clause-a : goal.is_at_most-requires-clause-a
-is_at_most-requires-clause-a c = search rules
-
-pub is_at_most-requires-clause-b : goal.is_at_most-requires-clause-b
-is_at_most-requires-clause-b c = search rules
-
-pub is_at_most-requires-clause-f : goal.is_at_most-requires-clause-f
-is_at_most-requires-clause-f c = search rules
-
-pub is_at_most-requires-clause-g : goal.is_at_most-requires-clause-g
-is_at_most-requires-clause-g c = search rules
-
-pub is_sum_at-requires-clause-first : goal.is_sum_at-requires-clause-first
-is_sum_at-requires-clause-first c = search rules
-
-pub is_sum_at-requires-clause-second : goal.is_sum_at-requires-clause-second
-is_sum_at-requires-clause-second c = search rules
-
-pub is_sum_at-requires-clause-a : goal.is_sum_at-requires-clause-a
-is_sum_at-requires-clause-a c = search rules
-
-pub is_sum_at-requires-clause-b : goal.is_sum_at-requires-clause-b
-is_sum_at-requires-clause-b c = search rules
-
-pub returns : goal.returns
-returns c = search rules

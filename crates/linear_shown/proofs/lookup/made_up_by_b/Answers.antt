@@ -1,4 +1,4 @@
-use Rattle.std.proofs.Common.{◌++◌, ◌≡◌, ◌∙◌, ◌<◌, ℕ, List, refl, get_or, length, ap, sym, subst, arith, rules}
+use Rattle.std.proofs.Common.{◌++◌, ◌≡◌, ◌∙◌, ◌<◌, ℕ, List, refl, get_or, length, ap, sym, subst, arith}
 use Rattle.std.proofs.lemmas.Bool.{false≢true}
 use Rattle.std.proofs.lemmas.List.Elements.{All-more}
 use Rattle.linear.specs.declared.form.Term.{Term}
@@ -41,36 +41,3 @@ returns c = (
   λ h. absurd (false≢true h),
   λ s. absurd (none_found (λ (x : ℕ). IsMadeUpWith c.args.search.now.facts.now c.args.search.now.form.now (c.args.search.now.layers.settled.now ++ c.args.search.now.layers.recent.now) c.args.a x) (factors c.args.search.now.form.now.terms) c.loop-index.index c.loop-index.invariant (rw (length_factors c.args.search.now.form.now.terms) (omega (arith, c.loop-index-test.false, ap length c.side_of.ensures.terms))) s.0 s.1 s.2),
 )
-
-pub overflow_add-count : goal.overflow_add-count
-overflow_add-count c = search rules
-
-pub loop-index-init : goal.loop-index-init
-loop-index-init c = search rules
-
-pub factor-b-requires-clause-index : goal.factor-b-requires-clause-index
-factor-b-requires-clause-index c = search rules
-
-pub factor-b-requires-clause-small : goal.factor-b-requires-clause-small
-factor-b-requires-clause-small c = search rules
-
-pub is_repeated-requires-clause-index : goal.is_repeated-requires-clause-index
-is_repeated-requires-clause-index c = search rules
-
-pub is_repeated-requires-clause-small : goal.is_repeated-requires-clause-small
-is_repeated-requires-clause-small c = search rules
-
-pub made_up_with-requires-clause-index : goal.made_up_with-requires-clause-index
-made_up_with-requires-clause-index c = search rules
-
-pub made_up_with-requires-clause-key : goal.made_up_with-requires-clause-key
-made_up_with-requires-clause-key c = search rules
-
-pub made_up_with-requires-clause-a : goal.made_up_with-requires-clause-a
-made_up_with-requires-clause-a c = search rules
-
-pub made_up_with-requires-clause-b : goal.made_up_with-requires-clause-b
-made_up_with-requires-clause-b c = search rules
-
-pub made_up_with-requires-clause-some : goal.made_up_with-requires-clause-some
-made_up_with-requires-clause-some c = search rules

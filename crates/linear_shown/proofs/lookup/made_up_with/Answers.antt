@@ -1,4 +1,4 @@
-use Rattle.std.proofs.Common.{◌∙◌, ◌++◌, inl, inr, refl, suc, length, sym, rules}
+use Rattle.std.proofs.Common.{◌∙◌, ◌++◌, inl, inr, refl, suc, length, sym}
 use Rattle.std.proofs.lemmas.Bool.{false≢true, cases_Bool}
 use Rattle.std.proofs.lemmas.List.Elements.{Contains-append_left, Contains-append_right}
 use Rattle.linear_shown.proofs.Layers.{layers_index}
@@ -72,33 +72,3 @@ returns c =
             (with_between facts (settled ++ recent) index e c.args.a c.args.b made))
       ],
     )
-
-pub made_up_within-requires-clause-entries : goal.made_up_within-requires-clause-entries
-made_up_within-requires-clause-entries c = search rules
-
-pub made_up_within-requires-clause-key : goal.made_up_within-requires-clause-key
-made_up_within-requires-clause-key c = search rules
-
-pub made_up_within-requires-clause-a : goal.made_up_within-requires-clause-a
-made_up_within-requires-clause-a c = search rules
-
-pub made_up_within-requires-clause-b : goal.made_up_within-requires-clause-b
-made_up_within-requires-clause-b c = search rules
-
-pub made_up_within-requires-clause-some : goal.made_up_within-requires-clause-some
-made_up_within-requires-clause-some c = search rules
-
-pub made_up_within-requires-2-clause-entries : goal.made_up_within-requires-2-clause-entries
-made_up_within-requires-2-clause-entries c = search rules
-
-pub made_up_within-requires-2-clause-key : goal.made_up_within-requires-2-clause-key
-made_up_within-requires-2-clause-key c = search rules
-
-pub made_up_within-requires-2-clause-a : goal.made_up_within-requires-2-clause-a
-made_up_within-requires-2-clause-a c = search rules
-
-pub made_up_within-requires-2-clause-b : goal.made_up_within-requires-2-clause-b
-made_up_within-requires-2-clause-b c = search rules
-
-pub made_up_within-requires-2-clause-some : goal.made_up_within-requires-2-clause-some
-made_up_within-requires-2-clause-some c = search rules

@@ -49,18 +49,3 @@ returns-clause-entered c =
     let invariant = rw (take_all c.loop-entry.entry-index c.args.fresh.now (omega (arith, c.loop-entry-test.false))) at c.loop-entry.invariant in
     rw c.in_ok-extend_from_slice-2.ensures.items
     (all_entered c.args.facts.now c.args.entries.now c.args.fresh.now c.loop-entry.rest.now c.loop-entry.all.items invariant)
-
-pub returns-in_err-reserve-clause-entries : goal.returns-in_err-reserve-clause-entries
-returns-in_err-reserve-clause-entries c = search rules
-
-pub returns-in_err-reserve-clause-kept : goal.returns-in_err-reserve-clause-kept
-returns-in_err-reserve-clause-kept c = search rules
-
-pub returns-in_err-reserve-clause-entered : goal.returns-in_err-reserve-clause-entered
-returns-in_err-reserve-clause-entered c = search rules
-
-pub loop-entry-init : goal.loop-entry-init
-loop-entry-init c = search rules
-
-pub offset_bounds-fresh-entry-index : goal.offset_bounds-fresh-entry-index
-offset_bounds-fresh-entry-index c = search rules

@@ -18,36 +18,3 @@ returns-then-is_at_most c =
       },
       λ s. c.agree.ensures.1 (sums_agree _ _ _ c.args.a c.args.b e.rising f.rising g.rising (rw (e.terms, f.terms, g.terms) s.terms)),
     )
-
-pub side_at-f-requires : goal.side_at-f-requires
-side_at-f-requires c = search rules
-
-pub side_at-g-requires : goal.side_at-g-requires
-side_at-g-requires c = search rules
-
-pub is_at_most-requires-clause-a : goal.is_at_most-requires-clause-a
-is_at_most-requires-clause-a c = search rules
-
-pub is_at_most-requires-clause-b : goal.is_at_most-requires-clause-b
-is_at_most-requires-clause-b c = search rules
-
-pub is_at_most-requires-clause-f : goal.is_at_most-requires-clause-f
-is_at_most-requires-clause-f c = search rules
-
-pub is_at_most-requires-clause-g : goal.is_at_most-requires-clause-g
-is_at_most-requires-clause-g c = search rules
-
-pub agree-requires-clause-a : goal.agree-requires-clause-a
-agree-requires-clause-a c = search rules
-
-pub agree-requires-clause-b : goal.agree-requires-clause-b
-agree-requires-clause-b c = search rules
-
-pub agree-requires-clause-f : goal.agree-requires-clause-f
-agree-requires-clause-f c = search rules
-
-pub agree-requires-clause-g : goal.agree-requires-clause-g
-agree-requires-clause-g c = search rules
-
-pub returns-else-is_at_most : goal.returns-else-is_at_most
-returns-else-is_at_most c = search rules

@@ -1,4 +1,4 @@
-use Rattle.std.proofs.Common.{◌∙◌, sym, get_or, rules}
+use Rattle.std.proofs.Common.{◌∙◌, sym, get_or}
 use Rattle.std.proofs.lemmas.Bool.{true≢false}
 use Rattle.linear_shown.proofs.Agreement.{agree_everywhere}
 use Rattle.linear_shown.proofs.show.agree.Goals.{then-agree_along, else-agree_along}
@@ -12,42 +12,3 @@ returns-then-agree_along-2 c = (
   ],
   λ all. c.agree_along-then-agree_along-2.ensures.1 (λ k d l. all (get_or c.args.g.now k d).register.0),
 )
-
-pub agree_along-requires-clause-a : goal.agree_along-requires-clause-a
-agree_along-requires-clause-a c = search rules
-
-pub agree_along-requires-clause-b : goal.agree_along-requires-clause-b
-agree_along-requires-clause-b c = search rules
-
-pub agree_along-requires-clause-f : goal.agree_along-requires-clause-f
-agree_along-requires-clause-f c = search rules
-
-pub agree_along-requires-clause-g : goal.agree_along-requires-clause-g
-agree_along-requires-clause-g c = search rules
-
-pub agree_along-requires-then-agree_along-clause-a : goal.agree_along-requires-then-agree_along-clause-a
-agree_along-requires-then-agree_along-clause-a c = search rules
-
-pub agree_along-requires-then-agree_along-clause-b : goal.agree_along-requires-then-agree_along-clause-b
-agree_along-requires-then-agree_along-clause-b c = search rules
-
-pub agree_along-requires-then-agree_along-clause-f : goal.agree_along-requires-then-agree_along-clause-f
-agree_along-requires-then-agree_along-clause-f c = search rules
-
-pub agree_along-requires-then-agree_along-clause-g : goal.agree_along-requires-then-agree_along-clause-g
-agree_along-requires-then-agree_along-clause-g c = search rules
-
-pub agree_along-requires-then-agree_along-2-clause-a : goal.agree_along-requires-then-agree_along-2-clause-a
-agree_along-requires-then-agree_along-2-clause-a c = search rules
-
-pub agree_along-requires-then-agree_along-2-clause-b : goal.agree_along-requires-then-agree_along-2-clause-b
-agree_along-requires-then-agree_along-2-clause-b c = search rules
-
-pub agree_along-requires-then-agree_along-2-clause-f : goal.agree_along-requires-then-agree_along-2-clause-f
-agree_along-requires-then-agree_along-2-clause-f c = search rules
-
-pub agree_along-requires-then-agree_along-2-clause-g : goal.agree_along-requires-then-agree_along-2-clause-g
-agree_along-requires-then-agree_along-2-clause-g c = search rules
-
-pub returns-else-agree_along-2 : goal.returns-else-agree_along-2
-returns-else-agree_along-2 c = search rules

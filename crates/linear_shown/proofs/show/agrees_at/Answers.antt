@@ -15,18 +15,3 @@ returns c =
     let of_g : c.scaled-of_g.result ≡ pos c.args.b *ℤ looked_up c.args.g.now c.args.register.0 = c.scaled-of_g.ensures.value ∙ ap (λ z. pos c.args.b *ℤ z) (to_z-of_z w64 c.coefficient-2.result fits_cg ∙ c.coefficient-2.ensures.value) in
     let both = same_bits w64 c.coefficient-3.result (c.scaled-of_f.result +ℤ c.scaled-of_g.result) _ fits_e (sum_fits_64 c.scaled-of_f.result c.scaled-of_g.result c.scaled-of_f.ensures.small c.scaled-of_g.ensures.small) (sum_is w64 c.scaled-of_f.result c.scaled-of_g.result fits_f fits_g) in
     rw (← of_f, ← of_g, ← c.coefficient-3.ensures.value) both
-
-pub scaled-of_f-requires-clause-factor : goal.scaled-of_f-requires-clause-factor
-scaled-of_f-requires-clause-factor c = search rules
-
-pub scaled-of_f-requires-clause-coefficient : goal.scaled-of_f-requires-clause-coefficient
-scaled-of_f-requires-clause-coefficient c = search rules
-
-pub scaled-of_g-requires-clause-factor : goal.scaled-of_g-requires-clause-factor
-scaled-of_g-requires-clause-factor c = search rules
-
-pub scaled-of_g-requires-clause-coefficient : goal.scaled-of_g-requires-clause-coefficient
-scaled-of_g-requires-clause-coefficient c = search rules
-
-pub overflow_add-result : goal.overflow_add-result
-overflow_add-result c = search rules

@@ -11,18 +11,3 @@ returns c =
     let of_f : c.scaled_constant.result ≡ pos c.args.a *ℤ c.args.f = c.scaled_constant.ensures.value ∙ ap (λ z. pos c.args.a *ℤ z) (to_z-of_z w128 c.args.f c.ranges.f) in
     let of_g : c.scaled_constant-2.result ≡ pos c.args.b *ℤ c.args.g = c.scaled_constant-2.ensures.value ∙ ap (λ z. pos c.args.b *ℤ z) (to_z-of_z w128 c.args.g c.ranges.g) in
     rw (← of_f, ← of_g) (le_bits w128 (c.scaled_constant.result +ℤ c.scaled_constant-2.result) _ c.args.e (sum_fits_128 c.scaled_constant.result c.scaled_constant-2.result c.scaled_constant.ensures.small c.scaled_constant-2.ensures.small) c.ranges.e (sum_is w128 c.scaled_constant.result c.scaled_constant-2.result fits_f fits_g))
-
-pub scaled_constant-requires-clause-factor : goal.scaled_constant-requires-clause-factor
-scaled_constant-requires-clause-factor c = search rules
-
-pub scaled_constant-requires-clause-constant : goal.scaled_constant-requires-clause-constant
-scaled_constant-requires-clause-constant c = search rules
-
-pub scaled_constant-requires-2-clause-factor : goal.scaled_constant-requires-2-clause-factor
-scaled_constant-requires-2-clause-factor c = search rules
-
-pub scaled_constant-requires-2-clause-constant : goal.scaled_constant-requires-2-clause-constant
-scaled_constant-requires-2-clause-constant c = search rules
-
-pub overflow_add-result : goal.overflow_add-result
-overflow_add-result c = search rules

@@ -1,4 +1,4 @@
-use Rattle.std.proofs.Common.{◌≡◌, true, false, suc, List, length, sym, subst, rules}
+use Rattle.std.proofs.Common.{◌≡◌, true, false, suc, List, length, sym, subst}
 use Rattle.linear.specs.declared.form.Fact.{Fact}
 use Rattle.linear_shown.specs.Tested.{is_shown}
 use Rattle.linear_shown.specs.Index.{IsBegun}
@@ -13,12 +13,3 @@ returns-then-is_negative c =
     let begun : IsBegun facts (suc (length facts)) settled recent true = rw c.if-self.true at (c.self.invariant c.if-not-self.false) in
     let not_shown = negative_not_shown facts settled recent begun c.args.form.now (c.is_negative.ensures c.if-is_negative.true) in
     subst (λ (known : List Fact). false ≡ is_shown known c.args.form.now) c.self.view_is (sym not_shown)
-
-pub returns-then-not-self : goal.returns-then-not-self
-returns-then-not-self c = search rules
-
-pub shown_by_index-requires : goal.shown_by_index-requires
-shown_by_index-requires c = search rules
-
-pub returns : goal.returns
-returns c = search rules
