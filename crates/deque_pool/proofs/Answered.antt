@@ -3,11 +3,11 @@ use Rattle.std.proofs.Common.{◌≡◌, ℕ, List, ℤ, Option, Some, refl, sub
 use Rattle.std.specs.Prelude.{None, Result, Ok, Err, IfErr, IfOk, IfSome, OnOk}
 use Rattle.semantics.specs.SerialMeaning.{Gave}
 use Rattle.program.specs.declared.function.Program.{Program}
-use Rattle.shared_run.specs.outcome.Serially.{memory_of_globals}
-use Rattle.shared_run.specs.outcome.Requirements.{unmet_in}
-use Rattle.shared_run.specs.outcome.declared.outcome.Finished.{Finished}
-use Rattle.shared_run.specs.outcome.declared.outcome.RunFault.{RunFault}
-use Rattle.shared_run.specs.outcome.declared.outcome.RunFault.TheVariants.{BadArguments, BadWorkers, OutOfMemory, Stopped}
+use Rattle.shared_run.specs.store.Serially.{memory_of_globals}
+use Rattle.shared_run.specs.store.Requirements.{unmet_in}
+use Rattle.shared_run.specs.store.declared.outcome.Finished.{Finished}
+use Rattle.shared_run.specs.store.declared.outcome.RunFault.{RunFault}
+use Rattle.shared_run.specs.store.declared.outcome.RunFault.TheVariants.{BadArguments, BadWorkers, OutOfMemory, Stopped}
 use Rattle.shared_run.specs.schedule_core.Admission.{IsAdmitted, IsNumberOfWorkers}
 use Rattle.shared_run.specs.store.Cells.{NamedCells}
 use Rattle.shared_run.specs.Answer.{IsSerialAnswer}

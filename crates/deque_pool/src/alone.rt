@@ -1,6 +1,6 @@
 //! The run of one worker alone: there is nobody to share with.
 ghost use Rattle.std.specs.Prelude.{◌≡◌, ℕ, None, IfErr, IfOk, OnOk};
-ghost use Rattle.shared_run.specs.outcome.Requirements.{unmet_in};
+ghost use Rattle.shared_run.specs.store.Requirements.{unmet_in};
 ghost use Rattle.shared_run.specs.store.Made.{IsMadeFor};
 ghost use Rattle.shared_run.specs.Answer.{IsSerialAnswer};
 ghost use Rattle.shared_run.specs.Story.{origin};

@@ -2,11 +2,11 @@
 use Rattle.std.proofs.Common.{◌≡◌, ℕ, List, ℤ, Option, Some, None, refl, sym, subst}
 use Rattle.std.specs.Prelude.{Result, Ok, Err, IfOk, IfErr, OnOk}
 use Rattle.program.specs.declared.function.Program.{Program}
-use Rattle.outcome.specs.Requirements.{unmet_in}
-use Rattle.outcome.specs.declared.outcome.Finished.{Finished}
-use Rattle.outcome.specs.declared.outcome.RunFault.{RunFault}
-use Rattle.outcome.specs.declared.outcome.RunFault.TheVariants.{BadArguments, BadWorkers, OutOfMemory, Stopped}
-use Rattle.outcome.specs.store.Cells.{NamedCells}
+use Rattle.store.specs.Requirements.{unmet_in}
+use Rattle.store.specs.declared.outcome.Finished.{Finished}
+use Rattle.store.specs.declared.outcome.RunFault.{RunFault}
+use Rattle.store.specs.declared.outcome.RunFault.TheVariants.{BadArguments, BadWorkers, OutOfMemory, Stopped}
+use Rattle.store.specs.Cells.{NamedCells}
 use Rattle.serial_machine.specs.Promise.{EndsOrLacksMemory, EndsWithinBudget}
 use Rattle.deque_pool_alone.specs.UnderWay.{IsRefusal}
 

@@ -3,9 +3,9 @@ use Rattle.std.proofs.Common.{◌≡◌, ℕ, suc, ◌+◌, ◌<◌, ◌≤◌, 
 use Rattle.std.proofs.Math.Logic.{∥∥₁_elim, ∥∥₁_map}
 use Rattle.std.proofs.Props.{props}
 use Rattle.program.specs.declared.function.Program.{Program}
-use Rattle.outcome.specs.store.Cells.{NamedCells}
-use Rattle.outcome.specs.store.Rows.{refilled}
-use Rattle.outcome.specs.verifier.Budgets.{budget_of}
+use Rattle.store.specs.Cells.{NamedCells}
+use Rattle.store.specs.Rows.{refilled}
+use Rattle.store.specs.verifier.Budgets.{budget_of}
 use Rattle.frame_engine.specs.Activation.{FrameFits}
 use Rattle.frame_engine.specs.declared.activation.Places.{Places}
 use Rattle.serial_stack.specs.Runs.{HasWalked, RunsTo}

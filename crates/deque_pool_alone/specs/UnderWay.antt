@@ -2,14 +2,14 @@
 use Rattle.std.specs.Prelude.{◌≡◌, ℕ, ◌<◌, List, length, map, None, Some, ℤ}
 use Rattle.program.specs.declared.function.Function.{Function}
 use Rattle.program.specs.declared.function.Program.{Program}
-use Rattle.outcome.specs.Requirements.{unmet_in}
-use Rattle.outcome.specs.declared.outcome.RunFault.{RunFault}
-use Rattle.outcome.specs.declared.outcome.RunFault.TheVariants.{BadArguments, BadWorkers, OutOfMemory, Stopped}
-use Rattle.outcome.specs.store.Cells.{NamedCells}
-use Rattle.outcome.specs.store.Made.{HasGlobalCells}
-use Rattle.outcome.specs.store.Rows.{row_of, sizes_of}
-use Rattle.outcome.specs.verifier.Accepted.{IsAccepted}
-use Rattle.outcome.specs.verifier.Budgets.{budget_of}
+use Rattle.store.specs.Requirements.{unmet_in}
+use Rattle.store.specs.declared.outcome.RunFault.{RunFault}
+use Rattle.store.specs.declared.outcome.RunFault.TheVariants.{BadArguments, BadWorkers, OutOfMemory, Stopped}
+use Rattle.store.specs.Cells.{NamedCells}
+use Rattle.store.specs.Made.{HasGlobalCells}
+use Rattle.store.specs.Rows.{row_of, sizes_of}
+use Rattle.store.specs.verifier.Accepted.{IsAccepted}
+use Rattle.store.specs.verifier.Budgets.{budget_of}
 use Rattle.frame_code.specs.Codes.{program_codes}
 use Rattle.frame_engine.specs.Starts.{alloca_starts, starts_from}
 use Rattle.frame_engine.specs.declared.activation.Places.{Places}

@@ -1,8 +1,8 @@
 ghost use Rattle.std.specs.Prelude.{◌≡◌, ◌≢◌, ◌<◌, Err, IfErr, IfNone, IfOk, IfSome, None};
-ghost use Rattle.outcome.specs.Requirements.{unmet_in};
-ghost use Rattle.outcome.specs.store.Made.{HasGlobalCells, IsMadeFor};
-ghost use Rattle.outcome.specs.verifier.Accepted.{IsAccepted};
-ghost use Rattle.outcome.specs.verifier.Budgets.{budget_of};
+ghost use Rattle.store.specs.Requirements.{unmet_in};
+ghost use Rattle.store.specs.Made.{HasGlobalCells, IsMadeFor};
+ghost use Rattle.store.specs.verifier.Accepted.{IsAccepted};
+ghost use Rattle.store.specs.verifier.Budgets.{budget_of};
 ghost use Rattle.serial_machine.specs.Promise.{EndsWithinBudget, TakesMore};
 ghost use Rattle.deque_pool_alone.specs.UnderWay.{GetsOn, IsRefusal, IsRunOf, IsUnderWay};
 
@@ -12,7 +12,7 @@ use crate::steps::{advance, is_at_border};
 use frame_engine::{Flat, Places, most_moves};
 use frame_strand::MOST;
 use lists::OutOfMemory;
-use outcome::{Finished, Memory, RunFault, Verified, unmet_requirement};
+use store::{Finished, Memory, RunFault, Verified, unmet_requirement};
 use program::Program;
 use serial_stack::Stack;
 use std::alloc::Global;

@@ -1,10 +1,10 @@
 ghost use Rattle.std.specs.Prelude.{◌≡◌, ◌≢◌, Err, IfErr, IfOk, None, OnOk};
-ghost use Rattle.outcome.specs.Requirements.{unmet_in};
-ghost use Rattle.outcome.specs.store.Made.{HasGlobalCells};
+ghost use Rattle.store.specs.Requirements.{unmet_in};
+ghost use Rattle.store.specs.Made.{HasGlobalCells};
 ghost use Rattle.serial_machine.specs.Promise.{EndsWithinBudget};
 ghost use Rattle.deque_pool_alone.specs.UnderWay.{IsRefusal};
 
-use outcome::{Finished, Memory, RunFault, Verified};
+use store::{Finished, Memory, RunFault, Verified};
 use serial_machine::serial_run;
 use std::alloc::Global;
 

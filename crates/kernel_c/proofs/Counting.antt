@@ -3,9 +3,9 @@ use Rattle.std.proofs.Common.{◌≡◌, ◌∙◌, ℕ, zero, suc, ◌-◌, ◌
 use Rattle.std.specs.Prelude.{IsSome, map, min, sum}
 use Rattle.program.specs.declared.function.Global.{Global}
 use Rattle.program.specs.declared.function.Program.{Program}
-use Rattle.outcome.specs.store.Cells.{NamedCells, cell_at}
-use Rattle.outcome.specs.store.Made.{HasGlobalCells, IsMadeFor}
-use Rattle.outcome.specs.store.Rows.{refilled, sizes_of}
+use Rattle.store.specs.Cells.{NamedCells, cell_at}
+use Rattle.store.specs.Made.{HasGlobalCells, IsMadeFor}
+use Rattle.store.specs.Rows.{refilled, sizes_of}
 use Rattle.serial_machine.proofs.Held.{sizes_kept}
 use Rattle.kernel_c.specs.Told.{cells_in, sizes_in}
 

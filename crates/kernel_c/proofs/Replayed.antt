@@ -8,10 +8,10 @@ use Rattle.semantics.specs.Frames.{Frame}
 use Rattle.semantics.specs.Replay.{NeverTraps, has_ended}
 use Rattle.semantics.specs.SerialMeaning.{Gave}
 use Rattle.schedule_core.specs.Admission.{IsNumberOfWorkers}
-use Rattle.outcome.specs.Requirements.{unmet_in}
-use Rattle.outcome.specs.store.Cells.{NamedCells}
-use Rattle.outcome.specs.store.Made.{HasGlobalCells}
-use Rattle.outcome.specs.verifier.Accepted.{IsAccepted}
+use Rattle.store.specs.Requirements.{unmet_in}
+use Rattle.store.specs.Cells.{NamedCells}
+use Rattle.store.specs.Made.{HasGlobalCells}
+use Rattle.store.specs.verifier.Accepted.{IsAccepted}
 use Rattle.schedule_core.specs.Replaying.{KeepsItsSchedule, Replays, event_of, first_state, state_after}
 use Rattle.schedule_core.specs.Stages.{IsState, given}
 use Rattle.schedule_core.specs.declared.stage.Stage.{Stage}

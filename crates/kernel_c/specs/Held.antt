@@ -1,7 +1,7 @@
 -- What a host is told of a handle.
 use Rattle.std.specs.Prelude.{◌≡◌, ◌≢◌, ◌⊎◌, ℕ, ◌*◌, List, length, sum, take, drop, Option, Some, None, ℤ, slice_get}
 use Rattle.program.specs.declared.function.Program.{Program}
-use Rattle.outcome.specs.Requirements.{unmet_in}
+use Rattle.store.specs.Requirements.{unmet_in}
 use Rattle.kernel_c.specs.Told.{Accepts, ExceedsProgram, IsRunStatus, RunsProgram, sizes_in}
 use Rattle.kernel_c.specs.Told.{bad_arguments, done, other_cells, out_of_fuel, out_of_memory}
 use Rattle.kernel_c.specs.declared.told.Outcome.{Outcome}

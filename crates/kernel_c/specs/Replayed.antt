@@ -6,9 +6,9 @@ use Rattle.semantics.specs.SerialMeaning.{Gave, IsSerialMeaning}
 use Rattle.semantics.specs.SerialMeaning as serial_meaning
 use Rattle.program.specs.declared.function.Program.{Program}
 use Rattle.frame.specs.declared.event.Event.{Event}
-use Rattle.outcome.specs.Requirements.{unmet_in}
-use Rattle.outcome.specs.store.Cells.{NamedCells, cell_at}
-use Rattle.outcome.specs.store.Rows.{row_of}
+use Rattle.store.specs.Requirements.{unmet_in}
+use Rattle.store.specs.Cells.{NamedCells, cell_at}
+use Rattle.store.specs.Rows.{row_of}
 use Rattle.schedule_core.specs.Replaying.{KeepsItsSchedule, state_after}
 use Rattle.schedule_core.specs.Admission.{IsNumberOfWorkers}
 use Rattle.schedule_core.specs.Stages.{given}

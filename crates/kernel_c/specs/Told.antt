@@ -5,10 +5,10 @@ use Rattle.program.specs.declared.function.Program.{Program}
 use Rattle.refusal.specs.declared.refused.Refused.TheVariants.{Fault}
 use Rattle.verifier.specs.Accepted.{IsProgramOf, IsRefused}
 use Rattle.verifier.specs.Budgets.{IsDepthOf, budget_of}
-use Rattle.outcome.specs.store.Cells.{NamedCells, zeros}
-use Rattle.outcome.specs.store.Rows.{refilled, row_of}
-use Rattle.outcome.specs.Requirements.{unmet_in}
-use Rattle.outcome.specs.declared.outcome.Finished.{Finished}
+use Rattle.store.specs.Cells.{NamedCells, zeros}
+use Rattle.store.specs.Rows.{refilled, row_of}
+use Rattle.store.specs.Requirements.{unmet_in}
+use Rattle.store.specs.declared.outcome.Finished.{Finished}
 use Rattle.serial_machine.specs.Promise.{EndsWithinBudget, TakesMore}
 use Rattle.kernel_c.specs.declared.told.Outcome.{Outcome}
 use Rattle.kernel_c.specs.declared.told.Verdict.{Verdict}

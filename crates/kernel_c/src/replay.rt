@@ -2,8 +2,8 @@
 
 ghost use Rattle.std.specs.Prelude.{◌≡◌, ◌≢◌, ◌⊎◌, None, Some, length, sum};
 ghost use Rattle.schedule_core.specs.Admission.{IsNumberOfWorkers};
-ghost use Rattle.outcome.specs.Requirements.{unmet_in};
-ghost use Rattle.outcome.specs.store.Rows.{sizes_of};
+ghost use Rattle.store.specs.Requirements.{unmet_in};
+ghost use Rattle.store.specs.Rows.{sizes_of};
 ghost use Rattle.semantics.specs.Events as running;
 ghost use Rattle.schedule_core.specs.Stages.{IsState};
 ghost use Rattle.schedule_text.specs.ScheduleText.{IsBadLine, IsTooLong};
@@ -19,7 +19,7 @@ use crate::told::{
     BAD_ARGUMENTS, BAD_SCHEDULE, BAD_WORKERS, CLOSED, LONG_SCHEDULE, NOT_ENDED, OUT_OF_MEMORY,
     Outcome, plain_outcome,
 };
-use outcome::{Finished, RunFault};
+use store::{Finished, RunFault};
 use schedule_core::{Event, Machine, replay};
 use schedule_text::{ScheduleFault, read_schedule};
 use std::alloc::Global;

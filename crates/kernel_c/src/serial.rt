@@ -1,9 +1,9 @@
 //! The serial run over a row of the globals' numbers, and the call that judges a text anew for it.
 
 ghost use Rattle.std.specs.Prelude.{◌≡◌, ◌≢◌, ◌⊎◌, IfErr, IfOk, OnOk, Some, length, sum};
-ghost use Rattle.outcome.specs.Requirements.{unmet_in};
-ghost use Rattle.outcome.specs.store.Made.{HasGlobalCells, IsMadeFor};
-ghost use Rattle.outcome.specs.store.Rows.{sizes_of};
+ghost use Rattle.store.specs.Requirements.{unmet_in};
+ghost use Rattle.store.specs.Made.{HasGlobalCells, IsMadeFor};
+ghost use Rattle.store.specs.Rows.{sizes_of};
 ghost use Rattle.serial_machine.specs.Decoding.{IsCodeOf};
 ghost use Rattle.kernel_c.specs.Told.{Exceeds, ExceedsProgram, HasOtherCells, IsOutcomeStatus, IsRunStatus, Lacks, Refuses, Runs, RunsProgram, Shows};
 ghost use Rattle.kernel_c.specs.Told.{bad_arguments, done, memory_from, other_cells, out_of_fuel, out_of_memory, refused, sizes_in};
@@ -16,7 +16,7 @@ use crate::told::{
     BAD_ARGUMENTS, DONE, OTHER_CELLS, OUT_OF_FUEL, OUT_OF_MEMORY, Outcome, plain_outcome,
 };
 use lists::OutOfMemory;
-use outcome::{Finished, Memory, RunFault};
+use store::{Finished, Memory, RunFault};
 use serial_machine::{Decoded, Unfinished, serial_run_within_by};
 use std::alloc::Global;
 use verifier::Verified;

@@ -8,7 +8,7 @@ use Rattle.program.specs.declared.function.Program.{Program}
 use Rattle.lists.specs.declared.memory.OutOfMemory.{OutOfMemory}
 use Rattle.laws_workers_strands.specs.laws_workers.laws_conditions.theorem.Schedules.{KeepsSchedule}
 use Rattle.laws_workers_strands.specs.laws_workers.verifier.Accepted.{IsAccepted}
-use Rattle.laws_workers_strands.specs.laws_workers.outcome.Requirements.{unmet_in}
+use Rattle.laws_workers_strands.specs.laws_workers.store.Requirements.{unmet_in}
 use Rattle.laws_workers_strands.specs.laws_workers.store.Cells.{NamedCells, cell_at}
 use Rattle.laws_workers_strands.specs.laws_workers.store.Rows.{row_of, sizes_of}
 use Rattle.schedule_workers.specs.Follows.{AreGiven}

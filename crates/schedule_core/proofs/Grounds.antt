@@ -7,7 +7,7 @@ use Rattle.semantics.specs.Replay.{replay}
 use Rattle.program.specs.declared.function.Global.{Global}
 use Rattle.program.specs.declared.function.Program.{Program}
 use Rattle.laws_workers_strands.specs.laws_workers.verifier.Accepted.{IsAccepted}
-use Rattle.laws_workers_strands.specs.laws_workers.outcome.Requirements.{unmet_in}
+use Rattle.laws_workers_strands.specs.laws_workers.store.Requirements.{unmet_in}
 use Rattle.laws_workers_strands.specs.laws_workers.store.Cells.{NamedCells, cell_at}
 use Rattle.laws_workers_strands.specs.laws_workers.store.Made.{HasGlobalCells, IsMadeFor}
 use Rattle.laws_workers_strands.specs.laws_workers.store.Rows.{sizes_of}

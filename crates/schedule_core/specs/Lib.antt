@@ -12,9 +12,8 @@ pub mod ReadyBelow
 pub mod FrameViews
 -- for the crates above
 pub use Rattle.laws_workers_strands.specs.laws_workers.laws_conditions as laws_conditions
-pub use Rattle.laws_workers_strands.specs.laws_workers.outcome as outcome
-pub use Rattle.laws_workers_strands.specs.laws_workers.laws_schedule as laws_schedule
 pub use Rattle.laws_workers_strands.specs.laws_workers.store as store
+pub use Rattle.laws_workers_strands.specs.laws_workers.laws_schedule as laws_schedule
 pub use Rattle.laws_workers_strands.specs.laws_workers.verifier as verifier
 pub use Rattle.schedule_publish.specs.schedule_commit as schedule_commit
 pub use Rattle.schedule_publish.specs.schedule_commit.frame_strand as frame_strand

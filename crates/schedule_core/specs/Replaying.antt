@@ -9,7 +9,7 @@ use Rattle.laws_workers_strands.specs.laws_workers.laws_conditions.theorem.Sched
 use Rattle.laws_workers_strands.specs.laws_workers.verifier.Accepted.{IsAccepted}
 use Rattle.laws_workers_strands.specs.laws_workers.verifier.Budgets.{budget_of, IsDepthOf}
 use Rattle.program.specs.declared.function.Program.{Program}
-use Rattle.laws_workers_strands.specs.laws_workers.outcome.Requirements.{unmet_in}
+use Rattle.laws_workers_strands.specs.laws_workers.store.Requirements.{unmet_in}
 use Rattle.laws_workers_strands.specs.laws_workers.store.Cells.{NamedCells}
 use Rattle.laws_workers_strands.specs.laws_workers.store.Rows.{sizes_of}
 use Rattle.schedule_workers.specs.Events.{GrowsAtStep}

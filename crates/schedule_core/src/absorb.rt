@@ -18,7 +18,7 @@ use crate::machine::Machine;
 use crate::stage::Stage;
 use frame_engine::Places;
 use lists::OutOfMemory;
-use outcome::Verified;
+use store::Verified;
 use schedule_publish::{Pause, Strand, absorb, cell};
 use std::alloc::Global;
 

@@ -1,6 +1,6 @@
 ghost use Rattle.std.specs.Prelude.{◌≡◌, ◌<◌, [], None, Ok, false, IfOk, OnOk, OnErr};
 ghost use Rattle.semantics.specs.Events.{Machine};
-ghost use Rattle.laws_workers_strands.specs.laws_workers.outcome.Requirements.{unmet_in};
+ghost use Rattle.laws_workers_strands.specs.laws_workers.store.Requirements.{unmet_in};
 ghost use Rattle.schedule_core.specs.Admission.{IsAdmitted};
 ghost use Rattle.schedule_workers.specs.Follows.{Follows};
 ghost use Rattle.schedule_core.specs.Replaying.{GrowsOnly, Happens, IsMachine, LeavesAsBefore};
@@ -13,7 +13,7 @@ use crate::stage::Stage;
 use frame::Event;
 use frame_engine::most_moves;
 use lists::OutOfMemory;
-use outcome::{Memory, RunFault, Verified, unmet_requirement};
+use store::{Memory, RunFault, Verified, unmet_requirement};
 use schedule_workers::Run;
 use std::alloc::Global;
 

@@ -26,7 +26,7 @@ pub use frame_engine::{Frame, Places};
 pub use frames::FrameView;
 pub use laws::ended_enables_nothing;
 pub use machine::Machine;
-pub use outcome::{Finished, Memory, RunFault, Verified, unmet_requirement};
+pub use store::{Finished, Memory, RunFault, Verified, unmet_requirement};
 pub use piles::{advance_pile, blank_pile, fill_pile, fill_pile_ahead};
 pub use ready::Spot;
 pub use schedule::replay;

@@ -12,7 +12,7 @@ use crate::events::{apply_to, begin, copied};
 use crate::stage::Stage;
 use frame::Event;
 use lists::OutOfMemory;
-use outcome::{Memory, RunFault, Verified};
+use store::{Memory, RunFault, Verified};
 use std::alloc::Global;
 
 /// A run of a verified module by workers, between two events.

@@ -17,7 +17,7 @@ use crate::machine::Machine;
 use crate::stage::Stage;
 use frame_engine::{Places, most_moves};
 use lists::OutOfMemory;
-use outcome::Verified;
+use store::Verified;
 use schedule_publish::{Pile, PilePause as Pause, absorb_deep, has_no_child, page_around};
 use std::alloc::Global;
 

@@ -7,7 +7,7 @@ use crate::events::{apply_all, begin};
 use crate::machine::Machine;
 use frame::Event;
 use lists::OutOfMemory;
-use outcome::{Memory, RunFault, Verified};
+use store::{Memory, RunFault, Verified};
 use std::alloc::Global;
 
 /// The machine after a schedule, from memory that was made for this module; an event that is not enabled changes nothing.

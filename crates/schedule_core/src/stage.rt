@@ -1,5 +1,5 @@
 use crate::shared_places::SharedPlaces;
-use outcome::{Memory, Verified};
+use store::{Memory, Verified};
 use schedule_workers::Run;
 
 /// A run of a verified module, with what its steps read.

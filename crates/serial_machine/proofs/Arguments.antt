@@ -15,7 +15,7 @@ use Rattle.semantics.specs.Frames.{and_then}
 use Rattle.program.specs.declared.annotation.Inequality.{Inequality}
 use Rattle.program.specs.declared.function.Function.{Function}
 use Rattle.program.specs.declared.function.Program.{Program}
-use Rattle.outcome.specs.Requirements.{size, wide, with_term, with_terms, value_at, at_most, is_met, unmet_of, unmet_in}
+use Rattle.store.specs.Requirements.{size, wide, with_term, with_terms, value_at, at_most, is_met, unmet_of, unmet_in}
 use Rattle.semantics.specs.Cells.{or_zero}
 use Rattle.laws_schedule.specs.laws_phases.facts.Known.{IsMet}
 use Rattle.laws_schedule.specs.Promise.{argument_at, AreTaken}

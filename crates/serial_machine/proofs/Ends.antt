@@ -2,17 +2,17 @@
 use Rattle.std.proofs.Common.{◌≡◌, ℕ, ◌≤◌, List, Option, Some, None, Result, Err, ℤ, refl, arith, sym, subst, ◌∙◌}
 use Rattle.semantics.specs.SerialMeaning.{Gave, Outcome}
 use Rattle.program.specs.declared.function.Program.{Program}
-use Rattle.outcome.specs.verifier.Accepted.{IsProgramOf}
-use Rattle.outcome.specs.verifier.Budgets.{budget_of}
-use Rattle.outcome.specs.store.Cells.{NamedCells}
-use Rattle.outcome.specs.store.Made.{HasGlobalCells}
-use Rattle.outcome.specs.store.Rows.{sizes_of}
+use Rattle.store.specs.verifier.Accepted.{IsProgramOf}
+use Rattle.store.specs.verifier.Budgets.{budget_of}
+use Rattle.store.specs.Cells.{NamedCells}
+use Rattle.store.specs.Made.{HasGlobalCells}
+use Rattle.store.specs.Rows.{sizes_of}
 use Rattle.laws_schedule.specs.Promise.{KeepsItsPromise}
 use Rattle.laws_schedule.proofs.Promise.{accepted_programs_keep_their_promise}
-use Rattle.outcome.specs.Requirements.{unmet_in}
-use Rattle.outcome.specs.Serially.{memory_of_globals, IsMeant}
-use Rattle.outcome.specs.declared.outcome.Finished.{Finished}
-use Rattle.outcome.specs.declared.outcome.RunFault.TheVariants.{BadArguments}
+use Rattle.store.specs.Requirements.{unmet_in}
+use Rattle.store.specs.Serially.{memory_of_globals, IsMeant}
+use Rattle.store.specs.declared.outcome.Finished.{Finished}
+use Rattle.store.specs.declared.outcome.RunFault.TheVariants.{BadArguments}
 use Rattle.serial_machine.specs.Promise.{EndsWithinBudget, EndsWithinFuel}
 use Rattle.serial_machine.specs.declared.run.Unfinished.{Unfinished}
 use Rattle.serial_machine.specs.declared.run.Unfinished.TheVariants.{Fault, OutOfFuel}

@@ -4,10 +4,10 @@ use Rattle.std.specs.Prelude.{IsSome}
 use Rattle.semantics.specs.Frames.{global_cells}
 use Rattle.program.specs.declared.function.Global.{Global}
 use Rattle.program.specs.declared.function.Program.{Program}
-use Rattle.outcome.specs.store.Cells.{NamedCells, cell_at}
-use Rattle.outcome.specs.store.Made.{HasGlobalCells}
+use Rattle.store.specs.Cells.{NamedCells, cell_at}
+use Rattle.store.specs.Made.{HasGlobalCells}
 use Rattle.laws_schedule.specs.Promise.{HasGlobals}
-use Rattle.outcome.specs.Serially.{memory_of_globals}
+use Rattle.store.specs.Serially.{memory_of_globals}
 
 pub globals_there : (program : Program) (memory : List NamedCells) → HasGlobalCells program memory → (g i : ℕ) → i < global_cells (slice_get program.globals g) → IsSome (cell_at memory g i)
 globals_there program memory has g i = by (slice_get program.globals g) refl

@@ -7,12 +7,12 @@ use Rattle.semantics.specs.Cells.{Object, Shared, Local}
 use Rattle.semantics.specs.Frames.{global_cells}
 use Rattle.program.specs.declared.function.Global.{Global}
 use Rattle.program.specs.declared.function.Program.{Program}
-use Rattle.outcome.specs.verifier.Accepted.{IsProgramOf}
+use Rattle.store.specs.verifier.Accepted.{IsProgramOf}
 use Rattle.frame_engine.specs.Starts.{starts_from}
-use Rattle.outcome.specs.store.Cells.{NamedCells, cell_at}
-use Rattle.outcome.specs.store.Made.{HasGlobalCells}
-use Rattle.outcome.specs.store.Rows.{refilled, row_of, sizes_of}
-use Rattle.outcome.specs.Serially.{global_cell, memory_of_globals, names_of}
+use Rattle.store.specs.Cells.{NamedCells, cell_at}
+use Rattle.store.specs.Made.{HasGlobalCells}
+use Rattle.store.specs.Rows.{refilled, row_of, sizes_of}
+use Rattle.store.specs.Serially.{global_cell, memory_of_globals, names_of}
 use Rattle.serial_stack.specs.Layouts.{size_in, start_in}
 use Rattle.serial_stack.specs.Starts.{StandsInRow}
 use Rattle.serial_stack.proofs.Rows.{sum_more}

@@ -2,13 +2,13 @@
 use Rattle.std.specs.Prelude.{◌≡◌, ⊤, ℕ, ◌<◌, ◌≤◌, List, ℤ, Result, Ok, Err}
 use Rattle.semantics.specs.SerialMeaning.{Outcome, IsSerialMeaning}
 use Rattle.program.specs.declared.function.Program.{Program}
-use Rattle.outcome.specs.verifier.Budgets.{budget_of, IsDepthOf}
-use Rattle.outcome.specs.store.Cells.{NamedCells}
-use Rattle.outcome.specs.store.Rows.{sizes_of}
-use Rattle.outcome.specs.Serially.{IsMeant, memory_of_globals}
-use Rattle.outcome.specs.declared.outcome.Finished.{Finished}
-use Rattle.outcome.specs.declared.outcome.RunFault.{RunFault}
-use Rattle.outcome.specs.declared.outcome.RunFault.TheVariants.{BadArguments, BadWorkers, OutOfMemory, Stopped}
+use Rattle.store.specs.verifier.Budgets.{budget_of, IsDepthOf}
+use Rattle.store.specs.Cells.{NamedCells}
+use Rattle.store.specs.Rows.{sizes_of}
+use Rattle.store.specs.Serially.{IsMeant, memory_of_globals}
+use Rattle.store.specs.declared.outcome.Finished.{Finished}
+use Rattle.store.specs.declared.outcome.RunFault.{RunFault}
+use Rattle.store.specs.declared.outcome.RunFault.TheVariants.{BadArguments, BadWorkers, OutOfMemory, Stopped}
 use Rattle.serial_machine.specs.declared.run.Unfinished.{Unfinished}
 use Rattle.serial_machine.specs.declared.run.Unfinished.TheVariants.{Fault, OutOfFuel}
 

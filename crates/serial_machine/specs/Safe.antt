@@ -4,8 +4,8 @@ use Rattle.semantics.specs.Cells.{Memory}
 use Rattle.semantics.specs.Frames.{Frame, global_cells, item_at}
 use Rattle.program.specs.declared.function.Function.{Function}
 use Rattle.program.specs.declared.function.Program.{Program}
-use Rattle.outcome.specs.verifier.Accepted.{IsProgramOf}
-use Rattle.outcome.specs.verifier.Budgets.{budget_of}
+use Rattle.store.specs.verifier.Accepted.{IsProgramOf}
+use Rattle.store.specs.verifier.Budgets.{budget_of}
 use Rattle.frame_code.specs.Codes.{program_codes}
 use Rattle.frame_engine.specs.Fits.{HasMoves}
 use Rattle.frame_engine.specs.Operands.{ItemFits}

@@ -2,11 +2,11 @@ ghost use Rattle.std.specs.Prelude.{◌≡◌, ◌≤◌, ℕ, Some, None, Err, 
 ghost use Rattle.program.specs.declared.function.Function.{Function};
 ghost use Rattle.frame_code.specs.Codes.{program_codes};
 ghost use Rattle.frame_engine.specs.Starts.{alloca_starts, starts_from};
-ghost use Rattle.outcome.specs.Requirements.{unmet_in};
-ghost use Rattle.outcome.specs.store.Made.{HasGlobalCells};
-ghost use Rattle.outcome.specs.store.Rows.{sizes_of};
-ghost use Rattle.outcome.specs.verifier.Accepted.{IsAccepted};
-ghost use Rattle.outcome.specs.verifier.Budgets.{budget_of};
+ghost use Rattle.store.specs.Requirements.{unmet_in};
+ghost use Rattle.store.specs.Made.{HasGlobalCells};
+ghost use Rattle.store.specs.Rows.{sizes_of};
+ghost use Rattle.store.specs.verifier.Accepted.{IsAccepted};
+ghost use Rattle.store.specs.verifier.Budgets.{budget_of};
 ghost use Rattle.serial_machine.specs.Decoding.{IsCodeOf};
 ghost use Rattle.serial_machine.specs.Promise.{EndsOrLacksMemory, EndsWithinBudget, EndsWithinFuel, TakesMore};
 
@@ -14,7 +14,7 @@ use crate::decoded::Decoded;
 use crate::places::{places_from, starts};
 use frame_engine::{Places, most_moves};
 use lists::OutOfMemory;
-use outcome::{Finished, Memory, RunFault, Verified, unmet_requirement};
+use store::{Finished, Memory, RunFault, Verified, unmet_requirement};
 use program::Program;
 use serial_stack::Stack;
 use std::alloc::Global;

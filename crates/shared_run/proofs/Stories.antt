@@ -13,8 +13,8 @@ use Rattle.program.specs.declared.function.Program.{Program}
 use Rattle.schedule_core.specs.verifier.Accepted.{IsAccepted}
 use Rattle.schedule_core.specs.store.Made.{IsMadeFor}
 use Rattle.schedule_core.specs.Admission.{IsNumberOfWorkers}
-use Rattle.schedule_core.specs.outcome.Requirements.{unmet_in}
-use Rattle.schedule_core.specs.outcome.declared.outcome.Finished.{Finished}
+use Rattle.schedule_core.specs.store.Requirements.{unmet_in}
+use Rattle.schedule_core.specs.store.declared.outcome.Finished.{Finished}
 use Rattle.schedule_core.proofs.laws_workers.Results.{IsOpen, always_open}
 use Rattle.schedule_core.proofs.Grounds.{laws}
 use Rattle.schedule_core.proofs.Reached.{reached_manned, replay_more}

@@ -5,7 +5,7 @@ use Rattle.semantics.specs.Replay.{has_ended}
 use Rattle.semantics.specs.SerialMeaning.{Gave, Outcome, IsSerialMeaning}
 use Rattle.frame.specs.declared.event.Event.{Event}
 use Rattle.schedule_core.specs.store.Cells.{cell_at}
-use Rattle.schedule_core.specs.outcome.declared.outcome.Finished.{Finished}
+use Rattle.schedule_core.specs.store.declared.outcome.Finished.{Finished}
 use Rattle.schedule_core.specs.Replaying.{AreEnabled, event_of}
 use Rattle.schedule_core.specs.Stages.{given, names_of}
 use Rattle.shared_run.specs.Story.{Origin, first_of, reached}

@@ -4,7 +4,6 @@ pub mod Calls
 pub mod Stacks
 pub mod Answer
 -- for the crates above
-pub use Rattle.schedule_core.specs.outcome as outcome
 pub use Rattle.schedule_core.specs.store as store
 pub use Rattle.schedule_core.specs as schedule_core
 pub use Rattle.schedule_core.specs.schedule_workers as schedule_workers

@@ -6,7 +6,7 @@ use Rattle.schedule_core.specs.verifier.Accepted.{IsAccepted}
 use Rattle.schedule_core.specs.store.Cells.{NamedCells}
 use Rattle.schedule_core.specs.store.Made.{IsMadeFor}
 use Rattle.frame.specs.declared.path.Path.{Path}
-use Rattle.schedule_core.specs.outcome.Requirements.{unmet_in}
+use Rattle.schedule_core.specs.store.Requirements.{unmet_in}
 use Rattle.frame.specs.declared.event.Event.{Event}
 use Rattle.schedule_core.specs.declared.stage.Stage.{Stage}
 use Rattle.schedule_core.specs.Replaying.{AreEnabled, event_of, first_state, state_after, Replays}

@@ -1,3 +1,5 @@
 pub mod Setting
 pub mod Made
 pub mod Refilling
+pub mod Unmet
+pub mod Wide

@@ -1,5 +1,7 @@
 pub mod Cells
 pub mod Made
 pub mod Rows
+pub mod Requirements
+pub mod Serially
 -- for the crates above
 pub use Rattle.verifier.specs as verifier

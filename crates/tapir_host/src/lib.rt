@@ -26,7 +26,7 @@ pub use deque_pool::{
 };
 pub use explain::{Explanation, explain, rule_text, told};
 pub use frame::Path;
-pub use outcome::{Finished, Memory, RunFault};
+pub use store::{Finished, Memory, RunFault};
 pub use serial_machine::{
     Decoded, Unfinished, serial_run, serial_run_by, serial_run_within, serial_run_within_by,
 };

@@ -41,8 +41,8 @@ use Rattle.laws_schedule.proofs.Along.{Along, kept_along, kept_at_root}
 use Rattle.laws_schedule.proofs.Bounds.{budget_bounded}
 use Rattle.laws_schedule.proofs.Promise.{accepted_programs_keep_their_promise}
 use Rattle.laws_schedule.proofs.Serially.{Found}
-use Rattle.outcome.specs.verifier.Accepted.{IsProgramOf}
-use Rattle.outcome.specs.verifier.Budgets.{budget_of}
+use Rattle.store.specs.verifier.Accepted.{IsProgramOf}
+use Rattle.store.specs.verifier.Budgets.{budget_of}
 use Rattle.serial_stack.specs.Steps.{Placed, Run, HasNoStep, IsStuck, Walk, starting}
 use Rattle.serial_stack.specs.Layouts.{frames_of, layout_of}
 use Rattle.serial_stack.specs.Shown.{CanGo, CanGoOn, IsOld}

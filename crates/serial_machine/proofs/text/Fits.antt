@@ -48,7 +48,7 @@ use Rattle.laws_schedule.proofs.safe.Registers.{first_named}
 use Rattle.laws_schedule.specs.typing.Kinds.{HasKinds, IsKinded, IsKindedEnd, IsNumber, IsNumberIfAny, IsOfKind, IsResult}
 use Rattle.laws_schedule.proofs.typing.Lists.{there}
 use Rattle.laws_schedule.proofs.Accepted.{IsTaken, is_taken}
-use Rattle.outcome.specs.verifier.Accepted.{IsProgramOf}
+use Rattle.store.specs.verifier.Accepted.{IsProgramOf}
 use Rattle.frame_engine.specs.declared.activation.Places.{Places}
 use Rattle.frame_engine.specs.Activation.{allocas_of, or_none}
 use Rattle.frame_engine.specs.Fits.{BlockFits, EdgeFits, EndingFits, HasEnding, HasEntry, HasPhi, HasReturned, HasMoves}

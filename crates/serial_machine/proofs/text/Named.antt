@@ -53,7 +53,7 @@ use Rattle.laws_schedule.proofs.typing.Positive.{object_positive}
 use Rattle.laws_schedule.proofs.typing.Registers.{kept_function}
 use Rattle.laws_schedule.proofs.typing.Scoping.{IsNamedRight, HoldsRight, IsOwnObject, named_found, layout_right}
 use Rattle.laws_schedule.proofs.typing.Sized.{named_sized}
-use Rattle.outcome.specs.verifier.Accepted.{IsProgramOf}
+use Rattle.store.specs.verifier.Accepted.{IsProgramOf}
 
 -- ---- what has cells is there
 

@@ -5,7 +5,7 @@ use Rattle.std.proofs.Math.Logic.{∥∥₁_elim}
 use Rattle.std.proofs.Math.Nat.{ℕ_set}
 use Rattle.std.proofs.Props.{props}
 use Rattle.std.proofs.lemmas.Int.{to_z-of_z}
-use Rattle.outcome.specs.store.Rows.{sizes_of}
+use Rattle.store.specs.Rows.{sizes_of}
 use Rattle.kernel_c.proofs.replay.come_to.Goals as goal
 
 pub finish-requires : goal.finish-requires

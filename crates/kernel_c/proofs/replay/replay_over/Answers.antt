@@ -1,6 +1,6 @@
 use Rattle.std.proofs.Common.{List, subst}
-use Rattle.outcome.specs.store.Cells.{NamedCells}
-use Rattle.outcome.specs.store.Made.{HasGlobalCells}
+use Rattle.store.specs.Cells.{NamedCells}
+use Rattle.store.specs.Made.{HasGlobalCells}
 use Rattle.kernel_c.specs.Told.{memory_from}
 use Rattle.kernel_c.proofs.Replayed.{ends_by, is_after, stands_after}
 use Rattle.kernel_c.proofs.replay.replay_over.Goals as goal

@@ -3,8 +3,8 @@ use Rattle.std.specs.Prelude.{IfNone, IfSome}
 use Rattle.std.specs.Int.{w64}
 use mir.Val.{to_z, of_z}
 use Rattle.std.proofs.lemmas.Int.{to_z-of_z}
-use Rattle.outcome.specs.store.Rows.{refilled, row_of}
-use Rattle.outcome.specs.declared.outcome.Finished.{Finished}
+use Rattle.store.specs.Rows.{refilled, row_of}
+use Rattle.store.specs.declared.outcome.Finished.{Finished}
 use Rattle.serial_stack.specs.Runs.{GoesSafely, RunsBeyond, RunsTo}
 use Rattle.serial_stack.specs.Shown.{TextFits}
 use Rattle.serial_stack.specs.Starts.{Begins}

@@ -2,8 +2,8 @@ use Rattle.std.proofs.Common.{rules, ◌≡◌, ◌+◌, ◌∙◌, ap, arith, m
 use Rattle.std.specs.Int.{w64}
 use mir.Val.{to_z, of_z}
 use Rattle.std.proofs.lemmas.Int.{to_z-of_z}
-use Rattle.outcome.specs.declared.outcome.Finished.{Finished}
-use Rattle.outcome.specs.store.Rows.{refilled}
+use Rattle.store.specs.declared.outcome.Finished.{Finished}
+use Rattle.store.specs.Rows.{refilled}
 use Rattle.serial_stack.specs.Shown.{Returns}
 use Rattle.serial_machine.specs.Promise.{EndsWithinBudget}
 use Rattle.deque_pool_alone.proofs.OnWay.{done_before, fits, numbers, over, passed, stands, stays, went_on, within}

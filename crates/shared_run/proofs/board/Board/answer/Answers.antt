@@ -2,7 +2,7 @@ use Rattle.std.proofs.Common.{rules, of_z, to_z, ◌≡◌, Some, sym, ◌∙◌
 use Rattle.std.specs.Int.{w64}
 use Rattle.std.proofs.lemmas.Int.{to_z-of_z}
 use Rattle.schedule_core.specs.Stages.{HoldsGlobals, IsState}
-use Rattle.schedule_core.specs.outcome.declared.outcome.Finished.{Finished}
+use Rattle.schedule_core.specs.store.declared.outcome.Finished.{Finished}
 use Rattle.shared_run.specs.Story.{Origin, Story, origin, reached, state_of}
 use Rattle.shared_run.proofs.Stories.{answer, recorded, state_at}
 use Rattle.shared_run.proofs.board.Board.answer.Goals as goal

@@ -1,6 +1,6 @@
 ghost use Rattle.std.specs.Prelude.{◌≡◌, ◌+ℤ◌, ◌*ℤ◌, not, position, slice_get};
 ghost use Rattle.std.specs.Option.{option_copied};
-ghost use Rattle.outcome.specs.Requirements as spec;
+ghost use Rattle.store.specs.Requirements as spec;
 
 use program::{Form, Function, FunctionId, Inequality, Program, RegisterId, Term};
 

@@ -1,6 +1,6 @@
 use Rattle.std.proofs.Common.{◌≡◌, length, arith, refl}
-use Rattle.outcome.proofs.Unmet.{unmet_some, unmet_none, unmet_within}
-use Rattle.outcome.proofs.arguments.unmet_requirement.Goals as goal
+use Rattle.store.proofs.Unmet.{unmet_some, unmet_none, unmet_within}
+use Rattle.store.proofs.arguments.unmet_requirement.Goals as goal
 
 pub returns-then-unmet-requirements : goal.returns-then-unmet-requirements
 returns-then-unmet-requirements c =

@@ -3,7 +3,7 @@ use Rattle.std.proofs.Common.{◌≡◌, ℕ, ◌<◌, ◌^◌, ap, arith, true,
 use Rattle.std.specs.Prelude.{SomeIff, FitsSigned, nat_lt}
 use Rattle.std.specs.Int.{w128}
 use Rattle.std.proofs.lemmas.Bool.Decides.{nat_tests}
-use Rattle.outcome.specs.Requirements.{size, wide}
+use Rattle.store.specs.Requirements.{size, wide}
 
 fits_is : (z : ℤ) → size z < 2 ^ 127 → FitsSigned w128 z
 fits_is (pos n) h = record { sfits = h }

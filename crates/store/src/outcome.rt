@@ -1,4 +1,4 @@
-use store::Memory;
+use crate::memory::Memory;
 
 /// What a run that has ended comes to.
 #[derive(Drop)]

@@ -6,7 +6,7 @@ use Rattle.std.proofs.lemmas.Bool.Decides.{nat_tests}
 use Rattle.std.specs.Option.{option_map}
 use Rattle.program.specs.declared.annotation.Inequality.{Inequality}
 use Rattle.program.specs.declared.function.Function.{Function}
-use Rattle.outcome.specs.Requirements.{is_met, unmet_of}
+use Rattle.store.specs.Requirements.{is_met, unmet_of}
 
 abbrev unmet : List ℤ → List Inequality → Option ℕ
 unmet arguments rs = position (λ r. not (is_met arguments r)) rs

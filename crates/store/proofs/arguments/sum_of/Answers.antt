@@ -2,9 +2,9 @@ use Rattle.std.proofs.Common.{◌∙◌}
 use Rattle.std.specs.Prelude.{◌+ℤ◌}
 use Rattle.std.specs.Int.{w128}
 use Rattle.std.proofs.lemmas.Int.{to_z-of_z}
-use Rattle.outcome.specs.Requirements.{wide}
-use Rattle.outcome.proofs.Wide.{is_wide}
-use Rattle.outcome.proofs.arguments.sum_of.Goals as goal
+use Rattle.store.specs.Requirements.{wide}
+use Rattle.store.proofs.Wide.{is_wide}
+use Rattle.store.proofs.arguments.sum_of.Goals as goal
 
 pub returns : goal.returns
 returns c = is_wide c.checked_add.result _ c.checked_add.ensures ∙ (λ i. wide (to_z-of_z w128 c.args.left c.ranges.left i +ℤ to_z-of_z w128 c.args.right c.ranges.right i))

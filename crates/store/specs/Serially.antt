@@ -4,7 +4,7 @@ use Rattle.semantics.specs.Cells.{Object, Shared, Local, Memory}
 use Rattle.semantics.specs.SerialMeaning.{Gave, IsSerialMeaning}
 use Rattle.program.specs.declared.function.Program.{Program}
 use Rattle.store.specs.Cells.{NamedCells, cell_at}
-use Rattle.outcome.specs.declared.outcome.Finished.{Finished}
+use Rattle.store.specs.declared.outcome.Finished.{Finished}
 
 -- what the globals hold of an object
 abbrev pub global_cell : List NamedCells → Object → ℕ → Option ℤ

@@ -1,5 +1,0 @@
-pub mod Requirements
-pub mod Serially
--- for the crates above
-pub use Rattle.store.specs as store
-pub use Rattle.store.specs.verifier as verifier
