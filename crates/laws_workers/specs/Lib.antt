@@ -1,5 +1,6 @@
 pub mod Safe
 pub mod Promise
+pub mod strands
 -- for the crates above
 pub use Rattle.serial_machine.specs.laws_conditions as laws_conditions
 pub use Rattle.serial_machine.specs.store as store

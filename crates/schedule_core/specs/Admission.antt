@@ -1,10 +1,10 @@
 -- Whether a run may begin, and why it has no answer where it has none.
 use Rattle.std.specs.Prelude.{◌≡◌, ◌<◌, ◌≤◌, ℕ, List, Some, None, Result, Ok, Err, ℤ}
 use Rattle.program.specs.declared.function.Program.{Program}
-use Rattle.laws_workers_strands.specs.laws_workers.store.Cells.{NamedCells}
-use Rattle.laws_workers_strands.specs.laws_workers.store.Requirements.{unmet_in}
-use Rattle.laws_workers_strands.specs.laws_workers.store.declared.outcome.RunFault.{RunFault}
-use Rattle.laws_workers_strands.specs.laws_workers.store.declared.outcome.RunFault.TheVariants.{BadArguments, BadWorkers, OutOfMemory, Stopped}
+use Rattle.laws_workers.specs.store.Cells.{NamedCells}
+use Rattle.laws_workers.specs.store.Requirements.{unmet_in}
+use Rattle.laws_workers.specs.store.declared.outcome.RunFault.{RunFault}
+use Rattle.laws_workers.specs.store.declared.outcome.RunFault.TheVariants.{BadArguments, BadWorkers, OutOfMemory, Stopped}
 
 abbrev pub IsNumberOfWorkers : ℕ → Type 0
 IsNumberOfWorkers workers = (0 < workers) × (workers ≤ 64)

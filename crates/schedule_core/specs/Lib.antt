@@ -11,10 +11,10 @@ pub mod Piles
 pub mod ReadyBelow
 pub mod FrameViews
 -- for the crates above
-pub use Rattle.laws_workers_strands.specs.laws_workers.laws_conditions as laws_conditions
-pub use Rattle.laws_workers_strands.specs.laws_workers.store as store
-pub use Rattle.laws_workers_strands.specs.laws_workers.laws_schedule as laws_schedule
-pub use Rattle.laws_workers_strands.specs.laws_workers.verifier as verifier
+pub use Rattle.laws_workers.specs.laws_conditions as laws_conditions
+pub use Rattle.laws_workers.specs.store as store
+pub use Rattle.laws_workers.specs.laws_schedule as laws_schedule
+pub use Rattle.laws_workers.specs.verifier as verifier
 pub use Rattle.schedule_publish.specs.schedule_commit as schedule_commit
 pub use Rattle.schedule_publish.specs.schedule_commit.frame_strand as frame_strand
 pub use Rattle.schedule_publish.specs as schedule_publish

@@ -9,7 +9,7 @@ use Rattle.schedule_publish.specs.schedule_commit.frame_strand.declared.outside.
 use Rattle.schedule_publish.specs.schedule_commit.frame_strand.declared.standing.Pause.TheVariants.{Blank}
 use Rattle.schedule_publish.specs.schedule_commit.laws_strands.Law.{steps_by}
 use Rattle.schedule_workers.specs.Starts.{ArePlaces}
-use Rattle.laws_workers_strands.specs.laws_workers.verifier.Budgets.{IsDepthOf}
+use Rattle.laws_workers.specs.verifier.Budgets.{IsDepthOf}
 use Rattle.frame.specs.declared.event.Event.TheVariants.{Step}
 use Rattle.schedule_core.specs.declared.stage.Stage.{Stage}
 use Rattle.schedule_core.specs.Replaying.{AreEnabled, ReplaysMore}

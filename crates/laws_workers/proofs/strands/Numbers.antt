@@ -25,7 +25,7 @@ use Rattle.laws_workers.specs.laws_phases.defined.Regions.{OwnsRegions, Owns}
 use Rattle.laws_workers.proofs.laws_phases.defined.Regions.{regions_are_kept}
 use Rattle.laws_workers.proofs.laws_phases.defined.Registers.{defined_are_kept}
 use Rattle.laws_workers.proofs.laws_schedule.Waits.{free_never, region_never, same_call}
-use Rattle.laws_workers_strands.proofs.Feet.{Standing, standing_kept, standing_held, always_stands}
+use Rattle.laws_workers.proofs.strands.Feet.{Standing, standing_kept, standing_held, always_stands}
 
 -- a frame of the function of this number touches no cell here; it promises a number where the function returns one
 abbrev gives_back : Program → ℕ → Zone

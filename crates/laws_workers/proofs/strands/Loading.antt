@@ -32,8 +32,8 @@ use Rattle.laws_stacks.specs.Deep.{DeepStrand, IsDeep, Placed, at, next_action}
 use Rattle.laws_stacks.specs.Footprint.{memory_of}
 use Rattle.laws_stacks.specs.Law.{IsOrderly, Runs, absorbed}
 use Rattle.laws_stacks.proofs.Reached.{reached_are_orderly}
-use Rattle.laws_workers_strands.specs.Promise.{IsSafeDeep, LoadedFramesGoDeep, StaysSafeDeep, laid_out}
-use Rattle.laws_workers_strands.proofs.Law.{frames_go_deep}
+use Rattle.laws_workers.specs.strands.Promise.{IsSafeDeep, LoadedFramesGoDeep, StaysSafeDeep, laid_out}
+use Rattle.laws_workers.proofs.strands.Law.{frames_go_deep}
 
 above_old : (p : Path) (o : Object) → IsAbove p o → IsOld (length p) o
 above_old p (Shared g) above = tt

@@ -40,15 +40,15 @@ use Rattle.laws_workers.proofs.laws_schedule.safe.Safe.{schedules_are_safe}
 use Rattle.laws_workers.proofs.laws_schedule.safe.Sizes.{uses_are_sized}
 use Rattle.laws_workers.proofs.Points.{IsBelow, below_kept, always_below, points_up}
 use Rattle.schedule_commit.specs.frame_strand.Alone.{StaysSafeAlone}
-use Rattle.laws_workers_strands.proofs.Alone.{Alone, knows_held, stays_safe}
-use Rattle.laws_workers_strands.proofs.Facts.{met, Told, told_kept, told_held, told_knows, always_told}
-use Rattle.laws_workers_strands.proofs.Numbers.{Firm, firm_kept, firm_held, firm_keeps, always_firm}
+use Rattle.laws_workers.proofs.strands.Alone.{Alone, knows_held, stays_safe}
+use Rattle.laws_workers.proofs.strands.Facts.{met, Told, told_kept, told_held, told_knows, always_told}
+use Rattle.laws_workers.proofs.strands.Numbers.{Firm, firm_kept, firm_held, firm_keeps, always_firm}
 use Rattle.laws_stacks.specs.Deep.{DeepStrand, loaded, IsDeep, is_loaded}
 use Rattle.laws_stacks.specs.Law.{IsOrderly, Runs, Fits, absorbed, IsKept}
 use Rattle.laws_stacks.proofs.Kept.{goes, kept_deep}
 use Rattle.laws_stacks.proofs.Law.{starts}
 use Rattle.laws_stacks.proofs.Reached.{reached_are_orderly}
-use Rattle.laws_workers_strands.specs.Promise.{laid_out, IsSafeDeep, StaysSafeDeep, FramesGoAlone, FramesGoDeep}
+use Rattle.laws_workers.specs.strands.Promise.{laid_out, IsSafeDeep, StaysSafeDeep, FramesGoAlone, FramesGoDeep}
 use Rattle.schedule_commit.specs.Absorbing.{GoesAloneIn}
 
 module _ (text : List ℕ) (program : Program) (accepted : IsProgramOf text program) (arguments : List ℤ) (memory : Memory) (given : AreTaken program arguments) (globals : HasGlobals program memory)

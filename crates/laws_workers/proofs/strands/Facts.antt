@@ -26,7 +26,7 @@ use Rattle.laws_workers.proofs.laws_schedule.kinds.Tested.{kinds_are_tested}
 use Rattle.laws_workers.proofs.laws_schedule.zones.Conditions.{zones_are_met}
 use Rattle.laws_workers.proofs.laws_schedule.zones.Named.{accepted_zones_are_named}
 use Rattle.laws_workers.proofs.laws_schedule.zones.Starting.{zones_at_start}
-use Rattle.laws_workers_strands.proofs.Feet.{Standing, standing_kept, standing_held, always_stands}
+use Rattle.laws_workers.proofs.strands.Feet.{Standing, standing_kept, standing_held, always_stands}
 
 module _ (text : List ℕ) (program : Program) (accepted : IsProgramOf text program) (t : IsTaken program) (uses : HasKindedUses program) where
   abbrev Kinded : Path → Frame → Type 0
