@@ -2,6 +2,10 @@ pub mod Absorbing
 pub mod Fitting
 pub mod Putting
 pub mod TakingBack
+pub mod deep
 -- for the crates above
 pub use Rattle.frame_strand.specs as frame_strand
 pub use Rattle.laws_strands.specs as laws_strands
+pub use Rattle.private_stack.specs as private_stack
+pub use Rattle.laws_stacks.specs as laws_stacks
+pub use Rattle.private_stack.specs.private_stack_log as private_stack_log

@@ -15,8 +15,8 @@ use Rattle.schedule_workers.proofs.Lending.{free_outside, free_small}
 use Rattle.schedule_workers.proofs.Onward.{seen}
 use Rattle.laws_stacks.specs.Law.{IsOrderly}
 use Rattle.laws_stacks.proofs.Reached.{orderly}
-use Rattle.schedule_publish.specs.private_stack.Along.{IsLent, LoadsGoDeep, MayBegin}
-use Rattle.schedule_publish.specs.private_stack.Layouts.{Segment}
+use Rattle.schedule_commit.specs.private_stack.Along.{IsLent, LoadsGoDeep, MayBegin}
+use Rattle.schedule_commit.specs.private_stack.Layouts.{Segment}
 use Rattle.laws_workers.proofs.strands.Loading.{loads_go_deep}
 use Rattle.schedule_core.specs.declared.stage.Stage.{Stage}
 use Rattle.schedule_core.specs.Replaying.{IsMachine, state_after}

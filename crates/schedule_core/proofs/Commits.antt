@@ -14,9 +14,9 @@ use Rattle.semantics.specs.Events.{Machine, start}
 use Rattle.semantics.specs.Replay.{or_unchanged, replay}
 use Rattle.program.specs.declared.function.Program.{Program}
 use Rattle.laws_workers.specs.store.Cells.{NamedCells}
-use Rattle.schedule_publish.specs.schedule_commit.Absorbing.{DoesStrand, GoesAloneIn, KeepsHand, LeavesStallsBy, StandsAlone, steps_in}
-use Rattle.schedule_publish.specs.schedule_commit.frame_strand.declared.outside.Strand.{Strand}
-use Rattle.schedule_publish.specs.schedule_commit.laws_strands.Law.{Happen, steps_by}
+use Rattle.schedule_commit.specs.Absorbing.{DoesStrand, GoesAloneIn, KeepsHand, LeavesStallsBy, StandsAlone, steps_in}
+use Rattle.schedule_commit.specs.frame_strand.declared.outside.Strand.{Strand}
+use Rattle.schedule_commit.specs.laws_strands.Law.{Happen, steps_by}
 use Rattle.schedule_workers.specs.declared.run.Run.{Run}
 use Rattle.schedule_workers.specs.Follows.{Follows}
 use Rattle.schedule_workers.specs.Left.{LeavesAsShown}

@@ -14,17 +14,17 @@ use Rattle.frame_engine.specs.Activation.{FrameFits}
 use Rattle.frame_engine.specs.Shows.{Layout}
 use Rattle.frame_engine.specs.declared.activation.Frame.{Frame}
 use Rattle.frame_engine.specs.declared.activation.Places.{Places}
-use Rattle.schedule_publish.specs.schedule_commit.Fitting.{FitsRun, HoldReads}
-use Rattle.schedule_publish.specs.schedule_commit.frame_strand.Along.{IsGoing, MayBegin, MayGo, pause_in}
-use Rattle.schedule_publish.specs.schedule_commit.frame_strand.Standing.{IsCopy}
-use Rattle.schedule_publish.specs.schedule_commit.frame_strand.declared.cells.Read.{Read}
-use Rattle.schedule_publish.specs.schedule_commit.frame_strand.declared.outside.Strand.{Strand}
-use Rattle.schedule_publish.specs.schedule_commit.frame_strand.declared.standing.Course.{Course}
-use Rattle.schedule_publish.specs.schedule_commit.frame_strand.declared.standing.Pause.{Pause}
-use Rattle.schedule_publish.specs.schedule_commit.frame_strand.declared.standing.Pause.TheVariants.{Blank}
-use Rattle.schedule_publish.specs.schedule_commit.laws_strands.Footprint.{Footprint, held}
-use Rattle.schedule_publish.specs.schedule_commit.laws_strands.Strands as strands
-use Rattle.schedule_publish.specs.schedule_commit.laws_strands.Strands.{Access, Nowhere, Loads, Stores, Adds, access_of, is_border, is_full, most_done, need, next_of, pause_of}
+use Rattle.schedule_commit.specs.Fitting.{FitsRun, HoldReads}
+use Rattle.schedule_commit.specs.frame_strand.Along.{IsGoing, MayBegin, MayGo, pause_in}
+use Rattle.schedule_commit.specs.frame_strand.Standing.{IsCopy}
+use Rattle.schedule_commit.specs.frame_strand.declared.cells.Read.{Read}
+use Rattle.schedule_commit.specs.frame_strand.declared.outside.Strand.{Strand}
+use Rattle.schedule_commit.specs.frame_strand.declared.standing.Course.{Course}
+use Rattle.schedule_commit.specs.frame_strand.declared.standing.Pause.{Pause}
+use Rattle.schedule_commit.specs.frame_strand.declared.standing.Pause.TheVariants.{Blank}
+use Rattle.schedule_commit.specs.laws_strands.Footprint.{Footprint, held}
+use Rattle.schedule_commit.specs.laws_strands.Strands as strands
+use Rattle.schedule_commit.specs.laws_strands.Strands.{Access, Nowhere, Loads, Stores, Adds, access_of, is_border, is_full, most_done, need, next_of, pause_of}
 use Rattle.std.specs.Prelude.{is_some, nat_le}
 use Rattle.schedule_workers.specs.declared.activation.Activation.{Activation}
 use Rattle.schedule_workers.specs.Layouts.{layout_of, object_at}

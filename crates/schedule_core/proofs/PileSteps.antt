@@ -5,19 +5,19 @@ use Rattle.std.proofs.Math.Logic.{∥∥₁_map}
 use Rattle.lists.specs.declared.memory.OutOfMemory.{OutOfMemory}
 use Rattle.cactus.specs.declared.node.Node.{Node}
 use Rattle.cactus.specs.Frames.{node_at}
-use Rattle.schedule_publish.specs.schedule_commit.frame_strand.Standing.{IsCopy}
+use Rattle.schedule_commit.specs.frame_strand.Standing.{IsCopy}
 use Rattle.frame_engine.specs.declared.activation.Places.{Places}
 use Rattle.schedule_workers.specs.declared.activation.Activation.{Activation}
 use Rattle.schedule_workers.specs.declared.run.Run.{Run}
 use Rattle.schedule_workers.specs.Follows.{Follows}
 use Rattle.schedule_workers.specs.Lent.{IsFree}
 use Rattle.schedule_workers.specs.Scheduling.{hand_of}
-use Rattle.schedule_publish.specs.private_stack_log.Tables.{log_of}
+use Rattle.schedule_commit.specs.private_stack_log.Tables.{log_of}
 use Rattle.laws_stacks.specs.Law.{absorbed}
-use Rattle.schedule_publish.specs.private_stack.Along.{IsUnderWay}
-use Rattle.schedule_publish.specs.private_stack.declared.pile.Pile.{Pile}
-use Rattle.schedule_publish.specs.Absorbing.{DoesDeep, LeavesStallsDeep, StandsDeep}
-use Rattle.schedule_publish.specs.Fitting.{HasNoChild, segment_block}
+use Rattle.schedule_commit.specs.private_stack.Along.{IsUnderWay}
+use Rattle.schedule_commit.specs.private_stack.declared.pile.Pile.{Pile}
+use Rattle.schedule_commit.specs.deep.Absorbing.{DoesDeep, LeavesStallsDeep, StandsDeep}
+use Rattle.schedule_commit.specs.deep.Fitting.{HasNoChild, segment_block}
 use Rattle.schedule_core.specs.declared.stage.Stage.{Stage}
 use Rattle.schedule_core.specs.Piles.{IsBegun}
 use Rattle.schedule_core.specs.Replaying.{IsMachine, state_after}

@@ -15,11 +15,10 @@ pub use Rattle.laws_workers.specs.laws_conditions as laws_conditions
 pub use Rattle.laws_workers.specs.store as store
 pub use Rattle.laws_workers.specs.laws_schedule as laws_schedule
 pub use Rattle.laws_workers.specs.verifier as verifier
-pub use Rattle.schedule_publish.specs.schedule_commit as schedule_commit
-pub use Rattle.schedule_publish.specs.schedule_commit.frame_strand as frame_strand
-pub use Rattle.schedule_publish.specs as schedule_publish
-pub use Rattle.schedule_publish.specs.private_stack as private_stack
-pub use Rattle.schedule_publish.specs.private_stack_log as private_stack_log
+pub use Rattle.schedule_commit.specs as schedule_commit
+pub use Rattle.schedule_commit.specs.frame_strand as frame_strand
+pub use Rattle.schedule_commit.specs.private_stack as private_stack
+pub use Rattle.schedule_commit.specs.private_stack_log as private_stack_log
 pub use Rattle.frame_engine.specs as frame_engine
 pub use Rattle.schedule_workers.specs as schedule_workers
 pub use Rattle.program.specs as program

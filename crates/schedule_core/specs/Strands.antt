@@ -3,11 +3,11 @@ use Rattle.std.specs.Prelude.{◌≡◌, ◌≢◌, ℕ, ◌≤◌, [], replicat
 use Rattle.semantics.specs.Events as running
 use Rattle.semantics.specs.Replay.{replay}
 use Rattle.program.specs.declared.function.Program.{Program}
-use Rattle.schedule_publish.specs.schedule_commit.Absorbing.{steps_in}
-use Rattle.schedule_publish.specs.schedule_commit.Fitting.{FitsRun}
-use Rattle.schedule_publish.specs.schedule_commit.frame_strand.declared.outside.Strand.{Strand}
-use Rattle.schedule_publish.specs.schedule_commit.frame_strand.declared.standing.Pause.TheVariants.{Blank}
-use Rattle.schedule_publish.specs.schedule_commit.laws_strands.Law.{steps_by}
+use Rattle.schedule_commit.specs.Absorbing.{steps_in}
+use Rattle.schedule_commit.specs.Fitting.{FitsRun}
+use Rattle.schedule_commit.specs.frame_strand.declared.outside.Strand.{Strand}
+use Rattle.schedule_commit.specs.frame_strand.declared.standing.Pause.TheVariants.{Blank}
+use Rattle.schedule_commit.specs.laws_strands.Law.{steps_by}
 use Rattle.schedule_workers.specs.Starts.{ArePlaces}
 use Rattle.laws_workers.specs.verifier.Budgets.{IsDepthOf}
 use Rattle.frame.specs.declared.event.Event.TheVariants.{Step}

@@ -4,8 +4,8 @@ ghost use Rattle.semantics.specs.Cells.{Cell};
 ghost use Rattle.semantics.specs.Events.{Machine as RunningMachine};
 ghost use Rattle.frame_engine.specs.Flat.{cell_in};
 ghost use Rattle.frame_engine.specs.Shows.{address};
-ghost use Rattle.schedule_publish.specs.schedule_commit.Absorbing.{steps_in};
-ghost use Rattle.schedule_publish.specs.schedule_commit.frame_strand.declared.standing.Pause.TheVariants.{Blank};
+ghost use Rattle.schedule_commit.specs.Absorbing.{steps_in};
+ghost use Rattle.schedule_commit.specs.frame_strand.declared.standing.Pause.TheVariants.{Blank};
 ghost use Rattle.schedule_workers.specs.Follows.{Follows};
 ghost use Rattle.schedule_workers.specs.Layouts.{layout_of};
 ghost use Rattle.schedule_workers.specs.Starts.{ArePlaces};
@@ -19,7 +19,7 @@ use crate::stage::Stage;
 use frame_engine::Places;
 use lists::OutOfMemory;
 use store::Verified;
-use schedule_publish::{Pause, Strand, absorb, cell};
+use schedule_commit::{Pause, Strand, absorb, cell};
 use std::alloc::Global;
 
 /// Where the objects of a module begin: what its strands are made with.

@@ -30,7 +30,7 @@ pub use store::{Finished, Memory, RunFault, Verified, unmet_requirement};
 pub use piles::{advance_pile, blank_pile, fill_pile, fill_pile_ahead};
 pub use ready::Spot;
 pub use schedule::replay;
-pub use schedule_publish::{Pause, Pile, PilePause, Strand};
+pub use schedule_commit::{Pause, Pile, PilePause, Strand};
 pub use shared_places::SharedPlaces;
 pub use stage::Stage;
 pub use task::{Status, TaskView};

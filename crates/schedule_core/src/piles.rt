@@ -3,10 +3,10 @@ ghost use Rattle.std.specs.Prelude.{◌≡◌, ◌↔◌, ◌≤◌, IfNone, IfO
 ghost use Rattle.schedule_workers.specs.Follows.{Follows};
 ghost use Rattle.schedule_workers.specs.Starts.{ArePlaces};
 ghost use Rattle.frame_engine.specs.Flat.{cell_in};
-ghost use Rattle.schedule_publish.specs.private_stack_log.Logs.{filled_log, page_around};
-ghost use Rattle.schedule_publish.specs.private_stack_log.Tables.{log_of};
-ghost use Rattle.schedule_publish.specs.private_stack.Along.{IsUnderWay};
-ghost use Rattle.schedule_publish.specs.private_stack.Going.{IsGoing};
+ghost use Rattle.schedule_commit.specs.private_stack_log.Logs.{filled_log, page_around};
+ghost use Rattle.schedule_commit.specs.private_stack_log.Tables.{log_of};
+ghost use Rattle.schedule_commit.specs.private_stack.Along.{IsUnderWay};
+ghost use Rattle.schedule_commit.specs.private_stack.Going.{IsGoing};
 ghost use Rattle.schedule_core.specs.Piles.{FitsStack, HasRoomFor, IsBegun, IsPileOf, RunsNothing};
 ghost use Rattle.schedule_core.specs.Replaying.{IsMachine};
 ghost use Rattle.schedule_core.specs.Spots.{KeepsSpots};
@@ -18,7 +18,7 @@ use crate::stage::Stage;
 use frame_engine::{Places, most_moves};
 use lists::OutOfMemory;
 use store::Verified;
-use schedule_publish::{Pile, PilePause as Pause, absorb_deep, has_no_child, page_around};
+use schedule_commit::{Pile, PilePause as Pause, absorb_deep, has_no_child, page_around};
 use std::alloc::Global;
 
 /// A pile without a base, with room for the phi moves of the module.

@@ -1,7 +1,7 @@
 use Rattle.std.proofs.Common.{◌≡◌, length, subst, sym, ◌∙◌}
 use Rattle.std.specs.Prelude.{OnErr, Ok, true}
 use Rattle.program.specs.declared.function.Program.{Program}
-use Rattle.schedule_publish.specs.schedule_commit.Absorbing.{DoesStrand, KeepsHand, LeavesStallsBy, StandsAlone, steps_in}
+use Rattle.schedule_commit.specs.Absorbing.{DoesStrand, KeepsHand, LeavesStallsBy, StandsAlone, steps_in}
 use Rattle.frame_engine.specs.declared.activation.Places.{Places}
 use Rattle.schedule_workers.specs.Going.{TextFits}
 use Rattle.schedule_workers.specs.Left.{LeavesAsShown}

@@ -1,7 +1,7 @@
 use Rattle.std.proofs.Common.{length, subst, sym}
 use Rattle.program.specs.declared.function.Program.{Program}
 use Rattle.schedule_workers.specs.Going.{TextFits}
-use Rattle.schedule_publish.specs.private_stack.Along.{IsUnderWay}
+use Rattle.schedule_commit.specs.private_stack.Along.{IsUnderWay}
 use Rattle.schedule_core.proofs.Grounds.{laws}
 use Rattle.schedule_core.proofs.piles.advance_pile.Goals as goal
 

@@ -2,8 +2,8 @@ use Rattle.std.proofs.Common.{rules, sym, subst, ℤ, FitsSigned}
 use Rattle.std.specs.Int.{w64}
 use Rattle.std.proofs.lemmas.Int.{to_z-of_z}
 use Rattle.program.specs.declared.function.Program.{Program}
-use Rattle.schedule_publish.specs.private_stack.Going.{IsGoing}
-use Rattle.schedule_publish.specs.private_stack.declared.going.Pause.TheVariants.{Need}
+use Rattle.schedule_commit.specs.private_stack.Going.{IsGoing}
+use Rattle.schedule_commit.specs.private_stack.declared.going.Pause.TheVariants.{Need}
 use Rattle.schedule_core.proofs.piles.fill_pile.Goals as goal
 
 pub fill-requires : goal.fill-requires

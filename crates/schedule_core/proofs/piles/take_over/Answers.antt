@@ -3,8 +3,8 @@ use Rattle.std.specs.Prelude.{Ok, true}
 use Rattle.program.specs.declared.function.Program.{Program}
 use Rattle.frame_engine.specs.declared.activation.Places.{Places}
 use Rattle.schedule_workers.specs.Going.{TextFits}
-use Rattle.schedule_publish.specs.private_stack.Along.{IsUnderWay}
-use Rattle.schedule_publish.specs.Absorbing.{DoesDeep, LeavesStallsDeep, StandsDeep}
+use Rattle.schedule_commit.specs.private_stack.Along.{IsUnderWay}
+use Rattle.schedule_commit.specs.deep.Absorbing.{DoesDeep, LeavesStallsDeep, StandsDeep}
 use Rattle.schedule_core.specs.Stages.{program_of}
 use Rattle.schedule_core.specs.Strands.{TakesSteps}
 use Rattle.schedule_core.proofs.Commits.{same_places}

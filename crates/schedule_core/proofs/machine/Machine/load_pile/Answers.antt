@@ -6,10 +6,10 @@ use Rattle.program.specs.declared.function.Program.{Program}
 use Rattle.schedule_workers.specs.declared.run.Block.{Block}
 use Rattle.schedule_workers.specs.Lent.{IsFree}
 use Rattle.schedule_workers.specs.Scheduling.{hand_of}
-use Rattle.schedule_publish.specs.private_stack_log.Logs.{Log}
-use Rattle.schedule_publish.specs.private_stack.Along.{MayBegin}
-use Rattle.schedule_publish.specs.private_stack.Layouts.{Segment}
-use Rattle.schedule_publish.specs.Fitting.{HasNoChild, segment_block}
+use Rattle.schedule_commit.specs.private_stack_log.Logs.{Log}
+use Rattle.schedule_commit.specs.private_stack.Along.{MayBegin}
+use Rattle.schedule_commit.specs.private_stack.Layouts.{Segment}
+use Rattle.schedule_commit.specs.deep.Fitting.{HasNoChild, segment_block}
 use Rattle.schedule_core.specs.Stages.{program_of}
 use Rattle.schedule_core.proofs.Bases.{may_load}
 use Rattle.schedule_core.proofs.Loads.{frame_fits}

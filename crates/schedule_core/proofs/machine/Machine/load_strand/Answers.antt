@@ -5,7 +5,7 @@ use Rattle.program.specs.declared.function.Program.{Program}
 use Rattle.cactus.specs.Frames.{node_at}
 use Rattle.frame_engine.specs.Activation.{FrameFits}
 use Rattle.frame_engine.specs.declared.activation.Places.{Places}
-use Rattle.schedule_publish.specs.schedule_commit.frame_strand.Along.{MayBegin}
+use Rattle.schedule_commit.specs.frame_strand.Along.{MayBegin}
 use Rattle.schedule_workers.specs.Scheduling.{hand_of}
 use Rattle.schedule_core.specs.Stages.{program_of}
 use Rattle.schedule_core.proofs.Commits.{same_places}

@@ -1,0 +1,4 @@
+pub mod Fitting
+pub mod Linking
+pub mod Committing
+pub mod Absorbing
