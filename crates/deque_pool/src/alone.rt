@@ -4,10 +4,10 @@ ghost use Rattle.shared_run.specs.store.Requirements.{unmet_in};
 ghost use Rattle.shared_run.specs.store.Made.{IsMadeFor};
 ghost use Rattle.shared_run.specs.Answer.{IsSerialAnswer};
 ghost use Rattle.shared_run.specs.Story.{origin};
-ghost use Rattle.deque_pool_alone.specs.UnderWay.{IsRefusal};
+ghost use Rattle.deque_pool.specs.lone.UnderWay.{IsRefusal};
 
 use crate::gate::{Gate, Go};
-use deque_pool_alone::{LoneRun, run_unwatched};
+use crate::lone::{LoneRun, run_unwatched};
 use lists::OutOfMemory;
 use shared_run::{Finished, Memory, RunFault, Verified};
 use std::alloc::Global;

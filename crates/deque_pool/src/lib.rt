@@ -8,6 +8,7 @@ mod demand;
 mod figures;
 mod gate;
 mod locking;
+mod lone;
 mod outlook;
 mod pace;
 mod recorded;

@@ -1,4 +1,4 @@
-use Rattle.deque_pool_alone.specs.UnderWay.{IsRunOf}
+use Rattle.deque_pool.specs.lone.UnderWay.{IsRunOf}
 use Rattle.deque_pool.proofs.alone.run_alone.Given as goal
 
 abbrev pub invariant-loop : goal.invariant-loop

@@ -8,7 +8,7 @@ use Rattle.store.specs.declared.outcome.RunFault.{RunFault}
 use Rattle.store.specs.declared.outcome.RunFault.TheVariants.{BadArguments, BadWorkers, OutOfMemory, Stopped}
 use Rattle.store.specs.Cells.{NamedCells}
 use Rattle.serial_machine.specs.Promise.{EndsOrLacksMemory, EndsWithinBudget}
-use Rattle.deque_pool_alone.specs.UnderWay.{IsRefusal}
+use Rattle.deque_pool.specs.lone.UnderWay.{IsRefusal}
 
 module _ (program : Program) (arguments : List ℤ) (memory : List NamedCells) where
   -- all three clauses

@@ -5,7 +5,7 @@ use Rattle.serial_stack.specs.Shown.{TextFits}
 use Rattle.serial_stack.specs.Starts.{Begins}
 use Rattle.serial_stack.proofs.Calling.{vec_small}
 use Rattle.serial_machine.proofs.Engine.{fits, goes, room}
-use Rattle.deque_pool_alone.proofs.run.LoneRun.of_taken.Goals as goal
+use Rattle.deque_pool.proofs.lone.run.LoneRun.of_taken.Goals as goal
 
 pub begin-requires-clause-room : goal.begin-requires-clause-room
 begin-requires-clause-room c = room c.args.program.now c.requires.accepted c.args.arguments.now c.args.memory c.requires.taken c.requires.cells

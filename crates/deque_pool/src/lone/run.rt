@@ -4,11 +4,11 @@ ghost use Rattle.store.specs.Made.{HasGlobalCells, IsMadeFor};
 ghost use Rattle.store.specs.verifier.Accepted.{IsAccepted};
 ghost use Rattle.store.specs.verifier.Budgets.{budget_of};
 ghost use Rattle.serial_machine.specs.Promise.{EndsWithinBudget, TakesMore};
-ghost use Rattle.deque_pool_alone.specs.UnderWay.{GetsOn, IsRefusal, IsRunOf, IsUnderWay};
+ghost use Rattle.deque_pool.specs.lone.UnderWay.{GetsOn, IsRefusal, IsRunOf, IsUnderWay};
 
-use crate::counted::CountedCells;
-use crate::counts::Counts;
-use crate::steps::{advance, is_at_border};
+use crate::lone::counted::CountedCells;
+use crate::lone::counts::Counts;
+use crate::lone::steps::{advance, is_at_border};
 use frame_engine::{Flat, Places, most_moves};
 use frame_strand::MOST;
 use lists::OutOfMemory;

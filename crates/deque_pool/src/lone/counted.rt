@@ -1,8 +1,8 @@
 ghost use Rattle.std.specs.Prelude.{◌≡◌, ⊤, Some};
 ghost use Rattle.frame_engine.specs.Flat.{cell_in, is_cell};
-ghost use Rattle.deque_pool_alone.specs.Counted.{IsFull};
+ghost use Rattle.deque_pool.specs.lone.Counted.{IsFull};
 
-use crate::counts::Counts;
+use crate::lone::counts::Counts;
 use frame_engine::{Cells, Flat};
 
 /// The strand has read or written 256 cells, and would need one more.

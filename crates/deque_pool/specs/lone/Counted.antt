@@ -1,7 +1,7 @@
 -- For the functions of this crate alone: how many cells a strand has read and written.
 use Rattle.std.specs.Prelude.{◌≡◌, ◌≤◌}
 use Rattle.frame_engine.specs.Access.{Access, Adds, Loads, Stores}
-use Rattle.deque_pool_alone.specs.declared.counts.Counts.{Counts}
+use Rattle.deque_pool.specs.declared.lone.counts.Counts.{Counts}
 
 -- none: the strand begins
 abbrev pub IsBlank : Counts → Type 0

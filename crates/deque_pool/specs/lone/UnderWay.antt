@@ -18,7 +18,7 @@ use Rattle.serial_stack.specs.Shown.{RunsSafely, TextFits}
 use Rattle.serial_stack.specs.Starts.{Begins}
 use Rattle.serial_stack.specs.Steps.{Run}
 use Rattle.serial_stack.specs.declared.stack.Stack.{Stack}
-use Rattle.deque_pool_alone.specs.declared.run.LoneRun.{LoneRun}
+use Rattle.deque_pool.specs.declared.lone.run.LoneRun.{LoneRun}
 
 -- it may begin: the verifier took the program, whose `main` takes the arguments, and memory has its cells
 pub record MayBegin (program : Program) (arguments : List ℤ) (memory : List NamedCells) : Type 0 where

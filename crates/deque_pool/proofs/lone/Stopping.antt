@@ -15,10 +15,10 @@ use Rattle.frame_engine.specs.declared.activation.Frame as machine
 use Rattle.frame_engine.specs.declared.activation.Places.{Places}
 use Rattle.frame_engine.specs.declared.turning.Pause.{Pause}
 use Rattle.frame_engine.specs.declared.turning.Pause.TheVariants.{Border, Limit, Stopped}
-use Rattle.deque_pool_alone.specs.Counted.{IsBlank, IsFull}
-use Rattle.deque_pool_alone.specs.declared.counted.CountedCells.{CountedCells}
-use Rattle.deque_pool_alone.specs.declared.counts.Counts.{Counts}
-use Rattle.deque_pool_alone.specs.declared.counted.Full.{Full}
+use Rattle.deque_pool.specs.lone.Counted.{IsBlank, IsFull}
+use Rattle.deque_pool.specs.declared.lone.counted.CountedCells.{CountedCells}
+use Rattle.deque_pool.specs.declared.lone.counts.Counts.{Counts}
+use Rattle.deque_pool.specs.declared.lone.counted.Full.{Full}
 
 -- ---- no access needs a place that is not there
 

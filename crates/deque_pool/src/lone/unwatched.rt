@@ -2,7 +2,7 @@ ghost use Rattle.std.specs.Prelude.{◌≡◌, ◌≢◌, Err, IfErr, IfOk, None
 ghost use Rattle.store.specs.Requirements.{unmet_in};
 ghost use Rattle.store.specs.Made.{HasGlobalCells};
 ghost use Rattle.serial_machine.specs.Promise.{EndsWithinBudget};
-ghost use Rattle.deque_pool_alone.specs.UnderWay.{IsRefusal};
+ghost use Rattle.deque_pool.specs.lone.UnderWay.{IsRefusal};
 
 use store::{Finished, Memory, RunFault, Verified};
 use serial_machine::serial_run;
@@ -13,7 +13,7 @@ use std::alloc::Global;
 /// # Errors
 ///
 /// 801 where the arguments are not those of `main`; the memory is handed back. 803 where memory is refused.
-#[tactic(auto, using(crate::proofs::Answering::ended, crate::proofs::Answering::met, crate::proofs::Answering::refusal))]
+#[tactic(auto, using(crate::proofs::lone::Answering::ended, crate::proofs::lone::Answering::met, crate::proofs::lone::Answering::refusal))]
 pub fn run_unwatched(
     alloc: Global,
     verified: &Verified,

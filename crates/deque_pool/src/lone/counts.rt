@@ -1,9 +1,9 @@
 //! How many cells a strand has read and written.
 ghost use Rattle.std.specs.Prelude.{◌≡◌, OnErr, OnOk};
 ghost use Rattle.frame_engine.specs.Access.{Adds, Loads, Stores};
-ghost use Rattle.deque_pool_alone.specs.Counted.{IsBlank, IsFull};
+ghost use Rattle.deque_pool.specs.lone.Counted.{IsBlank, IsFull};
 
-use crate::counted::Full;
+use crate::lone::counted::Full;
 use lists::OutOfMemory;
 use std::alloc::Global;
 

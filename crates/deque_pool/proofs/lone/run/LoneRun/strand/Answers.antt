@@ -6,9 +6,9 @@ use Rattle.store.specs.declared.outcome.Finished.{Finished}
 use Rattle.store.specs.Rows.{refilled}
 use Rattle.serial_stack.specs.Shown.{Returns}
 use Rattle.serial_machine.specs.Promise.{EndsWithinBudget}
-use Rattle.deque_pool_alone.proofs.OnWay.{done_before, fits, numbers, over, passed, stands, stays, went_on, within}
-use Rattle.deque_pool_alone.proofs.Stopping.{got_on}
-use Rattle.deque_pool_alone.proofs.run.LoneRun.strand.Goals as goal
+use Rattle.deque_pool.proofs.lone.OnWay.{done_before, fits, numbers, over, passed, stands, stays, went_on, within}
+use Rattle.deque_pool.proofs.lone.Stopping.{got_on}
+use Rattle.deque_pool.proofs.lone.run.LoneRun.strand.Goals as goal
 
 pub advance-pause-requires-clause-stands : goal.advance-pause-requires-clause-stands
 advance-pause-requires-clause-stands c = fits _ _ _ _ _ _ _ c.requires

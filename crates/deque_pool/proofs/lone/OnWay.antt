@@ -16,7 +16,7 @@ use Rattle.serial_stack.specs.declared.stack.Stack.{Stack}
 use Rattle.serial_stack.proofs.Turning.{fits_prop, goes_on_here, may_go_on, numbers_here, no_less, numbers_prop, stands_here, stays_here, turned, walked_on, within_here}
 use Rattle.serial_machine.specs.Promise.{EndsWithinBudget, TakesMore}
 use Rattle.serial_machine.proofs.Engine.{ends, takes_more}
-use Rattle.deque_pool_alone.specs.UnderWay.{IsOnWay}
+use Rattle.deque_pool.specs.lone.UnderWay.{IsOnWay}
 
 module _ (program : Program) (arguments : List ℤ) (memory : List NamedCells) (places : Places) (k : Stack) (n peak : ℕ) (w : IsOnWay program arguments memory places k n peak) where
   -- ---- where it stands
