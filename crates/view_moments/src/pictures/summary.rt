@@ -1,8 +1,8 @@
 //! A long run, summed up: a column is many rounds of a worker.
 
-use crate::grid::{Grid, STAY};
-use crate::scene::{Scene, Theft, Work};
-use crate::svg::{Rectangle, push_rectangle};
+use crate::pictures::grid::{Grid, STAY};
+use crate::pictures::scene::{Scene, Theft, Work};
+use crate::pictures::svg::{Rectangle, push_rectangle};
 use buffers::TextBuffer;
 use std::alloc::{AllocError, Global};
 

@@ -1,10 +1,10 @@
 //! The picture of a run, as SVG.
 
-use crate::colour::{LOOKS, hatching_of, hue_of};
-use crate::grid::{Grid, LEFT, STAY, WORK};
-use crate::legend::{LEGEND, push_legend};
-use crate::scene::{Scene, Stay, Theft, Work};
-use crate::summary::push_summary;
+use crate::pictures::colour::{LOOKS, hatching_of, hue_of};
+use crate::pictures::grid::{Grid, LEFT, STAY, WORK};
+use crate::pictures::legend::{LEGEND, push_legend};
+use crate::pictures::scene::{Scene, Stay, Theft, Work};
+use crate::pictures::summary::push_summary;
 use buffers::TextBuffer;
 use lists::OutOfMemory;
 use std::alloc::Global;

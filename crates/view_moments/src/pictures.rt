@@ -1,7 +1,6 @@
 //! A run as a picture: workers down, rounds across.
 //!
 //! A [`Scene`] is told a run's events, one after another, each with its round, and keeps who ran which task when; [`picture`] draws it.
-#![tactic(auto)]
 
 mod colour;
 mod grid;

@@ -1,6 +1,6 @@
 //! Where things stand in a picture, in pixels.
 
-use crate::scene::Scene;
+use crate::pictures::scene::Scene;
 
 /// The room for the workers' names.
 pub const LEFT: u64 = 84;

@@ -1,8 +1,8 @@
 //! What the signs of a picture mean.
 
-use crate::grid::Grid;
-use crate::scene::Scene;
-use crate::svg::{Rectangle, push_rectangle};
+use crate::pictures::grid::Grid;
+use crate::pictures::scene::Scene;
+use crate::pictures::svg::{Rectangle, push_rectangle};
 use buffers::TextBuffer;
 
 /// The room below the rows.
