@@ -1,7 +1,7 @@
 //! Answers about a module as JSON.
 
 use crate::job::Question;
-use cli_json::{
+use cli_modules::{
     Explanation, UNDECIDED, accepted_json, explain, explanation_json, known_json, refusal_json,
 };
 use cli_modules::{Beside, Status, find_function, note_effort, note_fault, stop_for_memory};

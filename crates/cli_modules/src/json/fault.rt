@@ -1,6 +1,6 @@
 //! A broken rule.
 
-use crate::list::push_member;
+use crate::json::list::push_member;
 use buffers::TextBuffer;
 use explain_findings::line_at;
 use lists::OutOfMemory;

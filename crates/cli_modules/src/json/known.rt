@@ -1,6 +1,6 @@
 //! What the verifier knows of each block, from the lines that `show` prints.
 
-use crate::list::{push_member, push_separator, push_text};
+use crate::json::list::{push_member, push_separator, push_text};
 use buffers::TextBuffer;
 use lists::OutOfMemory;
 use std::alloc::{AllocError, Global};

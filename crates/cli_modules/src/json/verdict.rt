@@ -1,6 +1,6 @@
 //! The verdict of `verify` on a module that is accepted.
 
-use crate::list::push_separator;
+use crate::json::list::push_separator;
 use buffers::TextBuffer;
 use std::alloc::{AllocError, Global};
 use verifier::Verified;

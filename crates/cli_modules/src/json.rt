@@ -1,8 +1,6 @@
 //! Answers about a module as JSON, for editors and services: an object a line, as `docs/FORMATS.md` tells.
 //!
 //! What a verdict or an explanation says is what the words of `verify`, `explain` and `show` say; here it has names.
-#![tactic(auto)]
-
 mod explanation;
 mod fault;
 mod known;

@@ -1,8 +1,8 @@
 //! An explanation: each fault with what was to be shown, what is known and what would mend it.
 
-use crate::fault::{push_place, words_of};
-use crate::list::{push_member, push_separator, push_text};
-use crate::verdict::UNDECIDED;
+use crate::json::fault::{push_place, words_of};
+use crate::json::list::{push_member, push_separator, push_text};
+use crate::json::verdict::UNDECIDED;
 use buffers::TextBuffer;
 use explain::{Explanation, Finding};
 use explain_findings::line_at;
