@@ -4,6 +4,8 @@
 //! memory and made once more.
 #![tactic(auto)]
 
+mod threads;
+
 use cases::Report;
 use cases_boards::boards::{self, Notes};
 use cases_layers::{schedules, shown, steps, texts};
@@ -34,7 +36,7 @@ fn answer_word<R: AllocGlobal + Files + Threads + Wait + Clock + Sync>(
         "steps" => steps::answer(rt, state, report),
         "schedules" => Ok(schedules::answer(rt.alloc(), report)?),
         "boards" => boards::answer(rt, state, word, notes, report),
-        "threads" => cases_threads::answer(rt, state, report),
+        "threads" => threads::answer(rt, state, report),
         _ => texts::answer(rt, state, kind, word, report),
     }
 }

@@ -2,9 +2,9 @@
 
 use crate::job::Question;
 use cli_modules::{
-    Explanation, UNDECIDED, accepted_json, explain, explanation_json, known_json, refusal_json,
+    Beside, Explanation, Status, UNDECIDED, accepted_json, explain, explanation_json, find_function,
+    known_json, note_effort, note_fault, refusal_json, stop_for_memory,
 };
-use cli_modules::{Beside, Status, find_function, note_effort, note_fault, stop_for_memory};
 use cli_words::{Request, Verb};
 use debugger::{Effort, Refused, Unverified, Verified, verify_within};
 use std::alloc::{AllocError, Global};

@@ -2,7 +2,7 @@
 
 use crate::job::Job;
 use cli_modules::{Status, print_refused};
-use cli_prompts::{Session, converse};
+use cli_tellings::{Session, converse};
 use debugger::Debugger;
 use ir_reader::read;
 use program::Program;

@@ -2,6 +2,7 @@
 //!
 //! A strand ends where one of the board's workers would: `CountedCells` counts the cells that it reads and writes, and `LoneRun::strand` does one. Where nobody
 //! sees the strands, the run is the serial run: `run_unwatched`.
+
 mod counted;
 mod counts;
 mod run;

@@ -17,7 +17,7 @@ use Rattle.serial_stack.specs.Steps as serial
 use Rattle.serial_stack.specs.Steps.{HasNoStep, IsStuck, Run}
 use Rattle.serial_stack.specs.Shown.{item_here}
 use Rattle.serial_stack.proofs.Places.{call_here, detach_here, reattach_here, return_here, sync_here}
-use Rattle.private_stack_log.specs.frame_strand.Alone as alone
+use Rattle.private_stack.specs.frame_strand.Alone as alone
 use Rattle.laws_stacks.specs.Footprint.{memory_of}
 use Rattle.laws_stacks.specs.Deep.{DeepStrand, next_action}
 use Rattle.private_stack.specs.Layouts.{Segment, layout_above}

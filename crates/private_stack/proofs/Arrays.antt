@@ -28,12 +28,12 @@ use Rattle.frame_engine.specs.Words.{IsFirst}
 use Rattle.frame_engine.proofs.Runs.{safe_for}
 use Rattle.frame_engine.proofs.Shown.{first_is}
 use Rattle.frame_engine.proofs.Texts.{behind_step, frame_stands, located}
-use Rattle.private_stack_log.proofs.frame_strand.Walking.{one_way}
-use Rattle.private_stack_log.specs.frame_strand.declared.cells.Change.TheVariants.{Stored}
-use Rattle.private_stack_log.specs.frame_strand.declared.cells.Stop.{Stop}
-use Rattle.private_stack_log.specs.Logs.{IsWider, Log, is_open}
-use Rattle.private_stack_log.specs.Tables.{Table, log_of}
-use Rattle.private_stack_log.proofs.Opening.{has_place_open, open_changed}
+use Rattle.private_stack.proofs.frame_strand.Walking.{one_way}
+use Rattle.private_stack.specs.frame_strand.declared.cells.Change.TheVariants.{Stored}
+use Rattle.private_stack.specs.frame_strand.declared.cells.Stop.{Stop}
+use Rattle.private_stack.specs.pages.Logs.{IsWider, Log, is_open}
+use Rattle.private_stack.specs.pages.Tables.{Table, log_of}
+use Rattle.private_stack.proofs.pages.Opening.{has_place_open, open_changed}
 use Rattle.serial_stack.specs.Shown.{item_here}
 use Rattle.laws_stacks.specs.Deep.{DeepStrand, IsDeep}
 use Rattle.laws_stacks.specs.Footprint.{Footprint}

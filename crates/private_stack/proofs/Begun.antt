@@ -6,10 +6,10 @@ use Rattle.frame_engine.specs.declared.activation.Frame.{Frame}
 use Rattle.frame_engine.specs.declared.activation.Places.{Places}
 use Rattle.frame_engine.specs.Activation.{FrameFits}
 use Rattle.frame_engine.specs.Shows.{Layout}
-use Rattle.private_stack_log.specs.frame_strand.Standing.{IsCopy}
-use Rattle.private_stack_log.proofs.frame_strand.Beginning.{copied_again, copy_back, copy_fits, copy_shows}
-use Rattle.private_stack_log.specs.Logs.{empty_log}
-use Rattle.private_stack_log.specs.Tables.{log_of}
+use Rattle.private_stack.specs.frame_strand.Standing.{IsCopy}
+use Rattle.private_stack.proofs.frame_strand.Beginning.{copied_again, copy_back, copy_fits, copy_shows}
+use Rattle.private_stack.specs.pages.Logs.{empty_log}
+use Rattle.private_stack.specs.pages.Tables.{log_of}
 use Rattle.laws_stacks.specs.Footprint.{untouched}
 use Rattle.laws_stacks.specs.Deep.{is_loaded, loaded}
 use Rattle.private_stack.specs.Along.{GoesDeep, IsUnderWay, MayBegin}

@@ -11,14 +11,14 @@ use Rattle.semantics.proofs.Actions.{same_cell_itself}
 use Rattle.semantics.proofs.SameCells.{same_cell_tells}
 use Rattle.laws_stacks.specs.Footprint.{Footprint, Write, added_to, held, known, raised, settled, stored, untouched, with_read, with_writes}
 use Rattle.frame_engine.specs.Shows.{Layout, IsIn, address}
-use Rattle.private_stack_log.specs.frame_strand.Buffers.{raised_change}
-use Rattle.private_stack_log.specs.frame_strand.Showing.{AreApart}
-use Rattle.private_stack_log.specs.frame_strand.declared.cells.Change.{Change}
-use Rattle.private_stack_log.specs.frame_strand.declared.cells.Change.TheVariants.{Stored, Delta}
-use Rattle.private_stack_log.specs.Doing.{IsChanged}
-use Rattle.private_stack_log.specs.Known.{at_address, first_of, read_after, settled_change, value_of}
-use Rattle.private_stack_log.specs.Logs.{Log, empty_log, filled_log, loaded_log, place_of, same_page, value_at}
-use Rattle.private_stack_log.proofs.Addresses.{address_tells}
+use Rattle.private_stack.specs.frame_strand.Buffers.{raised_change}
+use Rattle.private_stack.specs.frame_strand.Showing.{AreApart}
+use Rattle.private_stack.specs.frame_strand.declared.cells.Change.{Change}
+use Rattle.private_stack.specs.frame_strand.declared.cells.Change.TheVariants.{Stored, Delta}
+use Rattle.private_stack.specs.pages.Doing.{IsChanged}
+use Rattle.private_stack.specs.pages.Known.{at_address, first_of, read_after, settled_change, value_of}
+use Rattle.private_stack.specs.pages.Logs.{Log, empty_log, filled_log, loaded_log, place_of, same_page, value_at}
+use Rattle.private_stack.proofs.pages.Addresses.{address_tells}
 use Rattle.private_stack.specs.Kept.{ShowsLog, write_of}
 
 at_here : {X : Type 0} (a : ℤ) (n : X) (g : ℤ → X) → at_address a n g a ≡ n

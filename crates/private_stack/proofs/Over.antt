@@ -16,7 +16,7 @@ use Rattle.frame_engine.specs.Shows.{IsIn, Layout, address}
 use Rattle.serial_stack.specs.Layouts.{alloca_sizes, for_body, size_in, start_in, with_allocas}
 use Rattle.serial_stack.proofs.Owners.{IsApart, address_apart, in_apart}
 use Rattle.serial_stack.proofs.Rows.{IsOlder, IsOwn, cell_is, either_one, same_place, same_pos, start_below}
-use Rattle.private_stack_log.specs.frame_strand.Showing.{AreApart}
+use Rattle.private_stack.specs.frame_strand.Showing.{AreApart}
 use Rattle.laws_stacks.specs.Deep.{Placed}
 use Rattle.laws_stacks.proofs.Rising.{Rises}
 use Rattle.private_stack.specs.Layouts.{IsOutside, IsToCome, OwnsNone, Segment, end_above, layout_above}

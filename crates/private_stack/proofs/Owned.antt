@@ -12,11 +12,11 @@ use Rattle.laws_stacks.specs.Footprint.{Footprint, Write, added_to, held, known,
 use Rattle.laws_stacks.specs.Footprint as deep
 use Rattle.laws_stacks.proofs.Keeping.{Agrees, put_after, put_read}
 use Rattle.frame_engine.specs.Shows.{Layout, IsIn, address}
-use Rattle.private_stack_log.specs.frame_strand.Buffers.{raised_change}
-use Rattle.private_stack_log.specs.frame_strand.Showing.{AreApart}
-use Rattle.private_stack_log.specs.frame_strand.declared.cells.Change.TheVariants.{Stored}
-use Rattle.private_stack_log.specs.Doing.{IsChanged}
-use Rattle.private_stack_log.specs.Tables.{Table, log_of}
+use Rattle.private_stack.specs.frame_strand.Buffers.{raised_change}
+use Rattle.private_stack.specs.frame_strand.Showing.{AreApart}
+use Rattle.private_stack.specs.frame_strand.declared.cells.Change.TheVariants.{Stored}
+use Rattle.private_stack.specs.pages.Doing.{IsChanged}
+use Rattle.private_stack.specs.pages.Tables.{Table, log_of}
 use Rattle.private_stack.specs.Kept.{HoldsOwn, ShowsKept, ShowsLog}
 use Rattle.private_stack.specs.OwnCells.{IsOwnPut, own_cell}
 use Rattle.private_stack.specs.declared.cells.PileCells.{PileCells}

@@ -13,9 +13,9 @@ use Rattle.frame_engine.specs.Access.{Stores}
 use Rattle.frame_engine.specs.Accesses.{Zeroed}
 use Rattle.frame_engine.specs.Shows.{Layout, IsIn, address}
 use Rattle.frame_engine.proofs.Values.{cells_on}
-use Rattle.private_stack_log.specs.Accessing.{TableDoes}
-use Rattle.private_stack_log.specs.Logs.{Log}
-use Rattle.private_stack_log.specs.Tables.{Table, log_of}
+use Rattle.private_stack.specs.pages.Accessing.{TableDoes}
+use Rattle.private_stack.specs.pages.Logs.{Log}
+use Rattle.private_stack.specs.pages.Tables.{Table, log_of}
 use Rattle.private_stack.specs.Kept.{ShowsKept}
 use Rattle.private_stack.specs.Layouts.{IsOutside, Segment}
 use Rattle.private_stack.specs.OwnCells.{CellsDo, DoBy, own_cell, segment_of}

@@ -11,7 +11,7 @@ use Rattle.frame_engine.specs.declared.activation.Places.{Places}
 use Rattle.frame_engine.specs.declared.activation.Frame as machine
 use Rattle.frame_engine.specs.Activation.{ShowsFrame}
 use Rattle.frame_engine.specs.Shows.{IsIn, Layout, address}
-use Rattle.private_stack_log.specs.frame_strand.Showing.{AreApart}
+use Rattle.private_stack.specs.frame_strand.Showing.{AreApart}
 use Rattle.laws_stacks.specs.Deep.{DeepStrand, IsDeep, at}
 use Rattle.private_stack.specs.Layouts.{IsOutside, Segment, end_above}
 use Rattle.private_stack.specs.OwnCells.{segment_of}

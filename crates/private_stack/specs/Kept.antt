@@ -5,10 +5,10 @@ use Rattle.semantics.specs.Cells.{Cell}
 use Rattle.laws_stacks.specs.Footprint.{Footprint, Write, put}
 use Rattle.laws_stacks.specs.Footprint as deep
 use Rattle.frame_engine.specs.Shows.{Layout, IsIn, address}
-use Rattle.private_stack_log.specs.frame_strand.declared.cells.Change.{Change}
-use Rattle.private_stack_log.specs.frame_strand.declared.cells.Change.TheVariants.{Stored, Delta}
-use Rattle.private_stack_log.specs.Logs.{Log}
-use Rattle.private_stack_log.specs.Tables.{log_of}
+use Rattle.private_stack.specs.frame_strand.declared.cells.Change.{Change}
+use Rattle.private_stack.specs.frame_strand.declared.cells.Change.TheVariants.{Stored, Delta}
+use Rattle.private_stack.specs.pages.Logs.{Log}
+use Rattle.private_stack.specs.pages.Tables.{log_of}
 use Rattle.private_stack.specs.OwnCells.{own_cell}
 use Rattle.private_stack.specs.declared.cells.PileCells.{PileCells}
 

@@ -10,10 +10,10 @@ use Rattle.frame_engine.specs.declared.activation.Places.{Places}
 use Rattle.frame_engine.specs.declared.turning.Pause as engine
 use Rattle.frame_engine.specs.declared.turning.Pause.TheVariants as engine_pause
 use Rattle.frame_engine.specs.Shows.{IsIn, Layout, address}
-use Rattle.private_stack_log.specs.frame_strand.declared.cells.Stop.{Stop}
-use Rattle.private_stack_log.specs.frame_strand.declared.cells.Stop.TheVariants as stop
-use Rattle.private_stack_log.specs.Logs.{has_place, value_at}
-use Rattle.private_stack_log.specs.Tables.{log_of}
+use Rattle.private_stack.specs.frame_strand.declared.cells.Stop.{Stop}
+use Rattle.private_stack.specs.frame_strand.declared.cells.Stop.TheVariants as stop
+use Rattle.private_stack.specs.pages.Logs.{has_place, value_at}
+use Rattle.private_stack.specs.pages.Tables.{log_of}
 use Rattle.laws_stacks.specs.Deep.{DeepStrand, IsDeep}
 use Rattle.private_stack.specs.Shown.{CanGo, Deeper, ShowsPile}
 use Rattle.private_stack.specs.Layouts.{Segment}

@@ -3,10 +3,10 @@ use Rattle.std.specs.Prelude.{◌≡◌, ◌≢◌, ℤ, pos, ◌-ℤ◌, Bool, 
 use Rattle.semantics.specs.Arithmetic.{cell_sum}
 use Rattle.frame_engine.specs.Access.{Access, Loads, Stores, Adds}
 use Rattle.frame_engine.specs.Flat.{cell_in}
-use Rattle.private_stack_log.specs.frame_strand.declared.cells.Stop.{Stop}
-use Rattle.private_stack_log.specs.Accessing.{TableDoes, TableRefuses}
-use Rattle.private_stack_log.specs.Logs.{is_open, value_at}
-use Rattle.private_stack_log.specs.Tables.{log_of}
+use Rattle.private_stack.specs.frame_strand.declared.cells.Stop.{Stop}
+use Rattle.private_stack.specs.pages.Accessing.{TableDoes, TableRefuses}
+use Rattle.private_stack.specs.pages.Logs.{is_open, value_at}
+use Rattle.private_stack.specs.pages.Tables.{log_of}
 use Rattle.private_stack.specs.Layouts.{Segment}
 use Rattle.private_stack.specs.declared.cells.PileCells.{PileCells}
 

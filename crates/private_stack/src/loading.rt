@@ -2,9 +2,9 @@ ghost use Rattle.std.specs.Prelude.{◌≡◌, [], IfOk, OnOk, length, max};
 ghost use Rattle.program.specs.declared.function.Program.{Program};
 ghost use Rattle.frame_engine.specs.declared.activation.Places.{Places};
 ghost use Rattle.frame_engine.specs.Activation.{FrameFits};
-ghost use Rattle.private_stack_log.specs.frame_strand.Standing.{IsCopy};
-ghost use Rattle.private_stack_log.specs.Logs.{empty_log, pages_of};
-ghost use Rattle.private_stack_log.specs.Tables.{log_of};
+ghost use Rattle.private_stack.specs.frame_strand.Standing.{IsCopy};
+ghost use Rattle.private_stack.specs.pages.Logs.{empty_log, pages_of};
+ghost use Rattle.private_stack.specs.pages.Tables.{log_of};
 ghost use Rattle.private_stack.specs.Along.{IsUnderWay, MayBegin};
 ghost use Rattle.private_stack.specs.OwnCells.{segment_of};
 
@@ -12,7 +12,7 @@ use crate::cells::PileCells;
 use crate::pile::{Base, Pile};
 use frame_engine::{Frame, blank};
 use lists::OutOfMemory;
-use private_stack_log::{PageLog, copy_frame};
+use crate::pages::{PageLog, copy_frame};
 use std::alloc::Global;
 
 /// Room for so many phi moves.

@@ -8,4 +8,3 @@ pub use Rattle.frame_strand.specs as frame_strand
 pub use Rattle.laws_strands.specs as laws_strands
 pub use Rattle.private_stack.specs as private_stack
 pub use Rattle.laws_stacks.specs as laws_stacks
-pub use Rattle.private_stack.specs.private_stack_log as private_stack_log

@@ -18,7 +18,6 @@ pub use Rattle.laws_workers.specs.verifier as verifier
 pub use Rattle.schedule_commit.specs as schedule_commit
 pub use Rattle.schedule_commit.specs.frame_strand as frame_strand
 pub use Rattle.schedule_commit.specs.private_stack as private_stack
-pub use Rattle.schedule_commit.specs.private_stack_log as private_stack_log
 pub use Rattle.frame_engine.specs as frame_engine
 pub use Rattle.schedule_workers.specs as schedule_workers
 pub use Rattle.program.specs as program

@@ -4,8 +4,8 @@ use Rattle.program.specs.declared.function.Program.{Program}
 use Rattle.frame.specs.declared.event.Event.TheVariants.{Step}
 use Rattle.schedule_core.specs.frame_engine.declared.activation.Places.{Places}
 use Rattle.schedule_core.specs.frame_engine.Flat.{cell_in}
-use Rattle.schedule_core.specs.private_stack_log.Logs.{filled_log, page_around}
-use Rattle.schedule_core.specs.private_stack_log.Tables.{log_of}
+use Rattle.schedule_core.specs.private_stack.pages.Logs.{filled_log, page_around}
+use Rattle.schedule_core.specs.private_stack.pages.Tables.{log_of}
 use Rattle.schedule_core.specs.private_stack.Along.{IsUnderWay}
 use Rattle.schedule_core.specs.private_stack.Going.{IsGoing}
 use Rattle.schedule_core.specs.private_stack.declared.pile.Pile.{Pile}

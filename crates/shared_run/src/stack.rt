@@ -1,7 +1,7 @@
 ghost use Rattle.std.specs.Prelude.{◌≡◌, ◌≢◌, ◌↔◌, ◌≤◌, IfOk, IfSome, IfNone, IsTrue, OnOk, Ok, false, length, true};
 ghost use Rattle.schedule_workers.specs.Starts.{ArePlaces};
-ghost use Rattle.schedule_core.specs.private_stack_log.Logs.{filled_log};
-ghost use Rattle.schedule_core.specs.private_stack_log.Tables.{log_of};
+ghost use Rattle.schedule_core.specs.private_stack.pages.Logs.{filled_log};
+ghost use Rattle.schedule_core.specs.private_stack.pages.Tables.{log_of};
 ghost use Rattle.schedule_core.specs.Piles.{IsBegun, IsPileOf, RunsNothing};
 ghost use Rattle.schedule_core.specs.Stages.{program_of};
 ghost use Rattle.shared_run.specs.Stacks.{IsUp, Onward};

@@ -1,7 +1,7 @@
 use Rattle.std.proofs.Common.{◌≡◌, true, sym, subst}
-use Rattle.private_stack_log.specs.Logs.{Log, is_open}
-use Rattle.private_stack_log.specs.Tables.{log_of}
-use Rattle.private_stack_log.proofs.Opening.{opened, reserved_wider}
+use Rattle.private_stack.specs.pages.Logs.{Log, is_open}
+use Rattle.private_stack.specs.pages.Tables.{log_of}
+use Rattle.private_stack.proofs.pages.Opening.{opened, reserved_wider}
 use Rattle.private_stack.proofs.cells.PileCells.open.Goals as goal
 
 pub returns-in-None-clause-wider : goal.returns-in-None-clause-wider

@@ -5,8 +5,8 @@ use Rattle.semantics.specs.Arithmetic.{wrapped}
 use Rattle.syntax.specs.declared.operator.Width.TheVariants.{Bits64}
 use Rattle.frame_engine.proofs.Bits.{written}
 use Rattle.frame_engine.proofs.Zeroing.{one_further}
-use Rattle.private_stack_log.specs.Tables.{log_of}
-use Rattle.private_stack_log.proofs.Opening.{wider_on}
+use Rattle.private_stack.specs.pages.Tables.{log_of}
+use Rattle.private_stack.proofs.pages.Opening.{wider_on}
 use Rattle.private_stack.specs.OwnCells.{CanStore}
 use Rattle.private_stack.specs.declared.cells.PileCells.{PileCells}
 use Rattle.private_stack.proofs.Opened.{still_can}

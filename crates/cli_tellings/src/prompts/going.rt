@@ -1,0 +1,83 @@
+//! Going through the schedule.
+
+use crate::prompts::session::Session;
+use debugger::Event;
+use frame::Path;
+use lists::OutOfMemory;
+
+fn worker_of(event: &Event) -> u64 {
+    match event {
+        Event::Step(worker) | Event::Steal(worker, _) => u64::from(*worker),
+    }
+}
+
+/// The position behind the next event of the worker, from this position on.
+fn behind_next(events: &[Event], position: usize, worker: u64) -> Option<usize> {
+    for (index, event) in events.iter().enumerate() {
+        if index >= position && worker_of(event) == worker {
+            return Some(index.saturating_add(1));
+        }
+    }
+    None
+}
+
+impl Session<'_, '_> {
+    /// Goes on past the worker's next event; false where it has none.
+    pub fn go_next(&mut self, worker: u64) -> Result<bool, OutOfMemory> {
+        let position = self.debugger.position();
+        match behind_next(self.debugger.events(), position, worker) {
+            Some(next) => {
+                self.debugger.to(next)?;
+                Ok(true)
+            }
+            None => Ok(false),
+        }
+    }
+
+    /// The path of the top frame of the worker's task.
+    fn top_of(&self, worker: u64) -> Result<Option<Path>, OutOfMemory> {
+        match self.worker(worker) {
+            Some(view) => Ok(Some(view.top_path.copy(self.alloc)?)),
+            None => Ok(None),
+        }
+    }
+
+    /// Goes on past the worker's next event and, where that is a call, to the callee's end; false where the worker has no event.
+    pub fn go_over(&mut self, worker: u64) -> Result<bool, OutOfMemory> {
+        let before = self.top_of(worker)?;
+        if !self.go_next(worker)? {
+            return Ok(false);
+        }
+        if let (Some(before), Some(after)) = (before, self.top_of(worker)?) {
+            let is_call = self.debugger.show_task(&after).is_none();
+            if is_call && after.numbers.len() > before.numbers.len() {
+                return self.go_to_end(&after);
+            }
+        }
+        Ok(true)
+    }
+
+    fn lives(&self, path: &Path) -> bool {
+        self.debugger.show_frame(path).is_some()
+    }
+
+    /// Goes on until the frame has ended, which may not have begun yet; false where it has not ended at the end.
+    pub fn go_to_end(&mut self, path: &Path) -> Result<bool, OutOfMemory> {
+        let mut has_lived = self.lives(path);
+        for _event in self.debugger.position()..self.debugger.len() {
+            self.debugger.forward()?;
+            let lives = self.lives(path);
+            if has_lived && !lives {
+                return Ok(true);
+            }
+            has_lived = has_lived || lives;
+        }
+        Ok(false)
+    }
+
+    /// Goes on until a worker's next instruction stands on the line; false where that is nowhere.
+    pub fn go_to_line(&mut self, line: u64) -> Result<bool, OutOfMemory> {
+        self.debugger.break_at(line)?;
+        Ok(self.debugger.machine().stands_at(line))
+    }
+}

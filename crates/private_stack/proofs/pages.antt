@@ -1,0 +1,12 @@
+pub mod Addresses
+pub mod Around
+pub mod Changing
+pub mod Committed
+pub mod Copied
+pub mod Holding
+pub mod Keeping
+pub mod Paged
+pub mod Rows
+pub mod Scanning
+pub mod Slots
+pub mod Opening

@@ -1,0 +1,26 @@
+use Rattle.std.proofs.Common.{◌+◌, ◌*◌, ◌<◌, ◌∙◌, sym, rules, w64, length}
+use Rattle.std.specs.Prelude.{FitsSigned}
+use Rattle.std.proofs.lemmas.Int.{to_z-of_z}
+use Rattle.std.proofs.lemmas.List.{length-set}
+use Rattle.semantics.specs.Arithmetic.{cell_sum}
+use Rattle.private_stack.specs.pages.Bits.{is_set}
+use Rattle.private_stack.specs.pages.Paging.{number_at}
+use Rattle.private_stack.proofs.pages.Addresses.{get_set_other}
+use Rattle.private_stack.proofs.pages.Rows.{delta_then, is_written, put_delta, put_one}
+use Rattle.private_stack.proofs.pages.page.Page.put_from.Goals as goal
+
+pub returns-clause-put : goal.returns-clause-put
+returns-clause-put c =
+    let x = c.args.self.now in
+    let k = c.args.place in
+    let row = c.args.row.now in
+    let at = x.number * 64 + k in
+    let off = sym c.if-is_set.ensures in
+    let within : at < length row = c.requires.within k c.requires.place (is_written x k c.requires.written) in
+    let fit : FitsSigned w64 c.sum.result = search rules in
+    let held : FitsSigned w64 (number_at row at) = search rules in
+    let change : FitsSigned w64 (number_at x.changes k) = search rules in
+    put_one x k row _ (length-set row at _)
+    (put_delta x row at k _ within off (delta_then (is_set x.stored k) (is_set x.delta k) c.requires.written off)
+    (to_z-of_z w64 c.sum.result fit ∙ c.sum.ensures ∙ (λ i. cell_sum (to_z-of_z w64 (number_at row at) held i) (to_z-of_z w64 (number_at x.changes k) change i))))
+    (λ i away. get_set_other row at i _ away)

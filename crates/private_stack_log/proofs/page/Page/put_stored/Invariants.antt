@@ -1,6 +1,0 @@
-use Rattle.private_stack_log.specs.Committing.{ArePut}
-use Rattle.private_stack_log.specs.Paging.{kept_of}
-use Rattle.private_stack_log.proofs.page.Page.put_stored.Given as goal
-
-abbrev pub invariant-loop-place : goal.invariant-loop-place
-invariant-loop-place l = ArePut (kept_of l.self) l.from l.place l.initial.row l.row
