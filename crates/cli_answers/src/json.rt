@@ -2,8 +2,8 @@
 
 use crate::job::Question;
 use cli_modules::{
-    Beside, Explanation, Status, UNDECIDED, accepted_json, explain, explanation_json, find_function,
-    known_json, note_effort, note_fault, refusal_json, stop_for_memory,
+    Beside, Explanation, Status, UNDECIDED, accepted_json, explain, explanation_json,
+    find_function, known_json, note_effort, note_fault, refusal_json, stop_for_memory,
 };
 use cli_words::{Request, Verb};
 use debugger::{Effort, Refused, Unverified, Verified, verify_within};

@@ -6,8 +6,7 @@ use buffers::TextBuffer;
 use lists::OutOfMemory;
 use std::alloc::{AllocError, Global};
 use view_events::{MOST_EVENTS, Numbered, Page, Start, push_event};
-use view_moments::{Moment, Rounds, Settings, push_moment};
-use view_moments::{Scene, picture};
+use view_moments::{Moment, Rounds, Scene, Settings, picture, push_moment};
 use view_traces::{Event, Script};
 
 /// What is made of the events of a run.

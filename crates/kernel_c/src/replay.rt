@@ -19,11 +19,11 @@ use crate::told::{
     BAD_ARGUMENTS, BAD_SCHEDULE, BAD_WORKERS, CLOSED, LONG_SCHEDULE, NOT_ENDED, OUT_OF_MEMORY,
     Outcome, plain_outcome,
 };
-use store::{Finished, RunFault};
 use schedule_core::{Event, Machine, replay};
 use schedule_text::{ScheduleFault, read_schedule};
 use std::alloc::Global;
 use std::mem::replace;
+use store::{Finished, RunFault};
 use verifier::Verified;
 
 /// What a run has come to: where it has ended the row takes the numbers of the globals, which are as many.

@@ -16,9 +16,9 @@ use crate::told::{
     BAD_ARGUMENTS, DONE, OTHER_CELLS, OUT_OF_FUEL, OUT_OF_MEMORY, Outcome, plain_outcome,
 };
 use lists::OutOfMemory;
-use store::{Finished, Memory, RunFault};
 use serial_machine::{Decoded, Unfinished, serial_run_within_by};
 use std::alloc::Global;
+use store::{Finished, Memory, RunFault};
 use verifier::Verified;
 
 /// Memory with the numbers of a row; else the status: there are not as many as the globals have cells, or memory was refused.

@@ -8,8 +8,8 @@ ghost use Rattle.syntax.specs.declared.operator.Width.TheVariants.{Bits64};
 ghost use Rattle.private_stack.specs.OwnCells.{CanStore, CellsDo, CellsRefuse, any_cell, may_be, own_cell};
 ghost use Rattle.private_stack.specs.Putting.{ArePutInto, IsCopiedTo};
 
-use frame_engine::{Cells, behind, sum};
 use crate::pages::{PageLog, Stop};
+use frame_engine::{Cells, behind, sum};
 
 /// The cells of a pile: those of its own frames' allocas, which are a segment of addresses, and what it read and wrote of others.
 #[derive(Drop)]

@@ -9,10 +9,10 @@ ghost use Rattle.private_stack.specs.Along.{IsUnderWay, MayBegin};
 ghost use Rattle.private_stack.specs.OwnCells.{segment_of};
 
 use crate::cells::PileCells;
+use crate::pages::{PageLog, copy_frame};
 use crate::pile::{Base, Pile};
 use frame_engine::{Frame, blank};
 use lists::OutOfMemory;
-use crate::pages::{PageLog, copy_frame};
 use std::alloc::Global;
 
 /// Room for so many phi moves.

@@ -18,9 +18,9 @@ use crate::machine::Machine;
 use crate::stage::Stage;
 use frame_engine::Places;
 use lists::OutOfMemory;
-use store::Verified;
 use schedule_commit::{Pause, Strand, absorb, cell};
 use std::alloc::Global;
+use store::Verified;
 
 /// Where the objects of a module begin: what its strands are made with.
 ///

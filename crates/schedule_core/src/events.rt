@@ -13,9 +13,9 @@ use crate::stage::Stage;
 use frame::Event;
 use frame_engine::most_moves;
 use lists::OutOfMemory;
-use store::{Memory, RunFault, Verified, unmet_requirement};
 use schedule_workers::Run;
 use std::alloc::Global;
+use store::{Memory, RunFault, Verified, unmet_requirement};
 
 /// The stage before the first event, of arguments that `main` takes.
 fn staged<'v>(

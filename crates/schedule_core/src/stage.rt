@@ -1,6 +1,6 @@
 use crate::shared_places::SharedPlaces;
-use store::{Memory, Verified};
 use schedule_workers::Run;
+use store::{Memory, Verified};
 
 /// A run of a verified module, with what its steps read.
 #[derive(Drop)]

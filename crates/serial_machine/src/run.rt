@@ -14,10 +14,10 @@ use crate::decoded::Decoded;
 use crate::places::{places_from, starts};
 use frame_engine::{Places, most_moves};
 use lists::OutOfMemory;
-use store::{Finished, Memory, RunFault, Verified, unmet_requirement};
 use program::Program;
 use serial_stack::Stack;
 use std::alloc::Global;
+use store::{Finished, Memory, RunFault, Verified, unmet_requirement};
 
 /// Why a run within some fuel has no answer.
 #[derive(Drop)]

@@ -26,8 +26,8 @@ pub use deque_pool::{
 };
 pub use explain::{Explanation, explain, rule_text, told};
 pub use frame::Path;
-pub use store::{Finished, Memory, RunFault};
 pub use serial_machine::{
     Decoded, Unfinished, serial_run, serial_run_by, serial_run_within, serial_run_within_by,
 };
+pub use store::{Finished, Memory, RunFault};
 pub use verifier::{Effort, Refused, Unverified, Verified, verify, verify_within};

@@ -12,10 +12,10 @@ use crate::lone::steps::{advance, is_at_border};
 use frame_engine::{Flat, Places, most_moves};
 use frame_strand::MOST;
 use lists::OutOfMemory;
-use store::{Finished, Memory, RunFault, Verified, unmet_requirement};
 use program::Program;
 use serial_stack::Stack;
 use std::alloc::Global;
+use store::{Finished, Memory, RunFault, Verified, unmet_requirement};
 
 /// A run of one worker alone, between two strands.
 pub struct LoneRun<'v> {

@@ -4,9 +4,9 @@ ghost use Rattle.store.specs.Made.{HasGlobalCells};
 ghost use Rattle.serial_machine.specs.Promise.{EndsWithinBudget};
 ghost use Rattle.deque_pool.specs.lone.UnderWay.{IsRefusal};
 
-use store::{Finished, Memory, RunFault, Verified};
 use serial_machine::serial_run;
 use std::alloc::Global;
+use store::{Finished, Memory, RunFault, Verified};
 
 /// The run of one worker alone where nobody sees its strands, which then need not be told apart: it is the serial run.
 ///

@@ -1,9 +1,9 @@
 ghost use Rattle.std.specs.Prelude.{◌≡◌, ◌↔◌, ℕ, IfNone, IfSome, IsTrue, true};
 ghost use Rattle.schedule_commit.specs.deep.Fitting.{FitsDeep, HasNoChild, segment_block};
 
+use crate::{is_same, same_numbers};
 use private_stack::Pile;
 use program::Program;
-use crate::{is_same, same_numbers};
 use schedule_workers::{Activation, Block, Run};
 
 /// Whether no child of the frame lives.
