@@ -1,9 +1,9 @@
 //! What a picture shows: who runs which task from when to when, and who took it from whom. Times are rounds.
 
+use crate::{Instant, Moment, Outcome, Place, TaskName, Timing};
 use frame::{Event, Path};
 use lists::OutOfMemory;
 use std::alloc::Global;
-use view_moments::{Instant, Moment, Outcome, Place, TaskName, Timing};
 
 /// A worker and its task, after one round and up to another.
 #[derive(Clone, Copy)]
