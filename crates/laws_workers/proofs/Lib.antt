@@ -4,7 +4,6 @@ pub mod Going
 pub mod Texts
 pub mod Results
 pub mod Runs
-pub mod strands
 -- for the crates above
 pub use Rattle.serial_machine.proofs as serial_machine
 pub use Rattle.serial_machine.proofs.laws_conditions as laws_conditions

@@ -10,7 +10,7 @@
 ghost use Rattle.laws_workers.specs.Promise.{RunsHoldGlobals, RunsKeepTheirSchedules, RunsStandSafely, RunsStayScheduled};
 ghost use Rattle.laws_workers.specs.Safe.{RunsAreSafe, StartsFit, TextsFit};
 
-mod strands;
+pub mod strands;
 
 pub use strands::{frames_go_alone, frames_go_deep, loaded_frames_go_deep};
 

@@ -10,6 +10,5 @@ pub mod Put
 pub mod Goes
 pub mod Taken
 pub mod Undone
-pub mod deep
 -- for the crates above
 pub use Rattle.frame_strand.proofs as frame_strand
