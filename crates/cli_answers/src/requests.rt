@@ -1,15 +1,14 @@
 //! From a request and the bytes of its files to text and a status.
 
-use crate::draw::run_drawn;
-use crate::job::{Job, Question};
+use crate::accepted::print_verified;
+use crate::faults::note_unverified;
 use crate::json::answer_json;
-use crate::runs::{debug, run_serial};
-use crate::tell::tell_replay;
+use crate::reasons::print_rule;
+use crate::refusals::print_unverified;
+use crate::shown::{answer_text, print_known};
 use crate::verdict::{Verdict, verdict_on};
-use cli_modules::{
-    Beside, Status, answer_text, note_unverified, print_known, print_rule, print_unreadable,
-    print_unverified, print_verified,
-};
+use cli_data::{Beside, Status, print_unreadable};
+use cli_runs::{Job, Question, debug, run_drawn, run_serial, tell_replay};
 use cli_words::{Request, Verb, completions, manual};
 use debugger::Effort;
 use std::alloc::Global;

@@ -1,7 +1,8 @@
 //! The verdict on a module that a request names.
 
+use crate::annotations::{in_own_lines, judged_text};
 use crate::requests::effort_of;
-use cli_modules::{Beside, in_own_lines, judged_text};
+use cli_data::Beside;
 use cli_words::Request;
 use debugger::{Refused, Unverified, Verified, verify_within};
 use std::alloc::{AllocError, Global};

@@ -1,6 +1,6 @@
 //! What `verify` prints of a module that is accepted.
 
-use crate::status::Status;
+use cli_data::Status;
 use cli_words::Request;
 use std::io;
 use std::io::Write;

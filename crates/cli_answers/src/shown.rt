@@ -1,10 +1,8 @@
 //! Modules as people see them: answers that run nothing.
 
 use crate::annotations::print_annotated;
-use crate::beside::Beside;
 use crate::reasons::print_explanation;
-use crate::refusals::print_refused;
-use crate::status::Status;
+use cli_data::{Beside, Status, print_refused};
 use cli_words::{Request, Verb};
 use std::alloc::Global;
 use std::hash::RandomState;

@@ -1,13 +1,12 @@
-//! What is said where a module is not taken, and of streams and memory.
+//! What is said of streams and memory, of files that cannot be read, and of a module that is refused.
 
 use crate::beside::Beside;
-use crate::faults::note_effort;
 use crate::status::Status;
 use cli_words::bytes_of;
+use refusal::Refused;
 use std::alloc::Global;
 use std::io;
 use std::io::{ErrorKind, Write};
-use verifier::{Refused, Unverified};
 
 /// Says that memory was refused.
 pub fn stop_for_memory<W: Write>(output: &mut W) -> io::Result<Status> {
@@ -51,24 +50,5 @@ pub fn print_refused<W: Write>(refused: &Refused, output: &mut W) -> io::Result<
             Ok(Status::Refused)
         }
         Refused::Memory => stop_for_memory(output),
-    }
-}
-
-/// Says that the effort that was granted is spent before a verdict.
-pub fn print_undecided<W: Write>(output: &mut W, beside: &mut Beside) -> io::Result<Status> {
-    writeln!(output, "undecided")?;
-    note_effort(beside)?;
-    Ok(Status::Stopped)
-}
-
-/// Says why a module is not verified: why it is refused, that memory was, or that the effort that was granted is spent.
-pub fn print_unverified<W: Write>(
-    unverified: &Unverified,
-    output: &mut W,
-    beside: &mut Beside,
-) -> io::Result<Status> {
-    match unverified {
-        Unverified::Refused(refused) => print_refused(refused, output),
-        Unverified::OutOfEffort => print_undecided(output, beside),
     }
 }

@@ -1,7 +1,7 @@
 //! The dialogue of `tapirvm debug`: a command a line, and a line in answer.
 
 use buffers::TextBuffer;
-use cli_modules::Status;
+use cli_data::Status;
 use cli_words::is_name;
 use debugger::{Debugger, Status as Standing, TaskView, read_number, read_task};
 use frame::Path;

@@ -1,8 +1,8 @@
 //! The dialogue of `tapirvm debug` with people.
 
 use crate::job::Job;
-use cli_modules::{Status, print_refused};
-use cli_tellings::{Session, converse};
+use crate::prompts::{Session, converse};
+use cli_data::{Status, print_refused};
 use debugger::Debugger;
 use ir_reader::read;
 use program::Program;

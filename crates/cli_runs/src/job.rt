@@ -1,6 +1,6 @@
 //! A module that the verifier took, and what is asked of it.
 
-use cli_modules::{Beside, Status, stop_for_memory};
+use cli_data::{Beside, Status, stop_for_memory};
 use cli_words::Request;
 use debugger::{RunFault, ScheduleFault, Verified};
 use std::alloc::{AllocError, Global};

@@ -1,12 +1,13 @@
 //! A run whose events are drawn at random.
 
+use crate::figures::Crew;
 use crate::job::Job;
 use crate::runs::{prepared, print_unprepared};
 use crate::tell::tell_course;
-use cli_modules::{Beside, Status};
-use cli_tellings::{Crew, Draw};
+use cli_data::{Beside, Status};
 use std::io;
 use std::io::Write;
+use view_traces::Draw;
 
 /// Runs by events that are drawn by the seed, and tells of them where that is asked for.
 pub fn run_drawn<W: Write>(

@@ -1,12 +1,11 @@
 //! What `explain` prints: a rule, or why a module is refused.
 
 use crate::annotations::{judged_text, lines_put_in};
-use crate::beside::Beside;
 use crate::faults::note_fault_at;
 use crate::own_lines::with_own_lines;
-use crate::refusals::{print_undecided, stop_for_memory};
-use crate::status::Status;
+use crate::refusals::print_undecided;
 use annotate::NewLines;
+use cli_data::{Beside, Status, stop_for_memory};
 use cli_words::Request;
 use explain::{Explanation, explain, rule_text, told};
 use lists::OutOfMemory;

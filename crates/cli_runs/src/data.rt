@@ -5,8 +5,9 @@ ghost use Rattle.serial_machine.specs.store.Made.{HasGlobalCells, IsMadeFor};
 
 use crate::job::Job;
 use buffers::ListBuffer;
-use cli_data::{DataFault, print_numbers, read_numbers, read_words, write_words};
-use cli_modules::{Beside, Dump, Status};
+use cli_data::{
+    Beside, DataFault, Dump, Status, print_numbers, read_numbers, read_words, write_words,
+};
 use cli_words::{DataWord, DataWords, RowWord};
 use debugger::Memory;
 use program::GlobalId;

@@ -1,6 +1,6 @@
 //! Faults of a file, told on standard error so that editors find the line.
 
-use crate::beside::Beside;
+use cli_data::Beside;
 use explain_findings::line_at;
 use rules::push_heads;
 use std::alloc::{AllocError, Global};

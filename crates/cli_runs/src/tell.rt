@@ -2,10 +2,11 @@
 
 ghost use Rattle.serial_machine.specs.store.Made.{IsMadeFor};
 
+use crate::figures::Crew;
 use crate::job::{Job, print_schedule_fault};
 use crate::runs::{prepared, print_no_schedule, print_replayed, print_unprepared, run_schedule};
-use cli_modules::{Beside, Status, stop_for_memory};
-use cli_tellings::{Course, Crew, Listed, Subject, Told, Wanted, Words, tell};
+use crate::telling::{Subject, Told, Wanted, Words, tell};
+use cli_data::{Beside, Status, stop_for_memory};
 use cli_words::Telling;
 use debugger::{Memory, read_schedule};
 use ir_reader::read;
@@ -15,6 +16,7 @@ use std::io;
 use std::io::Write;
 use syntax::Module;
 use view_events::Names;
+use view_traces::{Course, Listed};
 
 /// What is asked to be told of a run.
 fn wanted_of(telling: &Telling) -> Wanted {

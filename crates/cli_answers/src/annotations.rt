@@ -1,9 +1,8 @@
 //! Modules with annotations put in that follow from others, or taken out that are not needed.
 
-use crate::beside::Beside;
-use crate::refusals::{print_refused, print_unverified};
-use crate::status::Status;
+use crate::refusals::print_unverified;
 use annotate::{NewLines, annotated, pruned};
+use cli_data::{Beside, Status, print_refused};
 use cli_words::Request;
 use explain_findings::line_at;
 use std::alloc::{AllocError, Global};
