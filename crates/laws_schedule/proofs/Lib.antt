@@ -17,5 +17,4 @@ pub mod safe
 pub use Rattle.laws_conditions.proofs as laws_conditions
 pub use Rattle.ir_reader.proofs as ir_reader
 pub use Rattle.laws_phases.proofs as laws_phases
-pub use Rattle.types_names.proofs as types_names
 pub use Rattle.types.proofs as types

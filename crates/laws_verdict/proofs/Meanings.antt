@@ -20,14 +20,14 @@ use Rattle.syntax.specs.declared.module.Block.{Block as BlockText}
 use Rattle.syntax.specs.declared.module.Function.{Function as FunctionText}
 use Rattle.syntax.specs.declared.module.Module.{Module}
 use Rattle.syntax.specs.declared.module.ResultType.{ResultType}
-use Rattle.types_names.specs.declared.form.AnnotationPlace.TheVariants.{Body}
-use Rattle.types_names.specs.Address.{Items}
-use Rattle.types_names.specs.Fault.{all_of, and_then, both_of, made_of, unless_of}
-use Rattle.types_names.specs.Form.{inequalities_of}
-use Rattle.types_names.specs.Item.{items_of}
-use Rattle.types_names.specs.Layout.{layout_of}
-use Rattle.types_names.specs.Mention.{mentions_of, ReachesGlobal}
-use Rattle.types_names.specs.Scope.{Scope}
+use Rattle.types.specs.declared.names.form.AnnotationPlace.TheVariants.{Body}
+use Rattle.types.specs.names.Address.{Items}
+use Rattle.types.specs.names.Fault.{all_of, and_then, both_of, made_of, unless_of}
+use Rattle.types.specs.names.Form.{inequalities_of}
+use Rattle.types.specs.names.Item.{items_of}
+use Rattle.types.specs.names.Layout.{layout_of}
+use Rattle.types.specs.names.Mention.{mentions_of, ReachesGlobal}
+use Rattle.types.specs.names.Scope.{Scope}
 use Rattle.types.specs.declared.instruction.Spot.{Spot}
 use Rattle.types.specs.Call.{Named, is_named_below, is_any_named, are_distinct, fitting_arguments, passed_call, found_call, called, as_function}
 use Rattle.types.specs.Instruction.{call_register_of, call_step_of, instruction_of, step_of, phis_of}
@@ -35,7 +35,7 @@ use Rattle.types.specs.Block.{head_of, body_of, block_with, block_of}
 use Rattle.types.specs.Function.{head_of as function_head_of, function_with, function_of}
 use Rattle.types.specs.Meaning.{main_of, program_with, program_from, IsNamedIn, Means}
 use Rattle.types.specs.Terminator.{ending_of}
-use Rattle.types_names.specs.Table.{look_up}
+use Rattle.types.specs.names.Table.{look_up}
 
 -- ---- the tables tell the same
 

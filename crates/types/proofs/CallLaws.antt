@@ -23,28 +23,28 @@ use Rattle.syntax.specs.declared.module.Function.{Function as FunctionText}
 use Rattle.linear.specs.declared.form.RegisterId.{RegisterId}
 use Rattle.program.specs.declared.identifier.AllocaId.{AllocaId}
 use Rattle.syntax.specs.declared.module.Module.{Module}
-use Rattle.types_names.specs.declared.address.WholeObject.{WholeObject}
+use Rattle.types.specs.declared.names.address.WholeObject.{WholeObject}
 use Rattle.types.specs.declared.block.Body.{Body}
 use Rattle.types.specs.declared.call.ResolvedCall.{ResolvedCall}
 use Rattle.program.specs.declared.function.Program.{Program}
 use Rattle.refusal.specs.declared.refused.Refused.{Refused as TypeFault}
 use Rattle.refusal.specs.declared.refused.Refused.TheVariants.{Fault}
 use Rattle.types.specs.declared.instruction.Spot.{Spot}
-use Rattle.types_names.specs.declared.mention.Mentions.{Mentions}
-use Rattle.types_names.specs.Address.{Items, object_of}
+use Rattle.types.specs.declared.names.mention.Mentions.{Mentions}
+use Rattle.types.specs.names.Address.{Items, object_of}
 use Rattle.types.proofs.TextCalls.{IsCallApart, IsApart, CallsApart}
 use Rattle.types.specs.Call.{Named, are_distinct, is_any_named, is_named_below, passed_call, found_call, called, refused_call, arguments_of, fitting_arguments, as_function}
-use Rattle.types_names.specs.Fault.{both_of, made_of, unless_of}
+use Rattle.types.specs.names.Fault.{both_of, made_of, unless_of}
 use Rattle.types.specs.Instruction.{instruction_of, step_of, defined_of, alloca_id_of}
-use Rattle.types_names.specs.Layout.{layout_of}
+use Rattle.types.specs.names.Layout.{layout_of}
 use Rattle.types.specs.Function.{function_of, functions_of}
 use Rattle.types.specs.Block.{block_of}
-use Rattle.types_names.specs.Item.{items_of}
+use Rattle.types.specs.names.Item.{items_of}
 use Rattle.types.specs.Meaning.{Means}
-use Rattle.types_names.specs.Mention.{ReachesGlobal, IsNamedTable, mentions_of}
-use Rattle.types_names.specs.Scope.{Scope}
-use Rattle.types_names.specs.Table.{look_up}
-use Rattle.types_names.proofs.Inversion.{made_ok, then_ok, both_ok, unless_ok, all_ok, err_not_ok}
+use Rattle.types.specs.names.Mention.{ReachesGlobal, IsNamedTable, mentions_of}
+use Rattle.types.specs.names.Scope.{Scope}
+use Rattle.types.specs.names.Table.{look_up}
+use Rattle.types.proofs.names.Inversion.{made_ok, then_ok, both_ok, unless_ok, all_ok, err_not_ok}
 
 -- a test that no element passes
 none_passes : {X : Type 0} (test : X → Bool) (xs : List X) (i : ℕ) (d : X) → list_any test xs ≡ false → i < length xs → test (get_or xs i d) ≡ false

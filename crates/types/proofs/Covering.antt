@@ -26,33 +26,33 @@ use Rattle.syntax.specs.declared.instruction.Instruction.{Instruction as Instruc
 use Rattle.syntax.specs.declared.instruction.Instruction.TheVariants as text
 use Rattle.syntax.specs.declared.module.Function.{Function as FunctionText}
 use Rattle.syntax.specs.declared.operator.Width.TheVariants.{Bits64}
-use Rattle.types_names.specs.declared.address.WholeObject.{WholeObject}
+use Rattle.types.specs.declared.names.address.WholeObject.{WholeObject}
 use Rattle.types.specs.declared.call.ResolvedCall.{ResolvedCall}
 use Rattle.refusal.specs.declared.refused.Refused.{Refused as TypeFault}
 use Rattle.refusal.specs.declared.refused.Refused.TheVariants.{Fault}
-use Rattle.types_names.specs.declared.form.AnnotationPlace.{AnnotationPlace}
-use Rattle.types_names.specs.declared.form.AnnotationPlace.TheVariants as place
+use Rattle.types.specs.declared.names.form.AnnotationPlace.{AnnotationPlace}
+use Rattle.types.specs.declared.names.form.AnnotationPlace.TheVariants as place
 use Rattle.types.specs.declared.instruction.Spot.{Spot}
-use Rattle.types_names.specs.declared.item.Item.{Item}
-use Rattle.types_names.specs.declared.item.Item.TheVariants as item
-use Rattle.types_names.specs.declared.mention.Mentions.{Mentions}
-use Rattle.types_names.specs.declared.scope.Holding.{Holding}
-use Rattle.types_names.specs.declared.scope.Holding.TheVariants as holding
-use Rattle.types_names.specs.declared.scope.Named.TheVariants as named_as
-use Rattle.types_names.specs.declared.scope.Register.{Register}
-use Rattle.types_names.specs.Address.{Items, as_global, as_object, object_of, as_address, address_of}
+use Rattle.types.specs.declared.names.item.Item.{Item}
+use Rattle.types.specs.declared.names.item.Item.TheVariants as item
+use Rattle.types.specs.declared.names.mention.Mentions.{Mentions}
+use Rattle.types.specs.declared.names.scope.Holding.{Holding}
+use Rattle.types.specs.declared.names.scope.Holding.TheVariants as holding
+use Rattle.types.specs.declared.names.scope.Named.TheVariants as named_as
+use Rattle.types.specs.declared.names.scope.Register.{Register}
+use Rattle.types.specs.names.Address.{Items, as_global, as_object, object_of, as_address, address_of}
 use Rattle.types.specs.Apart.{AddressNames, InstructionNames}
 use Rattle.types.specs.Call.{Named, as_function, argument_of, arguments_of, expected, takes_number, takes_object, fits_extent, fitting_arguments, passed_call, found_call, called, call_of, are_distinct, is_any_named}
-use Rattle.types_names.specs.Fault.{both_of, and_then, made_of, unless_of}
-use Rattle.types_names.specs.Form.{parameter_of, made_before}
+use Rattle.types.specs.names.Fault.{both_of, and_then, made_of, unless_of}
+use Rattle.types.specs.names.Form.{parameter_of, made_before}
 use Rattle.types.specs.Instruction.{defined_of, instruction_of, alloca_id_of}
-use Rattle.types_names.specs.Mention.{with_object, with_callee, with_address, with_argument, with_arguments, with_instruction}
-use Rattle.types_names.specs.Note.{noted_global, noted_holding, noted_parameter, noted_register, noted_before, noted_object, zone_of, pending_of}
-use Rattle.types_names.specs.Operand.{operand_of, register_of}
-use Rattle.types_names.specs.Scope.{Scope, is_step_of}
-use Rattle.types_names.specs.Table.{look_up}
-use Rattle.types_names.proofs.Growing.{contains_pushed, Holds, arguments_extend, arguments_hold}
-use Rattle.types_names.proofs.Inversion.{made_ok, then_ok, both_ok, all_at, err_not_ok, same_ok}
+use Rattle.types.specs.names.Mention.{with_object, with_callee, with_address, with_argument, with_arguments, with_instruction}
+use Rattle.types.specs.names.Note.{noted_global, noted_holding, noted_parameter, noted_register, noted_before, noted_object, zone_of, pending_of}
+use Rattle.types.specs.names.Operand.{operand_of, register_of}
+use Rattle.types.specs.names.Scope.{Scope, is_step_of}
+use Rattle.types.specs.names.Table.{look_up}
+use Rattle.types.proofs.names.Growing.{contains_pushed, Holds, arguments_extend, arguments_hold}
+use Rattle.types.proofs.names.Inversion.{made_ok, then_ok, both_ok, all_at, err_not_ok, same_ok}
 use Rattle.types.proofs.Scopes.{Entries, entries_found, register_found, parameter_found, IsOwnName, HoldsOwn, IsNamedRight}
 
 -- each global is one of the module's

@@ -12,20 +12,20 @@ use Rattle.syntax.specs.declared.instruction.Instruction.{Instruction as Instruc
 use Rattle.syntax.specs.declared.instruction.Instruction.TheVariants as text
 use Rattle.syntax.specs.declared.instruction.Phi.{Phi as PhiText}
 use Rattle.syntax.specs.declared.module.Function.{Function as FunctionText}
-use Rattle.types_names.specs.declared.address.WholeObject.{WholeObject}
+use Rattle.types.specs.declared.names.address.WholeObject.{WholeObject}
 use Rattle.refusal.specs.declared.refused.Refused.{Refused as TypeFault}
 use Rattle.refusal.specs.declared.refused.Refused.TheVariants.{Fault}
 use Rattle.types.specs.declared.instruction.Spot.{Spot}
-use Rattle.types_names.specs.declared.scope.Named.TheVariants as named_as
-use Rattle.types_names.specs.declared.scope.Register.{Register}
-use Rattle.types_names.specs.Address.{Items, object_of}
+use Rattle.types.specs.declared.names.scope.Named.TheVariants as named_as
+use Rattle.types.specs.declared.names.scope.Register.{Register}
+use Rattle.types.specs.names.Address.{Items, object_of}
 use Rattle.types.specs.Call.{Named}
 use Rattle.types.specs.Definitions.{IsFrom, DefinesFrom, defined_name}
-use Rattle.types_names.specs.Fault.{both_of, made_of, unless_of}
+use Rattle.types.specs.names.Fault.{both_of, made_of, unless_of}
 use Rattle.types.specs.Instruction.{defined_of, instruction_of, alloca_id_of, call_register_of, phi_of}
-use Rattle.types_names.specs.Operand.{register_of}
-use Rattle.types_names.specs.Scope.{Scope}
-use Rattle.types_names.proofs.Inversion.{made_ok, then_ok, both_ok, same_ok}
+use Rattle.types.specs.names.Operand.{register_of}
+use Rattle.types.specs.names.Scope.{Scope}
+use Rattle.types.proofs.names.Inversion.{made_ok, then_ok, both_ok, same_ok}
 use Rattle.types.proofs.Scopes.{Entries, entries_found, register_found, IsNamedRight}
 
 pub bytes_same : (xs ys : List ℕ) → bytes_eq xs ys ≡ true → xs ≡ ys

@@ -1,8 +1,8 @@
 -- Answers of four parts.
 use Rattle.std.proofs.Common.{◌≡◌, sym, ap, ◌∙◌, subst, Result}
 use Rattle.refusal.specs.declared.refused.Refused.{Refused as TypeFault}
-use Rattle.types_names.specs.Fault.{both_of, Gives}
-use Rattle.types_names.proofs.Giving.{both_gives}
+use Rattle.types.specs.names.Fault.{both_of, Gives}
+use Rattle.types.proofs.names.Giving.{both_gives}
 
 pub four_give : {A B C D : Type 0} (a x : Result A TypeFault) (b y : Result B TypeFault) (c z : Result C TypeFault) (d w : Result D TypeFault)
     (first : Result (A × B) TypeFault) (second : Result (C × D) TypeFault) (all : Result ((A × B) × (C × D)) TypeFault) →

@@ -4,14 +4,14 @@ use Rattle.program.specs.declared.function.Program.{Program}
 use Rattle.syntax.specs.declared.module.Module.{Module}
 use Rattle.refusal.specs.declared.refused.Refused.{Refused as TypeFault}
 use Rattle.refusal.specs.declared.refused.Refused.TheVariants.{Fault, Memory}
-use Rattle.types_names.specs.declared.mention.Mentions.{Mentions}
-use Rattle.types_names.specs.Address.{Items}
+use Rattle.types.specs.declared.names.mention.Mentions.{Mentions}
+use Rattle.types.specs.names.Address.{Items}
 use Rattle.types.specs.Call.{Named}
-use Rattle.types_names.specs.Fault.{Gives}
-use Rattle.types_names.specs.Item.{items_of}
+use Rattle.types.specs.names.Fault.{Gives}
+use Rattle.types.specs.names.Item.{items_of}
 use Rattle.types.specs.Meaning.{program_from, IsNamedIn}
 use Rattle.types.specs.Typed.{Resolves}
-use Rattle.types_names.specs.Mention.{mentions_of, IsNamedTable}
+use Rattle.types.specs.names.Mention.{mentions_of, IsNamedTable}
 
 by_table : (whole : Module) (named : Named) (answer : Result Program TypeFault) → IsNamedIn whole named → Gives answer (program_from (items_of whole) named whole) → Resolves whole answer
 by_table whole named (Ok program) table g = (named, table, g)

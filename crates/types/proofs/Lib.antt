@@ -6,5 +6,3 @@ pub mod Judging
 pub mod Scopes
 pub mod TextCalls
 pub mod Programs
--- for the crates above
-pub use Rattle.types_names.proofs as types_names

@@ -31,11 +31,11 @@ use Rattle.types.specs.declared.block.Body.{Body}
 use Rattle.types.specs.declared.block.Head.{Head}
 use Rattle.types.specs.declared.function.Head.{Head as FunctionHead}
 use Rattle.refusal.specs.declared.refused.Refused.{Refused as TypeFault}
-use Rattle.types_names.specs.declared.form.AnnotationPlace.TheVariants as place
-use Rattle.types_names.specs.declared.item.Item.{Item}
-use Rattle.types_names.specs.declared.item.Item.TheVariants as item
-use Rattle.types_names.specs.declared.mention.Mentions.{Mentions}
-use Rattle.types_names.specs.Address.{Items}
+use Rattle.types.specs.declared.names.form.AnnotationPlace.TheVariants as place
+use Rattle.types.specs.declared.names.item.Item.{Item}
+use Rattle.types.specs.declared.names.item.Item.TheVariants as item
+use Rattle.types.specs.declared.names.mention.Mentions.{Mentions}
+use Rattle.types.specs.names.Address.{Items}
 use Rattle.types.specs.Apart.{InstructionNames, IsBlockAt, IsInstructionAt, IsNamedBy, in_instruction, in_zone, in_pending, in_foot, Reaches, itself, through, NamesGlobal, parameters_at, CallsApart}
 use Rattle.program.specs.Calls.{parameters_in}
 use Rattle.types.specs.Block.{head_of, body_of, block_with, block_of, blocks_of}
@@ -43,19 +43,19 @@ use Rattle.types.specs.Call.{Named, parameter_of, is_same_object, passes, is_pas
 use Rattle.types.specs.Definitions.{DefinesFrom, KeepsParameters, IsParameterName, EachDefinesAnew}
 use Rattle.types.specs.Function.{head_of as function_head_of, head_zones_of, function_with, function_of, functions_of}
 use Rattle.types.specs.Instruction.{phi_of, phis_of, instruction_of, step_of, steps_of}
-use Rattle.types_names.specs.Item.{with_globals, with_functions, items_of}
-use Rattle.types_names.specs.Layout.{layout_of}
+use Rattle.types.specs.names.Item.{with_globals, with_functions, items_of}
+use Rattle.types.specs.names.Layout.{layout_of}
 use Rattle.reachability.specs.Ways.{IsWay}
-use Rattle.types_names.specs.Mention.{with_address, with_instruction, mentions_of, globals_at, callees_at, ReachesGlobal}
-use Rattle.types_names.specs.Note.{zone_of, zones_of, more_zones, pending_of, all_pending_of}
-use Rattle.types_names.specs.Scope.{Scope}
-use Rattle.types_names.specs.Table.{with_name}
+use Rattle.types.specs.names.Mention.{with_address, with_instruction, mentions_of, globals_at, callees_at, ReachesGlobal}
+use Rattle.types.specs.names.Note.{zone_of, zones_of, more_zones, pending_of, all_pending_of}
+use Rattle.types.specs.names.Scope.{Scope}
+use Rattle.types.specs.names.Table.{with_name}
 use Rattle.types.specs.Meaning.{Means}
 use Rattle.types.proofs.CallLaws.{meant_apart}
 use Rattle.types.proofs.Covering.{Bounded, Adds, IsMentioned, named_adds, is_mentioned, zone_adds, pending_adds}
 use Rattle.types.proofs.Defining.{phi_from, instruction_from}
-use Rattle.types_names.proofs.Growing.{Holds, of_step, of_foot, of_pending, of_reads, of_writes, of_adds}
-use Rattle.types_names.proofs.Inversion.{made_ok, both_ok, all_from_ok, same_place, all_at}
+use Rattle.types.proofs.names.Growing.{Holds, of_step, of_foot, of_pending, of_reads, of_writes, of_adds}
+use Rattle.types.proofs.names.Inversion.{made_ok, both_ok, all_from_ok, same_place, all_at}
 use Rattle.types.proofs.Scopes.{Entries, entries_with, IsNamedRight, scope_right}
 use Rattle.types.proofs.TextCalls.{IsCallApart as IsTextApart, IsApart as IsTextInstructionApart, CallsApart as TextCallsApart}
 

@@ -15,22 +15,22 @@ use Rattle.syntax.specs.declared.module.Function.{Function as FunctionText}
 use Rattle.syntax.specs.declared.module.Parameter.{Parameter as ParameterText}
 use Rattle.syntax.specs.declared.module.Parameter.TheVariants as parameter
 use Rattle.refusal.specs.declared.refused.Refused.TheVariants.{Fault}
-use Rattle.types_names.specs.declared.layout.Layout.{Layout}
-use Rattle.types_names.specs.declared.scope.Holding.{Holding}
-use Rattle.types_names.specs.declared.scope.Holding.TheVariants as holding
-use Rattle.types_names.specs.declared.scope.Named.{Named}
-use Rattle.types_names.specs.declared.scope.Named.TheVariants as named
-use Rattle.types_names.specs.declared.scope.Origin.{Origin}
-use Rattle.types_names.specs.declared.scope.Origin.TheVariants as origin
-use Rattle.types_names.specs.declared.scope.Register.{Register}
+use Rattle.types.specs.declared.names.layout.Layout.{Layout}
+use Rattle.types.specs.declared.names.scope.Holding.{Holding}
+use Rattle.types.specs.declared.names.scope.Holding.TheVariants as holding
+use Rattle.types.specs.declared.names.scope.Named.{Named}
+use Rattle.types.specs.declared.names.scope.Named.TheVariants as named
+use Rattle.types.specs.declared.names.scope.Origin.{Origin}
+use Rattle.types.specs.declared.names.scope.Origin.TheVariants as origin
+use Rattle.types.specs.declared.names.scope.Register.{Register}
 use Rattle.types.specs.Definitions.{parameter_name, IsParameterName}
-use Rattle.types_names.specs.Layout.{with_register, with_parameter, with_phi, with_alloca, with_call, with_instruction, with_step, with_phis, with_steps, with_block, with_parameters, with_blocks, with_label, with_labels, no_layout, layout_of, target_width}
-use Rattle.types_names.specs.Fault.{unless_of}
-use Rattle.types_names.specs.Form.{as_parameter, parameter_of}
-use Rattle.types_names.specs.Operand.{as_register, register_of}
-use Rattle.types_names.specs.Scope.{Scope, is_parameter}
-use Rattle.types_names.specs.Table.{look_up, with_name}
-use Rattle.types_names.proofs.Inversion.{made_ok, err_not_ok, same_ok}
+use Rattle.types.specs.names.Layout.{with_register, with_parameter, with_phi, with_alloca, with_call, with_instruction, with_step, with_phis, with_steps, with_block, with_parameters, with_blocks, with_label, with_labels, no_layout, layout_of, target_width}
+use Rattle.types.specs.names.Fault.{unless_of}
+use Rattle.types.specs.names.Form.{as_parameter, parameter_of}
+use Rattle.types.specs.names.Operand.{as_register, register_of}
+use Rattle.types.specs.names.Scope.{Scope, is_parameter}
+use Rattle.types.specs.names.Table.{look_up, with_name}
+use Rattle.types.proofs.names.Inversion.{made_ok, err_not_ok, same_ok}
 
 -- each entry fits
 abbrev pub Entries : {A : Type 0} → (List ℕ → A → Type 0) → List (List ℕ × A) → Type 0

@@ -9,9 +9,9 @@ use Rattle.program.specs.declared.instruction.Argument.TheVariants as argument
 use Rattle.program.specs.declared.instruction.Instruction.{Instruction}
 use Rattle.program.specs.declared.instruction.Instruction.TheVariants as instruction
 use Rattle.program.specs.declared.instruction.Step.{Step}
-use Rattle.types_names.specs.declared.mention.Mentions.{Mentions}
+use Rattle.types.specs.declared.names.mention.Mentions.{Mentions}
 use Rattle.types.specs.Call.{are_distinct}
-use Rattle.types_names.specs.Mention.{ReachesGlobal}
+use Rattle.types.specs.names.Mention.{ReachesGlobal}
 
 -- a call goes to its own function or one above, passes each object once, and no global that the callee can reach by its name
 pub record IsCallApart (mentions : List Mentions) (globals caller callee : ℕ) (arguments : List Argument) : Type 0 where

@@ -8,14 +8,14 @@ use Rattle.syntax.specs.declared.module.ResultType.{ResultType}
 use Rattle.types.specs.declared.block.Body.{Body}
 use Rattle.types.specs.declared.block.Head.{Head}
 use Rattle.refusal.specs.declared.refused.Refused.{Refused as TypeFault}
-use Rattle.types_names.specs.declared.form.AnnotationPlace.TheVariants as place
-use Rattle.types_names.specs.Address.{Items}
+use Rattle.types.specs.declared.names.form.AnnotationPlace.TheVariants as place
+use Rattle.types.specs.names.Address.{Items}
 use Rattle.types.specs.Call.{Named}
-use Rattle.types_names.specs.Fault.{all_of, both_of, made_of}
-use Rattle.types_names.specs.Form.{inequalities_of}
+use Rattle.types.specs.names.Fault.{all_of, both_of, made_of}
+use Rattle.types.specs.names.Form.{inequalities_of}
 use Rattle.types.specs.Instruction.{phis_of, steps_of}
-use Rattle.types_names.specs.Note.{all_pending_of, left_of, zones_of}
-use Rattle.types_names.specs.Scope.{Scope}
+use Rattle.types.specs.names.Note.{all_pending_of, left_of, zones_of}
+use Rattle.types.specs.names.Scope.{Scope}
 use Rattle.types.specs.Terminator.{ending_of}
 
 -- the annotations at a block's head

@@ -21,13 +21,13 @@ use Rattle.syntax.specs.declared.operator.Width.TheVariants.{Bits64}
 use Rattle.types.specs.declared.call.ResolvedCall.{ResolvedCall}
 use Rattle.refusal.specs.declared.refused.Refused.{Refused as TypeFault}
 use Rattle.refusal.specs.declared.refused.Refused.TheVariants.{Fault}
-use Rattle.types_names.specs.declared.item.Item.{Item}
-use Rattle.types_names.specs.declared.item.Item.TheVariants as item
-use Rattle.types_names.specs.Address.{Items, object_of}
-use Rattle.types_names.specs.Fault.{all_of, and_then, both_of, made_of, unless_of}
-use Rattle.types_names.specs.Operand.{operand_of}
-use Rattle.types_names.specs.Scope.{Scope}
-use Rattle.types_names.specs.Table.{look_up}
+use Rattle.types.specs.declared.names.item.Item.{Item}
+use Rattle.types.specs.declared.names.item.Item.TheVariants as item
+use Rattle.types.specs.names.Address.{Items, object_of}
+use Rattle.types.specs.names.Fault.{all_of, and_then, both_of, made_of, unless_of}
+use Rattle.types.specs.names.Operand.{operand_of}
+use Rattle.types.specs.names.Scope.{Scope}
+use Rattle.types.specs.names.Table.{look_up}
 
 -- the function: 201 where nothing has the name, 202 where a global has it
 abbrev pub as_function : ℕ → Option Item → Result FunctionId TypeFault

@@ -11,17 +11,17 @@ use Rattle.syntax.specs.declared.module.Function.{Function as FunctionText}
 use Rattle.syntax.specs.declared.module.ResultType.{ResultType}
 use Rattle.syntax.specs.declared.module.ResultType.TheVariants.{Number, Void}
 use Rattle.refusal.specs.declared.refused.Refused.{Refused as TypeFault}
-use Rattle.types_names.specs.declared.form.AnnotationPlace.TheVariants as place
+use Rattle.types.specs.declared.names.form.AnnotationPlace.TheVariants as place
 use Rattle.types.specs.declared.function.Head.{Head}
-use Rattle.types_names.specs.declared.layout.Layout.{Layout}
-use Rattle.types_names.specs.Address.{Items}
+use Rattle.types.specs.declared.names.layout.Layout.{Layout}
+use Rattle.types.specs.names.Address.{Items}
 use Rattle.types.specs.Block.{blocks_of}
 use Rattle.types.specs.Call.{Named, parameter_of}
-use Rattle.types_names.specs.Fault.{all_of, both_of, made_of}
-use Rattle.types_names.specs.Form.{inequalities_of}
-use Rattle.types_names.specs.Layout.{layout_of}
-use Rattle.types_names.specs.Note.{measure_of, more_zones, zones_of}
-use Rattle.types_names.specs.Scope.{Scope}
+use Rattle.types.specs.names.Fault.{all_of, both_of, made_of}
+use Rattle.types.specs.names.Form.{inequalities_of}
+use Rattle.types.specs.names.Layout.{layout_of}
+use Rattle.types.specs.names.Note.{measure_of, more_zones, zones_of}
+use Rattle.types.specs.names.Scope.{Scope}
 
 -- the register that stands for the result in `ensures`: the one behind the last
 abbrev pub result_register : ResultType → ℕ → Option RegisterId

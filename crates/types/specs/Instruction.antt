@@ -25,16 +25,16 @@ use Rattle.syntax.specs.declared.operator.Width.TheVariants.{Bits64}
 use Rattle.refusal.specs.declared.refused.Refused.{Refused as TypeFault}
 use Rattle.refusal.specs.declared.refused.Refused.TheVariants.{Fault}
 use Rattle.program.specs.Widths.{source_width}
-use Rattle.types_names.specs.declared.form.AnnotationPlace.TheVariants.{Body}
+use Rattle.types.specs.declared.names.form.AnnotationPlace.TheVariants.{Body}
 use Rattle.types.specs.declared.instruction.Spot.{Spot}
-use Rattle.types_names.specs.declared.scope.Holding.{Holding}
-use Rattle.types_names.specs.declared.scope.Holding.TheVariants as holding
-use Rattle.types_names.specs.Address.{Items, address_of, object_of}
+use Rattle.types.specs.declared.names.scope.Holding.{Holding}
+use Rattle.types.specs.declared.names.scope.Holding.TheVariants as holding
+use Rattle.types.specs.names.Address.{Items, address_of, object_of}
 use Rattle.types.specs.Call.{Named, call_of}
-use Rattle.types_names.specs.Fault.{all_of, and_then, both_of, made_of, unless_of}
-use Rattle.types_names.specs.Form.{inequalities_of}
-use Rattle.types_names.specs.Operand.{label_of, operand_of, register_of}
-use Rattle.types_names.specs.Scope.{Scope}
+use Rattle.types.specs.names.Fault.{all_of, and_then, both_of, made_of, unless_of}
+use Rattle.types.specs.names.Form.{inequalities_of}
+use Rattle.types.specs.names.Operand.{label_of, operand_of, register_of}
+use Rattle.types.specs.names.Scope.{Scope}
 
 -- the register that an instruction defines
 abbrev pub defined_of : Scope → ℕ → List ℕ → Result RegisterId TypeFault

@@ -7,5 +7,4 @@ pub mod Instruction
 pub mod Meaning
 pub mod Terminator
 pub mod Typed
--- for the crates above
-pub use Rattle.types_names.specs as types_names
+pub mod names

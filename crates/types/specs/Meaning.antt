@@ -14,15 +14,15 @@ use Rattle.syntax.specs.declared.module.ResultType.{ResultType}
 use Rattle.syntax.specs.declared.module.ResultType.TheVariants.{Number, Void}
 use Rattle.refusal.specs.declared.refused.Refused.{Refused as TypeFault}
 use Rattle.refusal.specs.declared.refused.Refused.TheVariants.{Fault}
-use Rattle.types_names.specs.declared.item.Item.{Item}
-use Rattle.types_names.specs.declared.item.Item.TheVariants as item
-use Rattle.types_names.specs.Address.{Items}
+use Rattle.types.specs.declared.names.item.Item.{Item}
+use Rattle.types.specs.declared.names.item.Item.TheVariants as item
+use Rattle.types.specs.names.Address.{Items}
 use Rattle.types.specs.Call.{Named}
-use Rattle.types_names.specs.Fault.{both_of, made_of, unless_of}
+use Rattle.types.specs.names.Fault.{both_of, made_of, unless_of}
 use Rattle.types.specs.Function.{functions_of}
-use Rattle.types_names.specs.Item.{items_of}
-use Rattle.types_names.specs.Mention.{mentions_of, IsNamedTable}
-use Rattle.types_names.specs.Table.{look_up}
+use Rattle.types.specs.names.Item.{items_of}
+use Rattle.types.specs.names.Mention.{mentions_of, IsNamedTable}
+use Rattle.types.specs.names.Table.{look_up}
 
 abbrev pub is_number : ParameterText → Bool
 is_number (parameter.Number name) = true

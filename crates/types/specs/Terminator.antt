@@ -15,11 +15,11 @@ use Rattle.syntax.specs.declared.terminator.Terminator.{Terminator as Terminator
 use Rattle.syntax.specs.declared.terminator.Terminator.TheVariants as text
 use Rattle.refusal.specs.declared.refused.Refused.{Refused as TypeFault}
 use Rattle.refusal.specs.declared.refused.Refused.TheVariants.{Fault}
-use Rattle.types_names.specs.declared.form.AnnotationPlace.TheVariants.{Body}
-use Rattle.types_names.specs.Fault.{all_of, and_then, both_of, made_of, unless_of}
-use Rattle.types_names.specs.Form.{inequalities_of}
-use Rattle.types_names.specs.Operand.{condition_of, fits_width, label_of, operand_of, region_of}
-use Rattle.types_names.specs.Scope.{Scope}
+use Rattle.types.specs.declared.names.form.AnnotationPlace.TheVariants.{Body}
+use Rattle.types.specs.names.Fault.{all_of, and_then, both_of, made_of, unless_of}
+use Rattle.types.specs.names.Form.{inequalities_of}
+use Rattle.types.specs.names.Operand.{condition_of, fits_width, label_of, operand_of, region_of}
+use Rattle.types.specs.names.Scope.{Scope}
 
 -- a case: its number is one of the switch's width, else 202
 abbrev pub case_of : Scope → ℕ → Width → CaseText → Result Case TypeFault

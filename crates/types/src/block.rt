@@ -2,19 +2,19 @@
 
 ghost use Rattle.std.specs.Prelude.{◌≡◌};
 ghost use Rattle.types.specs.Block as spec;
-ghost use Rattle.types_names.specs.Fault.{Gives};
+ghost use Rattle.types.specs.names.Fault.{Gives};
 
 use crate::call::World;
 use crate::instruction::{resolve_phis, resolve_steps};
+use crate::names::{
+    AnnotationPlace, Scope, TypeFault, both, joined, resolve_all_pending, resolve_first_zones,
+    resolve_inequalities, resolve_left,
+};
 use crate::terminator::resolve_ending;
 use lists::Seq;
 use program::{Block, Ending, Inequality, Left, Pending, Phi, Step, Zone};
 use std::alloc::Global;
 use syntax::ResultType;
-use types_names::{
-    AnnotationPlace, Scope, TypeFault, both, joined, resolve_all_pending, resolve_first_zones,
-    resolve_inequalities, resolve_left,
-};
 
 /// The annotations at a block's head.
 #[derive(Drop)]

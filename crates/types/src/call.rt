@@ -3,17 +3,17 @@
 ghost use Rattle.std.specs.Prelude.{◌≡◌, slice_get};
 ghost use Rattle.std.specs.List.{list_any};
 ghost use Rattle.types.specs.Call as spec;
-ghost use Rattle.types_names.specs.Fault.{Gives};
-ghost use Rattle.types_names.specs.Table.{look_up};
+ghost use Rattle.types.specs.names.Fault.{Gives};
+ghost use Rattle.types.specs.names.Table.{look_up};
 
+use crate::names::{
+    Item, Items, NamedGlobals, Scope, TypeFault, both, downward_call, joined, pointer_misuse,
+    resolve_object, resolve_operand, type_mismatch, unknown_name, unless, wrong_count,
+};
 use lists::{Name, Seq};
 use program::{Argument, FunctionId, ObjectName, Parameter, Width};
 use std::alloc::Global;
 use syntax::{Function, ResultType};
-use types_names::{
-    Item, Items, NamedGlobals, Scope, TypeFault, both, downward_call, joined, pointer_misuse,
-    resolve_object, resolve_operand, type_mismatch, unknown_name, unless, wrong_count,
-};
 
 /// What a function's uses of names behind `@` are judged against.
 #[derive(Clone, Copy)]

@@ -1,6 +1,6 @@
 ghost use Rattle.std.specs.Prelude.{◌≡◌, map, IfOk};
 ghost use Rattle.std.specs.List.{list_all};
-ghost use Rattle.types_names.specs.Fault.{Gives};
+ghost use Rattle.types.specs.names.Fault.{Gives};
 ghost use Rattle.types.specs.Apart.{CallsApart};
 ghost use Rattle.types.specs.Definitions.{EachDefinesAnew, KeepsParameters};
 ghost use Rattle.types.specs.Meaning as spec;
@@ -8,16 +8,16 @@ ghost use Rattle.types.specs.Typed.{Judges, Resolves};
 
 use crate::call::World;
 use crate::function::resolve_functions;
+use crate::names::{
+    Item, Items, NamedGlobals, TypeFault, all_mentions, both, items_of, named_globals,
+    type_mismatch, unknown_name, unless,
+};
 use crate::typed::Typed;
 use lists::Seq;
 use program::{FunctionId, Global as GlobalArray, Program};
 use std::alloc::{AllocError, Global};
 use std::hash::RandomState;
 use syntax::{Function, Module, Parameter, ResultType};
-use types_names::{
-    Item, Items, NamedGlobals, TypeFault, all_mentions, both, items_of, named_globals,
-    type_mismatch, unknown_name, unless,
-};
 
 fn is_number(parameter: &Parameter) -> bool
     ensures { result ≡ spec.is_number parameter.now }

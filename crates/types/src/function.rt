@@ -2,20 +2,20 @@
 
 ghost use Rattle.std.specs.Prelude.{◌≡◌, map, IfOk, Ok};
 ghost use Rattle.types.specs.Call.{parameter_of as parameter_meaning};
-ghost use Rattle.types_names.specs.Fault.{Gives};
+ghost use Rattle.types.specs.names.Fault.{Gives};
 ghost use Rattle.types.specs.Function as spec;
 
 use crate::block::resolve_blocks;
 use crate::call::{World, parameter_of};
+use crate::names::{
+    AnnotationPlace, Layout, Scope, TypeFault, both, joined, resolve_first_zones,
+    resolve_inequalities, resolve_measure, resolve_zones,
+};
 use lists::{Name, Seq};
 use program::{Budget, Function, Inequality, Measure, Parameter, RegisterId, Zone};
 use std::alloc::{AllocError, Global};
 use std::hash::RandomState;
 use syntax::{FunctionNotes, ResultType};
-use types_names::{
-    AnnotationPlace, Layout, Scope, TypeFault, both, joined, resolve_first_zones,
-    resolve_inequalities, resolve_measure, resolve_zones,
-};
 
 /// The annotations at a function's head but its budget.
 #[derive(Drop)]

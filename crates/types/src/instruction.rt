@@ -1,11 +1,16 @@
 //! Instructions and phis.
 
 ghost use Rattle.std.specs.Prelude.{◌≡◌};
-ghost use Rattle.types_names.specs.Fault.{Gives};
+ghost use Rattle.types.specs.names.Fault.{Gives};
 ghost use Rattle.program.specs.Widths.{source_width};
 ghost use Rattle.types.specs.Instruction as spec;
 
 use crate::call::{CallText, World, resolve_call};
+use crate::names::{
+    AnnotationPlace, Holding, Scope, TypeFault, both, joined, pointer_misuse, resolve_address,
+    resolve_inequalities, resolve_label, resolve_object, resolve_operand, resolve_register,
+    type_mismatch, unless,
+};
 use lists::{Name, Seq};
 use program::{
     AllocaId, BinaryOperator, Conversion, Instruction, ObjectName, Phi, PhiEntry, Predicate,
@@ -13,11 +18,6 @@ use program::{
 };
 use std::alloc::Global;
 use syntax::Instruction as Text;
-use types_names::{
-    AnnotationPlace, Holding, Scope, TypeFault, both, joined, pointer_misuse, resolve_address,
-    resolve_inequalities, resolve_label, resolve_object, resolve_operand, resolve_register,
-    type_mismatch, unless,
-};
 
 /// Where an instruction stands: its function and its block, by their places in the text, and its line.
 #[derive(Clone, Copy)]

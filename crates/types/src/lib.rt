@@ -11,6 +11,8 @@
 //! | 204 | pointers name whole objects, and different ones at a call |
 //! | 205 | a function calls itself or functions above it |
 //! | 206 | forms keep their limits, and a block's notes name nothing that its own instructions define |
+//!
+//! `names` says what single names, operands, addresses, forms and zones stand for.
 #![tactic(auto)]
 
 mod block;
@@ -18,9 +20,10 @@ mod call;
 mod check;
 mod function;
 mod instruction;
+pub mod names;
 mod terminator;
 mod typed;
 
 pub use check::check_types;
+pub use names::TypeFault;
 pub use typed::Typed;
-pub use types_names::TypeFault;

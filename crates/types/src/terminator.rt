@@ -1,17 +1,17 @@
 //! Terminators.
 
 ghost use Rattle.std.specs.Prelude.{◌≡◌};
-ghost use Rattle.types_names.specs.Fault.{Gives};
+ghost use Rattle.types.specs.names.Fault.{Gives};
 ghost use Rattle.types.specs.Terminator as spec;
 
+use crate::names::{
+    AnnotationPlace, Scope, TypeFault, both, fits_width, joined, resolve_condition,
+    resolve_inequalities, resolve_label, resolve_operand, resolve_region, type_mismatch, unless,
+};
 use lists::{Name, Seq};
 use program::{Case, Ending, Terminator, Width};
 use std::alloc::Global;
 use syntax::ResultType;
-use types_names::{
-    AnnotationPlace, Scope, TypeFault, both, fits_width, joined, resolve_condition,
-    resolve_inequalities, resolve_label, resolve_operand, resolve_region, type_mismatch, unless,
-};
 
 fn resolve_branch(
     scope: &Scope,

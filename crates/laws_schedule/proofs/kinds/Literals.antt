@@ -23,14 +23,14 @@ use Rattle.ir_item.specs.Printed.{IsKeptItem}
 use Rattle.ir_instruction.specs.Spelled.{is_spelled, is_parted_from, are_spelled}
 use Rattle.ir_instruction.specs.Spelling.{Atom, Token, Blank, a_register, a_word, a_mark, operand_symbol, operand_atom, width_word, operator_atoms}
 use Rattle.ir_instruction.specs.Symbols.{fits_i64}
-use Rattle.types_names.specs.declared.address.WholeObject.{WholeObject}
+use Rattle.types.specs.declared.names.address.WholeObject.{WholeObject}
 use Rattle.refusal.specs.declared.refused.Refused.{Refused as TypeFault}
 use Rattle.refusal.specs.declared.refused.Refused.TheVariants.{Fault}
-use Rattle.types_names.specs.Address.{Items, object_of}
-use Rattle.types_names.specs.Fault.{both_of, made_of, unless_of}
-use Rattle.types_names.specs.Operand.{fits_width, operand_of, register_passing}
-use Rattle.types_names.specs.Scope.{Scope, is_number_of}
-use Rattle.types_names.proofs.Inversion.{made_ok, then_ok, both_ok, unless_ok}
+use Rattle.types.specs.names.Address.{Items, object_of}
+use Rattle.types.specs.names.Fault.{both_of, made_of, unless_of}
+use Rattle.types.specs.names.Operand.{fits_width, operand_of, register_passing}
+use Rattle.types.specs.names.Scope.{Scope, is_number_of}
+use Rattle.types.proofs.names.Inversion.{made_ok, then_ok, both_ok, unless_ok}
 use Rattle.types.specs.Call.{Named}
 use Rattle.types.specs.Instruction.{defined_of, alloca_id_of, instruction_of}
 use Rattle.laws_phases.specs.facts.Owing.{FitsText}

@@ -30,8 +30,8 @@ use Rattle.program.specs.declared.instruction.Operand.{Operand}
 use Rattle.program.specs.declared.instruction.Operand.TheVariants as operand
 use Rattle.program.specs.declared.instruction.Phi.{Phi}
 use Rattle.program.specs.declared.instruction.PhiEntry.{PhiEntry}
-use Rattle.types_names.specs.Operand.{fits_width}
-use Rattle.types_names.specs.Layout.{target_width}
+use Rattle.types.specs.names.Operand.{fits_width}
+use Rattle.types.specs.names.Layout.{target_width}
 use Rattle.laws_schedule.specs.typing.Kinds.{IsOfKind, IsNumber, IsResult, IsKinded, IsKindedPhi, IsPassed, parameter_kind, HasKinds}
 use Rattle.laws_schedule.specs.kinds.Holding.{is_of_width, is_of_kind, holds_kind, HoldKinds}
 use Rattle.laws_schedule.proofs.kinds.Widths.{given_width, truncated_width}

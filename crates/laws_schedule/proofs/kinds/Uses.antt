@@ -33,8 +33,8 @@ use Rattle.syntax.specs.declared.operator.BinaryOperator.{BinaryOperator}
 use Rattle.syntax.specs.declared.operator.Width.{Width}
 use Rattle.ir_reader.specs.Kept.{IsStepWritten, IsBlockWritten, IsKeptModule}
 use Rattle.ir_reader.proofs.Keeping.{answers_kept}
-use Rattle.types_names.specs.Item.{items_of}
-use Rattle.types_names.specs.Layout.{kind_of, layout_of}
+use Rattle.types.specs.names.Item.{items_of}
+use Rattle.types.specs.names.Layout.{kind_of, layout_of}
 use Rattle.types.specs.Apart.{InstructionNames}
 use Rattle.types.specs.Call.{Named, parameter_of}
 use Rattle.types.specs.Definitions.{defined_name}

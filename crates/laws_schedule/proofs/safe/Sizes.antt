@@ -12,8 +12,8 @@ use Rattle.syntax.specs.declared.module.Function.{Function as FunctionText}
 use Rattle.syntax.specs.declared.module.Module.{Module}
 use Rattle.ir_reader.specs.Kept.{IsKeptModule}
 use Rattle.ir_reader.proofs.Keeping.{answers_kept}
-use Rattle.types_names.specs.Item.{items_of}
-use Rattle.types_names.specs.Layout.{layout_of}
+use Rattle.types.specs.names.Item.{items_of}
+use Rattle.types.specs.names.Layout.{layout_of}
 use Rattle.types.specs.Call.{Named}
 use Rattle.types.specs.Meaning.{Means}
 use Rattle.laws_phases.specs.defined.Stable.{IsStable}

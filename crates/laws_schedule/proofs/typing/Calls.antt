@@ -16,10 +16,10 @@ use Rattle.syntax.specs.declared.instruction.Instruction.{Instruction as Instruc
 use Rattle.syntax.specs.declared.module.Module.{Module}
 use Rattle.syntax.specs.declared.module.ResultType.{ResultType}
 use Rattle.syntax.specs.declared.module.ResultType.TheVariants.{Number, Void}
-use Rattle.types_names.specs.Item.{items_of}
-use Rattle.types_names.specs.Layout.{layout_of}
-use Rattle.types_names.specs.Scope.{Scope}
-use Rattle.types_names.proofs.Inversion.{made_ok, same_ok}
+use Rattle.types.specs.names.Item.{items_of}
+use Rattle.types.specs.names.Layout.{layout_of}
+use Rattle.types.specs.names.Scope.{Scope}
+use Rattle.types.proofs.names.Inversion.{made_ok, same_ok}
 use Rattle.types.specs.Call.{fits_result, argument_of, expected, parameter_of}
 use Rattle.types.specs.Instruction.{defined_of, call_register_of}
 use Rattle.types.specs.Meaning.{Means}

@@ -28,17 +28,17 @@ use Rattle.syntax.specs.declared.module.Module.{Module}
 use Rattle.laws_phases.specs.definedness.declared.act.Act.TheVariants.{Needs}
 use Rattle.laws_phases.specs.definedness.RegisterActs.{operand_needs, address_needs, instruction_needs}
 use Rattle.ir_reader.specs.Kept.{IsKeptModule}
-use Rattle.types_names.specs.declared.scope.Named.{Named as Meaning}
-use Rattle.types_names.specs.declared.scope.Named.TheVariants as named_as
-use Rattle.types_names.specs.declared.scope.Origin.{Origin}
-use Rattle.types_names.specs.declared.scope.Origin.TheVariants as origin
-use Rattle.types_names.specs.declared.scope.Register.{Register}
-use Rattle.types_names.specs.Address.{Items}
-use Rattle.types_names.specs.Item.{items_of}
-use Rattle.types_names.specs.Layout.{layout_of}
-use Rattle.types_names.specs.Scope.{Scope, is_step_of}
-use Rattle.types_names.specs.Table.{look_up}
-use Rattle.types_names.proofs.Inversion.{made_ok, both_ok}
+use Rattle.types.specs.declared.names.scope.Named.{Named as Meaning}
+use Rattle.types.specs.declared.names.scope.Named.TheVariants as named_as
+use Rattle.types.specs.declared.names.scope.Origin.{Origin}
+use Rattle.types.specs.declared.names.scope.Origin.TheVariants as origin
+use Rattle.types.specs.declared.names.scope.Register.{Register}
+use Rattle.types.specs.names.Address.{Items}
+use Rattle.types.specs.names.Item.{items_of}
+use Rattle.types.specs.names.Layout.{layout_of}
+use Rattle.types.specs.names.Scope.{Scope, is_step_of}
+use Rattle.types.specs.names.Table.{look_up}
+use Rattle.types.proofs.names.Inversion.{made_ok, both_ok}
 use Rattle.types.specs.Call.{Named}
 use Rattle.types.specs.Instruction.{instruction_of}
 use Rattle.types.specs.Meaning.{Means}

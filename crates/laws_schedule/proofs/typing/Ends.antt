@@ -23,13 +23,13 @@ use Rattle.laws_phases.specs.cfg.declared.structure.Way.{Way}
 use Rattle.laws_phases.specs.cfg.declared.structure.Way.TheVariants as way
 use Rattle.refusal.specs.declared.refused.Refused.{Refused as TypeFault}
 use Rattle.refusal.specs.declared.refused.Refused.TheVariants.{Fault}
-use Rattle.types_names.specs.declared.scope.Named.{Named}
-use Rattle.types_names.specs.declared.scope.Named.TheVariants as named
-use Rattle.types_names.specs.Layout.{layout_of}
-use Rattle.types_names.specs.Operand.{as_label, label_of, operand_of}
-use Rattle.types_names.specs.Scope.{Scope}
-use Rattle.types_names.specs.Table.{look_up}
-use Rattle.types_names.proofs.Inversion.{made_ok, then_ok, both_ok, same_ok, err_not_ok, all_at}
+use Rattle.types.specs.declared.names.scope.Named.{Named}
+use Rattle.types.specs.declared.names.scope.Named.TheVariants as named
+use Rattle.types.specs.names.Layout.{layout_of}
+use Rattle.types.specs.names.Operand.{as_label, label_of, operand_of}
+use Rattle.types.specs.names.Scope.{Scope}
+use Rattle.types.specs.names.Table.{look_up}
+use Rattle.types.proofs.names.Inversion.{made_ok, then_ok, both_ok, same_ok, err_not_ok, all_at}
 use Rattle.types.specs.Meaning.{Means}
 use Rattle.types.specs.Terminator.{case_of, cases_of, return_of, terminator_of}
 use Rattle.laws_conditions.specs.rules.Registers.{is_number, returns_number}

@@ -37,9 +37,9 @@ use Rattle.laws_phases.specs.cfg.Rules.{leads_to, HasPredecessor, IsMatched, IsB
 use Rattle.laws_phases.specs.region_match.Matched.{AreRegionsRight}
 use Rattle.laws_phases.specs.ranges.declared.edge.EdgeSums.{EdgeSums}
 use Rattle.laws_phases.specs.ranges.Edges.{edges_out, edge_to, compared, branch_sums, case_sums}
-use Rattle.types_names.specs.Layout.{layout_of}
-use Rattle.types_names.specs.Scope.{Scope}
-use Rattle.types_names.proofs.Inversion.{made_ok, both_ok}
+use Rattle.types.specs.names.Layout.{layout_of}
+use Rattle.types.specs.names.Scope.{Scope}
+use Rattle.types.proofs.names.Inversion.{made_ok, both_ok}
 use Rattle.types.specs.Instruction.{phi_of, entry_of}
 use Rattle.types.specs.Meaning.{Means}
 use Rattle.laws_phases.specs.defined.Leads.{LeadsTo, IsBlock}

@@ -20,19 +20,19 @@ use Rattle.syntax.specs.declared.annotation.Term.{Term as TermText}
 use Rattle.syntax.specs.declared.module.Function.{Function as FunctionText}
 use Rattle.syntax.specs.declared.operator.Width.TheVariants.{Bits64}
 use Rattle.refusal.specs.declared.refused.Refused.TheVariants.{Fault}
-use Rattle.types_names.specs.declared.form.AnnotationPlace.{AnnotationPlace}
-use Rattle.types_names.specs.declared.form.AnnotationPlace.TheVariants as place
-use Rattle.types_names.specs.declared.scope.Named.{Named}
-use Rattle.types_names.specs.declared.scope.Named.TheVariants as named
-use Rattle.types_names.specs.declared.scope.Register.{Register}
-use Rattle.types_names.specs.Fault.{unless_of}
-use Rattle.types_names.specs.Form.{as_parameter, parameter_of, parameter_term_of, as_outcome, guarantee_term_of, term_register_of, term_of, within_bounds, with_one, with_all, form_in_scope, inequality_between, inequality_of, inequalities_of}
-use Rattle.types_names.specs.Layout.{layout_of}
-use Rattle.types_names.specs.Note.{measure_of}
-use Rattle.types_names.specs.Operand.{passing}
-use Rattle.types_names.specs.Scope.{Scope, is_number_of, is_parameter}
-use Rattle.types_names.specs.Table.{look_up}
-use Rattle.types_names.proofs.Inversion.{made_ok, then_ok, both_ok, same_ok, unless_ok, err_not_ok, all_at}
+use Rattle.types.specs.declared.names.form.AnnotationPlace.{AnnotationPlace}
+use Rattle.types.specs.declared.names.form.AnnotationPlace.TheVariants as place
+use Rattle.types.specs.declared.names.scope.Named.{Named}
+use Rattle.types.specs.declared.names.scope.Named.TheVariants as named
+use Rattle.types.specs.declared.names.scope.Register.{Register}
+use Rattle.types.specs.names.Fault.{unless_of}
+use Rattle.types.specs.names.Form.{as_parameter, parameter_of, parameter_term_of, as_outcome, guarantee_term_of, term_register_of, term_of, within_bounds, with_one, with_all, form_in_scope, inequality_between, inequality_of, inequalities_of}
+use Rattle.types.specs.names.Layout.{layout_of}
+use Rattle.types.specs.names.Note.{measure_of}
+use Rattle.types.specs.names.Operand.{passing}
+use Rattle.types.specs.names.Scope.{Scope, is_number_of, is_parameter}
+use Rattle.types.specs.names.Table.{look_up}
+use Rattle.types.proofs.names.Inversion.{made_ok, then_ok, both_ok, same_ok, unless_ok, err_not_ok, all_at}
 use Rattle.laws_schedule.proofs.typing.Lists.{all_each}
 use Rattle.laws_schedule.proofs.typing.Scoping.{IsNamedRight, named_found, layout_right}
 

@@ -16,17 +16,17 @@ use Rattle.syntax.specs.declared.instruction.Instruction.{Instruction as Instruc
 use Rattle.syntax.specs.declared.instruction.Instruction.TheVariants as text
 use Rattle.syntax.specs.declared.instruction.Phi.{Phi as PhiText}
 use Rattle.syntax.specs.declared.module.Function.{Function as FunctionText}
-use Rattle.types_names.specs.declared.address.WholeObject.{WholeObject}
+use Rattle.types.specs.declared.names.address.WholeObject.{WholeObject}
 use Rattle.refusal.specs.declared.refused.Refused.{Refused as TypeFault}
 use Rattle.refusal.specs.declared.refused.Refused.TheVariants.{Fault}
-use Rattle.types_names.specs.declared.scope.Named.TheVariants as named_as
-use Rattle.types_names.specs.declared.scope.Register.{Register}
-use Rattle.types_names.specs.Address.{Items, address_of, object_of}
-use Rattle.types_names.specs.Fault.{both_of, made_of, unless_of}
-use Rattle.types_names.specs.Operand.{register_of}
-use Rattle.types_names.specs.Scope.{Scope}
-use Rattle.types_names.specs.Table.{look_up}
-use Rattle.types_names.proofs.Inversion.{made_ok, then_ok, both_ok, unless_ok, same_ok, err_not_ok}
+use Rattle.types.specs.declared.names.scope.Named.TheVariants as named_as
+use Rattle.types.specs.declared.names.scope.Register.{Register}
+use Rattle.types.specs.names.Address.{Items, address_of, object_of}
+use Rattle.types.specs.names.Fault.{both_of, made_of, unless_of}
+use Rattle.types.specs.names.Operand.{register_of}
+use Rattle.types.specs.names.Scope.{Scope}
+use Rattle.types.specs.names.Table.{look_up}
+use Rattle.types.proofs.names.Inversion.{made_ok, then_ok, both_ok, unless_ok, same_ok, err_not_ok}
 use Rattle.types.specs.Call.{Named, fits_result, arguments_of, fitting_arguments, are_distinct, is_any_named, passed_call, found_call, called, as_function}
 use Rattle.types.specs.Definitions.{defined_name}
 use Rattle.types.specs.Instruction.{defined_of, phi_of, alloca_id_of, call_register_of, instruction_of}

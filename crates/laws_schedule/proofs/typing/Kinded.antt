@@ -39,21 +39,21 @@ use Rattle.syntax.specs.declared.operator.Width.TheVariants.{Bits64, Bits32}
 use Rattle.syntax.specs.declared.terminator.Terminator.{Terminator as TerminatorText}
 use Rattle.syntax.specs.declared.terminator.Terminator.TheVariants as ending
 use Rattle.ir_reader.specs.Kept.{IsKeptModule}
-use Rattle.types_names.specs.declared.address.WholeObject.{WholeObject}
+use Rattle.types.specs.declared.names.address.WholeObject.{WholeObject}
 use Rattle.refusal.specs.declared.refused.Refused.{Refused as TypeFault}
 use Rattle.refusal.specs.declared.refused.Refused.TheVariants.{Fault}
-use Rattle.types_names.specs.declared.scope.Holding.{Holding}
-use Rattle.types_names.specs.declared.scope.Holding.TheVariants as holding
-use Rattle.types_names.specs.declared.scope.Named.TheVariants as named_as
-use Rattle.types_names.specs.declared.scope.Register.{Register}
-use Rattle.types_names.specs.Address.{Items, object_of}
-use Rattle.types_names.specs.Fault.{both_of, made_of, unless_of}
-use Rattle.types_names.specs.Item.{items_of}
-use Rattle.types_names.specs.Layout.{kind_of, layout_of}
-use Rattle.types_names.specs.Operand.{fits_width, operand_of, passing, register_of, register_passing}
-use Rattle.types_names.specs.Scope.{Scope, is_number_of, is_truth, is_region}
-use Rattle.types_names.specs.Table.{look_up}
-use Rattle.types_names.proofs.Inversion.{made_ok, then_ok, both_ok, same_ok, unless_ok, err_not_ok, all_at}
+use Rattle.types.specs.declared.names.scope.Holding.{Holding}
+use Rattle.types.specs.declared.names.scope.Holding.TheVariants as holding
+use Rattle.types.specs.declared.names.scope.Named.TheVariants as named_as
+use Rattle.types.specs.declared.names.scope.Register.{Register}
+use Rattle.types.specs.names.Address.{Items, object_of}
+use Rattle.types.specs.names.Fault.{both_of, made_of, unless_of}
+use Rattle.types.specs.names.Item.{items_of}
+use Rattle.types.specs.names.Layout.{kind_of, layout_of}
+use Rattle.types.specs.names.Operand.{fits_width, operand_of, passing, register_of, register_passing}
+use Rattle.types.specs.names.Scope.{Scope, is_number_of, is_truth, is_region}
+use Rattle.types.specs.names.Table.{look_up}
+use Rattle.types.proofs.names.Inversion.{made_ok, then_ok, both_ok, same_ok, unless_ok, err_not_ok, all_at}
 use Rattle.types.specs.Call.{Named, argument_of, expected, fits_extent, takes_number, takes_object}
 use Rattle.types.specs.Definitions.{defined_name}
 use Rattle.types.specs.Instruction.{defined_of, entry_of, phi_of, alloca_id_of, call_register_of, instruction_of}

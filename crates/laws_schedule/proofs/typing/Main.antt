@@ -12,12 +12,12 @@ use Rattle.syntax.specs.declared.module.ResultType.{ResultType}
 use Rattle.syntax.specs.declared.module.ResultType.TheVariants.{Number, Void}
 use Rattle.ir_reader.specs.Kept.{IsKeptModule}
 use Rattle.refusal.specs.declared.refused.Refused.TheVariants.{Fault}
-use Rattle.types_names.specs.declared.item.Item.{Item}
-use Rattle.types_names.specs.declared.item.Item.TheVariants as item
-use Rattle.types_names.specs.Fault.{unless_of}
-use Rattle.types_names.specs.Item.{items_of}
-use Rattle.types_names.specs.Table.{look_up}
-use Rattle.types_names.proofs.Inversion.{made_ok, both_ok, unless_ok, err_not_ok}
+use Rattle.types.specs.declared.names.item.Item.{Item}
+use Rattle.types.specs.declared.names.item.Item.TheVariants as item
+use Rattle.types.specs.names.Fault.{unless_of}
+use Rattle.types.specs.names.Item.{items_of}
+use Rattle.types.specs.names.Table.{look_up}
+use Rattle.types.proofs.names.Inversion.{made_ok, both_ok, unless_ok, err_not_ok}
 use Rattle.types.specs.Meaning.{main_form, as_main, found_main, Means, is_number as takes_number}
 use Rattle.laws_conditions.specs.rules.Registers.{is_number, gives_number, returns_number}
 use Rattle.laws_schedule.proofs.typing.Parts.{function_to}

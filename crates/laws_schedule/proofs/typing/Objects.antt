@@ -27,22 +27,22 @@ use Rattle.syntax.specs.declared.module.Global.{Global as GlobalText}
 use Rattle.syntax.specs.declared.module.Module.{Module}
 use Rattle.syntax.specs.declared.module.Parameter.{Parameter as ParameterText}
 use Rattle.syntax.specs.declared.operator.Width.TheVariants.{Bits64}
-use Rattle.types_names.specs.declared.address.WholeObject.{WholeObject}
+use Rattle.types.specs.declared.names.address.WholeObject.{WholeObject}
 use Rattle.refusal.specs.declared.refused.Refused.TheVariants.{Fault}
-use Rattle.types_names.specs.declared.item.Item.{Item}
-use Rattle.types_names.specs.declared.item.Item.TheVariants as item
-use Rattle.types_names.specs.declared.scope.Holding.{Holding}
-use Rattle.types_names.specs.declared.scope.Holding.TheVariants as holding
-use Rattle.types_names.specs.declared.scope.Named.TheVariants as named
-use Rattle.types_names.specs.declared.scope.Register.{Register}
-use Rattle.types_names.specs.Address.{Items, as_global, as_object, object_of, as_address, address_of}
-use Rattle.types_names.specs.Fault.{unless_of}
-use Rattle.types_names.specs.Item.{with_globals, with_functions, items_of}
-use Rattle.types_names.specs.Layout.{layout_of}
-use Rattle.types_names.specs.Operand.{register_of, operand_of}
-use Rattle.types_names.specs.Scope.{Scope, is_step_of}
-use Rattle.types_names.specs.Table.{look_up, with_name}
-use Rattle.types_names.proofs.Inversion.{made_ok, then_ok, both_ok, same_ok, unless_ok, err_not_ok}
+use Rattle.types.specs.declared.names.item.Item.{Item}
+use Rattle.types.specs.declared.names.item.Item.TheVariants as item
+use Rattle.types.specs.declared.names.scope.Holding.{Holding}
+use Rattle.types.specs.declared.names.scope.Holding.TheVariants as holding
+use Rattle.types.specs.declared.names.scope.Named.TheVariants as named
+use Rattle.types.specs.declared.names.scope.Register.{Register}
+use Rattle.types.specs.names.Address.{Items, as_global, as_object, object_of, as_address, address_of}
+use Rattle.types.specs.names.Fault.{unless_of}
+use Rattle.types.specs.names.Item.{with_globals, with_functions, items_of}
+use Rattle.types.specs.names.Layout.{layout_of}
+use Rattle.types.specs.names.Operand.{register_of, operand_of}
+use Rattle.types.specs.names.Scope.{Scope, is_step_of}
+use Rattle.types.specs.names.Table.{look_up, with_name}
+use Rattle.types.proofs.names.Inversion.{made_ok, then_ok, both_ok, same_ok, unless_ok, err_not_ok}
 use Rattle.types.specs.Call.{parameter_of, expected, takes_number, fits_extent, argument_of}
 use Rattle.types.specs.Meaning.{Means, global_of}
 use Rattle.types.proofs.Scopes.{Entries, entries_with, register_found}

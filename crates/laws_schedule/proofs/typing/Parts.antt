@@ -17,15 +17,15 @@ use Rattle.syntax.specs.declared.module.Module.{Module}
 use Rattle.syntax.specs.declared.module.ResultType.{ResultType}
 use Rattle.syntax.specs.declared.terminator.Ending.{Ending as EndingText}
 use Rattle.refusal.specs.declared.refused.Refused.{Refused as TypeFault}
-use Rattle.types_names.specs.declared.form.AnnotationPlace.TheVariants as place
-use Rattle.types_names.specs.Address.{Items}
-use Rattle.types_names.specs.Fault.{all_of}
-use Rattle.types_names.specs.Form.{inequalities_of}
-use Rattle.types_names.specs.Item.{items_of}
-use Rattle.types_names.specs.Layout.{layout_of}
-use Rattle.types_names.specs.Note.{measure_of}
-use Rattle.types_names.specs.Scope.{Scope}
-use Rattle.types_names.proofs.Inversion.{made_ok, both_ok, same_ok, Each, all_at}
+use Rattle.types.specs.declared.names.form.AnnotationPlace.TheVariants as place
+use Rattle.types.specs.names.Address.{Items}
+use Rattle.types.specs.names.Fault.{all_of}
+use Rattle.types.specs.names.Form.{inequalities_of}
+use Rattle.types.specs.names.Item.{items_of}
+use Rattle.types.specs.names.Layout.{layout_of}
+use Rattle.types.specs.names.Note.{measure_of}
+use Rattle.types.specs.names.Scope.{Scope}
+use Rattle.types.proofs.names.Inversion.{made_ok, both_ok, same_ok, Each, all_at}
 use Rattle.types.specs.Block.{block_with, block_of, blocks_of}
 use Rattle.types.specs.Call.{Named, parameter_of}
 use Rattle.types.specs.Function.{result_register, function_with, function_of, functions_of}

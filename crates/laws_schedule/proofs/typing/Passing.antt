@@ -28,18 +28,18 @@ use Rattle.syntax.specs.declared.module.Module.{Module}
 use Rattle.syntax.specs.declared.module.Parameter.{Parameter as ParameterText}
 use Rattle.syntax.specs.declared.module.Parameter.TheVariants as parameter_text
 use Rattle.syntax.specs.declared.operator.Width.TheVariants.{Bits64}
-use Rattle.types_names.specs.declared.address.WholeObject.{WholeObject}
+use Rattle.types.specs.declared.names.address.WholeObject.{WholeObject}
 use Rattle.refusal.specs.declared.refused.Refused.TheVariants.{Fault}
-use Rattle.types_names.specs.declared.layout.Layout.{Layout}
-use Rattle.types_names.specs.declared.scope.Origin.{Origin}
-use Rattle.types_names.specs.declared.scope.Origin.TheVariants as origin
-use Rattle.types_names.specs.Address.{Items}
-use Rattle.types_names.specs.Fault.{unless_of}
-use Rattle.types_names.specs.Item.{items_of}
-use Rattle.types_names.specs.Layout.{with_parameter, with_phi, with_call, with_instruction, with_step, with_phis, with_steps, with_block, with_parameters, with_blocks, with_label, with_labels, no_layout, layout_of}
-use Rattle.types_names.specs.Operand.{operand_of}
-use Rattle.types_names.specs.Scope.{Scope}
-use Rattle.types_names.proofs.Inversion.{made_ok, then_ok, both_ok, unless_ok, all_at}
+use Rattle.types.specs.declared.names.layout.Layout.{Layout}
+use Rattle.types.specs.declared.names.scope.Origin.{Origin}
+use Rattle.types.specs.declared.names.scope.Origin.TheVariants as origin
+use Rattle.types.specs.names.Address.{Items}
+use Rattle.types.specs.names.Fault.{unless_of}
+use Rattle.types.specs.names.Item.{items_of}
+use Rattle.types.specs.names.Layout.{with_parameter, with_phi, with_call, with_instruction, with_step, with_phis, with_steps, with_block, with_parameters, with_blocks, with_label, with_labels, no_layout, layout_of}
+use Rattle.types.specs.names.Operand.{operand_of}
+use Rattle.types.specs.names.Scope.{Scope}
+use Rattle.types.proofs.names.Inversion.{made_ok, then_ok, both_ok, unless_ok, all_at}
 use Rattle.types.specs.Call.{parameter_of, expected, takes_number, takes_object, fits_extent, argument_of}
 use Rattle.types.specs.Meaning.{Means}
 use Rattle.laws_schedule.specs.typing.Kinds.{IsOfKind, parameter_kind, IsPassed}

@@ -21,11 +21,11 @@ use Rattle.syntax.specs.declared.module.Parameter.{Parameter as ParameterText}
 use Rattle.syntax.specs.declared.module.Parameter.TheVariants as parameter
 use Rattle.ir_instruction.specs.Fits.{has_cells, instruction_fits}
 use Rattle.ir_reader.specs.Kept.{IsStepWritten, IsBlockWritten, IsGlobalWritten, IsKeptFunction, IsKeptModule}
-use Rattle.types_names.specs.declared.layout.Layout.{Layout}
-use Rattle.types_names.specs.declared.scope.Origin.{Origin}
-use Rattle.types_names.specs.declared.scope.Origin.TheVariants as origin
+use Rattle.types.specs.declared.names.layout.Layout.{Layout}
+use Rattle.types.specs.declared.names.scope.Origin.{Origin}
+use Rattle.types.specs.declared.names.scope.Origin.TheVariants as origin
 use Rattle.syntax.specs.Cells.{size_cells}
-use Rattle.types_names.specs.Layout.{with_parameter, with_phi, with_call, with_instruction, with_step, with_phis, with_steps, with_block, with_parameters, with_blocks, with_label, with_labels, no_layout, layout_of}
+use Rattle.types.specs.names.Layout.{with_parameter, with_phi, with_call, with_instruction, with_step, with_phis, with_steps, with_block, with_parameters, with_blocks, with_label, with_labels, no_layout, layout_of}
 use Rattle.laws_phases.proofs.defined.Lists.{at_within}
 use Rattle.laws_schedule.proofs.typing.Lists.{at_push}
 use Rattle.laws_schedule.proofs.typing.Objects.{IsObject}

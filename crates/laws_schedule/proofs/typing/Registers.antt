@@ -12,10 +12,10 @@ use Rattle.syntax.specs.declared.module.Block.{Block as BlockText}
 use Rattle.syntax.specs.declared.module.Function.{Function as FunctionText}
 use Rattle.syntax.specs.declared.module.Module.{Module}
 use Rattle.ir_reader.specs.Kept.{IsKeptFunction, IsKeptModule}
-use Rattle.types_names.specs.declared.scope.Named.TheVariants as named
-use Rattle.types_names.specs.Item.{items_of}
-use Rattle.types_names.specs.Layout.{layout_of}
-use Rattle.types_names.specs.Scope.{Scope}
+use Rattle.types.specs.declared.names.scope.Named.TheVariants as named
+use Rattle.types.specs.names.Item.{items_of}
+use Rattle.types.specs.names.Layout.{layout_of}
+use Rattle.types.specs.names.Scope.{Scope}
 use Rattle.types.specs.Call.{parameter_of}
 use Rattle.types.specs.Definitions.{IsParameterName}
 use Rattle.types.specs.Meaning.{Means}

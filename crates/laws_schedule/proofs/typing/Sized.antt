@@ -18,10 +18,10 @@ use Rattle.program.specs.declared.instruction.Instruction.{Instruction}
 use Rattle.program.specs.declared.instruction.Instruction.TheVariants as instruction
 use Rattle.syntax.specs.declared.module.Function.{Function as FunctionText}
 use Rattle.syntax.specs.declared.module.Module.{Module}
-use Rattle.types_names.specs.declared.address.WholeObject.{WholeObject}
-use Rattle.types_names.specs.Item.{items_of}
-use Rattle.types_names.specs.Layout.{layout_of}
-use Rattle.types_names.proofs.Inversion.{all_at}
+use Rattle.types.specs.declared.names.address.WholeObject.{WholeObject}
+use Rattle.types.specs.names.Item.{items_of}
+use Rattle.types.specs.names.Layout.{layout_of}
+use Rattle.types.proofs.names.Inversion.{all_at}
 use Rattle.types.specs.Apart.{AddressNames, InstructionNames}
 use Rattle.types.specs.Call.{Named, argument_of, expected, parameter_of}
 use Rattle.types.specs.Meaning.{Means}

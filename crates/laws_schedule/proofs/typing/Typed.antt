@@ -18,7 +18,7 @@ use Rattle.syntax.specs.declared.module.ResultType.{ResultType}
 use Rattle.syntax.specs.declared.module.ResultType.TheVariants.{Number, Void}
 use Rattle.laws_phases.specs.cfg.Rules.{IsGraphRight}
 use Rattle.laws_phases.specs.region_match.Matched.{AreRegionsRight}
-use Rattle.types_names.specs.Layout.{layout_of}
+use Rattle.types.specs.names.Layout.{layout_of}
 use Rattle.types.specs.Call.{parameter_of}
 use Rattle.types.specs.Function.{result_register}
 use Rattle.types.specs.Meaning.{Means}

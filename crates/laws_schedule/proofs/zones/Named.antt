@@ -19,11 +19,11 @@ use Rattle.program.specs.declared.instruction.Step.{Step}
 use Rattle.syntax.specs.declared.module.Block.{Block as BlockText}
 use Rattle.syntax.specs.declared.module.Function.{Function as FunctionText}
 use Rattle.syntax.specs.declared.module.Module.{Module}
-use Rattle.types_names.specs.declared.form.AnnotationPlace.TheVariants as place
-use Rattle.types_names.specs.Item.{items_of}
-use Rattle.types_names.specs.Layout.{layout_of}
-use Rattle.types_names.specs.Note.{more_zones, zone_of, zones_of, pending_of, all_pending_of}
-use Rattle.types_names.proofs.Inversion.{made_ok, both_ok, same_ok, all_at}
+use Rattle.types.specs.declared.names.form.AnnotationPlace.TheVariants as place
+use Rattle.types.specs.names.Item.{items_of}
+use Rattle.types.specs.names.Layout.{layout_of}
+use Rattle.types.specs.names.Note.{more_zones, zone_of, zones_of, pending_of, all_pending_of}
+use Rattle.types.proofs.names.Inversion.{made_ok, both_ok, same_ok, all_at}
 use Rattle.types.specs.Apart.{IsNamedBy, in_instruction, in_zone, in_pending, in_foot, InstructionNames, parameters_at}
 use Rattle.types.specs.Block.{block_with, block_of}
 use Rattle.types.specs.Call.{parameter_of}

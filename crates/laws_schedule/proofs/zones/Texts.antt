@@ -13,22 +13,22 @@ use Rattle.syntax.specs.declared.instruction.Address.{Address as AddressText}
 use Rattle.syntax.specs.declared.instruction.Address.TheVariants as text
 use Rattle.syntax.specs.declared.module.Function.{Function as FunctionText}
 use Rattle.refusal.specs.declared.refused.Refused.{Refused as TypeFault}
-use Rattle.types_names.specs.declared.form.AnnotationPlace.{AnnotationPlace}
-use Rattle.types_names.specs.declared.form.AnnotationPlace.TheVariants as place
-use Rattle.types_names.specs.declared.item.Item.{Item}
-use Rattle.types_names.specs.declared.item.Item.TheVariants as item
-use Rattle.types_names.specs.declared.scope.Holding.{Holding}
-use Rattle.types_names.specs.declared.scope.Holding.TheVariants as holding
-use Rattle.types_names.specs.declared.scope.Named.TheVariants as named
-use Rattle.types_names.specs.declared.scope.Register.{Register}
-use Rattle.types_names.specs.Address.{Items, as_object}
-use Rattle.types_names.specs.Form.{parameter_of, made_before}
-use Rattle.types_names.specs.Layout.{layout_of}
-use Rattle.types_names.specs.Note.{noted_global, noted_holding, noted_parameter, noted_register, noted_before, noted_object, zone_of, more_zones, pending_of}
-use Rattle.types_names.specs.Operand.{register_of}
-use Rattle.types_names.specs.Scope.{Scope}
-use Rattle.types_names.specs.Table.{look_up}
-use Rattle.types_names.proofs.Inversion.{made_ok, then_ok, both_ok, same_ok, err_not_ok, all_from_ok, same_place}
+use Rattle.types.specs.declared.names.form.AnnotationPlace.{AnnotationPlace}
+use Rattle.types.specs.declared.names.form.AnnotationPlace.TheVariants as place
+use Rattle.types.specs.declared.names.item.Item.{Item}
+use Rattle.types.specs.declared.names.item.Item.TheVariants as item
+use Rattle.types.specs.declared.names.scope.Holding.{Holding}
+use Rattle.types.specs.declared.names.scope.Holding.TheVariants as holding
+use Rattle.types.specs.declared.names.scope.Named.TheVariants as named
+use Rattle.types.specs.declared.names.scope.Register.{Register}
+use Rattle.types.specs.names.Address.{Items, as_object}
+use Rattle.types.specs.names.Form.{parameter_of, made_before}
+use Rattle.types.specs.names.Layout.{layout_of}
+use Rattle.types.specs.names.Note.{noted_global, noted_holding, noted_parameter, noted_register, noted_before, noted_object, zone_of, more_zones, pending_of}
+use Rattle.types.specs.names.Operand.{register_of}
+use Rattle.types.specs.names.Scope.{Scope}
+use Rattle.types.specs.names.Table.{look_up}
+use Rattle.types.proofs.names.Inversion.{made_ok, then_ok, both_ok, same_ok, err_not_ok, all_from_ok, same_place}
 use Rattle.types.proofs.Scopes.{register_found, parameter_found}
 use Rattle.laws_phases.proofs.defined.Lists.{within_at}
 use Rattle.laws_schedule.proofs.typing.Forms.{Over, form_over, IsParameter, parameter_term_below}

@@ -24,8 +24,8 @@ use Rattle.syntax.specs.declared.module.Module.{Module}
 use Rattle.syntax.specs.declared.operator.Width.{Width}
 use Rattle.syntax.specs.declared.operator.Width.TheVariants.{Bits64}
 use Rattle.ir_reader.specs.Kept.{IsKeptModule}
-use Rattle.types_names.specs.Layout.{target_width}
-use Rattle.types_names.specs.Operand.{fits_width}
+use Rattle.types.specs.names.Layout.{target_width}
+use Rattle.types.specs.names.Operand.{fits_width}
 use Rattle.program.specs.Widths.{source_width}
 use Rattle.types.specs.Meaning.{Means}
 

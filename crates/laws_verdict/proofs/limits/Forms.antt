@@ -14,10 +14,10 @@ use Rattle.syntax.specs.declared.annotation.Form.{Form as FormText}
 use Rattle.syntax.specs.declared.annotation.Term.{Term as TermText}
 use Rattle.refusal.specs.declared.refused.Refused.TheVariants.{Fault}
 use Rattle.ir_annotation.specs.Canonical.{IsCanonical}
-use Rattle.types_names.specs.declared.form.AnnotationPlace.{AnnotationPlace}
-use Rattle.types_names.specs.Form.{is_small_coefficient, keeps_limits, term_of, within_bounds, with_one, with_all, form_in_scope}
-use Rattle.types_names.specs.Scope.{Scope}
-use Rattle.types_names.proofs.Inversion.{Each, made_ok, then_ok, both_ok, same_ok, unless_ok, err_not_ok}
+use Rattle.types.specs.declared.names.form.AnnotationPlace.{AnnotationPlace}
+use Rattle.types.specs.names.Form.{is_small_coefficient, keeps_limits, term_of, within_bounds, with_one, with_all, form_in_scope}
+use Rattle.types.specs.names.Scope.{Scope}
+use Rattle.types.proofs.names.Inversion.{Each, made_ok, then_ok, both_ok, same_ok, unless_ok, err_not_ok}
 use Rattle.verifier.proofs.Lists.{each_of}
 use Rattle.laws_verdict.specs.Limited.{weight, IsLimited}
 

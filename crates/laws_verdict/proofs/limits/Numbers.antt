@@ -19,10 +19,10 @@ use Rattle.refusal.specs.declared.refused.Refused.TheVariants.{Fault}
 use Rattle.ir_instruction.specs.Spelled.{is_spelled, is_parted_from, are_spelled}
 use Rattle.ir_instruction.specs.Spelling.{Atom, Token, Blank, operand_symbol, argument_atoms, entry_atoms, other_atoms, parted, spelled_cases, cases_atoms}
 use Rattle.ir_instruction.specs.Symbols.{fits_i64}
-use Rattle.types_names.specs.Fault.{unless_of}
-use Rattle.types_names.specs.Operand.{fits_width, operand_of, register_passing}
-use Rattle.types_names.specs.Scope.{Scope, is_number_of}
-use Rattle.types_names.proofs.Inversion.{made_ok}
+use Rattle.types.specs.names.Fault.{unless_of}
+use Rattle.types.specs.names.Operand.{fits_width, operand_of, register_passing}
+use Rattle.types.specs.names.Scope.{Scope, is_number_of}
+use Rattle.types.proofs.names.Inversion.{made_ok}
 use Rattle.laws_verdict.specs.Sums.{IsWord}
 
 -- ---- symbols

@@ -29,13 +29,13 @@ use Rattle.ir_item.specs.declared.item.Item.TheVariants as item
 use Rattle.ir_item.specs.Printed.{IsKeptItem}
 use Rattle.ir_instruction.specs.Spelling.{Blank, a_mark, define_atoms, global_atoms, instruction_atoms, parameter_atoms, parted}
 use Rattle.ir_reader.specs.Kept.{IsStepWritten, IsBlockWritten, IsFunctionWritten, IsGlobalWritten, IsKeptFunction, IsKeptModule}
-use Rattle.types_names.specs.declared.layout.Layout.{Layout}
-use Rattle.types_names.specs.declared.scope.Origin.{Origin}
-use Rattle.types_names.specs.declared.scope.Origin.TheVariants as origin
-use Rattle.types_names.specs.Address.{Items}
-use Rattle.types_names.specs.Item.{items_of}
-use Rattle.types_names.specs.Layout.{with_call, with_instruction, with_step, with_phi, with_phis, with_steps, with_block, with_parameter, with_parameters, with_blocks, with_label, with_labels, no_layout, layout_of}
-use Rattle.types_names.proofs.Inversion.{made_ok, both_ok}
+use Rattle.types.specs.declared.names.layout.Layout.{Layout}
+use Rattle.types.specs.declared.names.scope.Origin.{Origin}
+use Rattle.types.specs.declared.names.scope.Origin.TheVariants as origin
+use Rattle.types.specs.names.Address.{Items}
+use Rattle.types.specs.names.Item.{items_of}
+use Rattle.types.specs.names.Layout.{with_call, with_instruction, with_step, with_phi, with_phis, with_steps, with_block, with_parameter, with_parameters, with_blocks, with_label, with_labels, no_layout, layout_of}
+use Rattle.types.proofs.names.Inversion.{made_ok, both_ok}
 use Rattle.types.specs.Call.{Named, parameter_of}
 use Rattle.types.specs.Function.{function_of, functions_of}
 use Rattle.types.specs.Meaning.{Means, global_of}

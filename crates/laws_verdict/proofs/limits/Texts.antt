@@ -33,16 +33,16 @@ use Rattle.refusal.specs.declared.refused.Refused.{Refused}
 use Rattle.ir_annotation.specs.Annotations.{IsInequality, IsZone, IsPending, IsLeft}
 use Rattle.ir_reader.specs.Kept.{IsZoneOf, AreFunctionNotesWritten, IsPhiWritten, IsStepWritten, IsEndingWritten, IsEndingWrittenIfAny, IsBlockWritten, IsKeptFunction, IsKeptModule}
 use Rattle.ir_reader.proofs.Keeping.{answers_kept}
-use Rattle.types_names.specs.declared.form.AnnotationPlace.{AnnotationPlace}
-use Rattle.types_names.specs.declared.form.AnnotationPlace.TheVariants as place
-use Rattle.types_names.specs.declared.layout.Layout.{Layout}
-use Rattle.types_names.specs.Address.{Items}
-use Rattle.types_names.specs.Form.{inequality_between, inequality_of, inequalities_of}
-use Rattle.types_names.specs.Item.{items_of}
-use Rattle.types_names.specs.Layout.{layout_of}
-use Rattle.types_names.specs.Note.{zone_of, zones_of, more_zones, pending_of, left_of}
-use Rattle.types_names.specs.Scope.{Scope}
-use Rattle.types_names.proofs.Inversion.{made_ok, then_ok, both_ok, same_ok, all_from_ok}
+use Rattle.types.specs.declared.names.form.AnnotationPlace.{AnnotationPlace}
+use Rattle.types.specs.declared.names.form.AnnotationPlace.TheVariants as place
+use Rattle.types.specs.declared.names.layout.Layout.{Layout}
+use Rattle.types.specs.names.Address.{Items}
+use Rattle.types.specs.names.Form.{inequality_between, inequality_of, inequalities_of}
+use Rattle.types.specs.names.Item.{items_of}
+use Rattle.types.specs.names.Layout.{layout_of}
+use Rattle.types.specs.names.Note.{zone_of, zones_of, more_zones, pending_of, left_of}
+use Rattle.types.specs.names.Scope.{Scope}
+use Rattle.types.proofs.names.Inversion.{made_ok, then_ok, both_ok, same_ok, all_from_ok}
 use Rattle.types.specs.Block.{block_with, block_of}
 use Rattle.types.specs.Call.{Named}
 use Rattle.types.specs.Function.{result_register, head_zones_of, function_with, function_of, functions_of}

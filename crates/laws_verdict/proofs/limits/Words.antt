@@ -41,13 +41,13 @@ use Rattle.ir_item.specs.Printed.{IsKeptItem}
 use Rattle.ir_instruction.specs.Spelling.{Blank, a_mark, argument_atoms, atoms_of, cases_atoms, entry_atoms, instruction_atoms, operator_atoms, parted, phi_atoms, spelled_cases, terminator_atoms}
 use Rattle.ir_instruction.specs.Symbols.{fits_i64}
 use Rattle.ir_instruction.specs.Grammar.{binary_shape}
-use Rattle.types_names.specs.declared.address.WholeObject.{WholeObject}
-use Rattle.types_names.specs.Address.{Items, object_of}
-use Rattle.types_names.specs.Fault.{and_then, both_of, made_of, unless_of}
-use Rattle.types_names.specs.Operand.{operand_of}
-use Rattle.types_names.specs.Scope.{Scope}
-use Rattle.types_names.specs.Table.{look_up}
-use Rattle.types_names.proofs.Inversion.{Each, made_ok, then_ok, both_ok, same_ok, err_not_ok}
+use Rattle.types.specs.declared.names.address.WholeObject.{WholeObject}
+use Rattle.types.specs.names.Address.{Items, object_of}
+use Rattle.types.specs.names.Fault.{and_then, both_of, made_of, unless_of}
+use Rattle.types.specs.names.Operand.{operand_of}
+use Rattle.types.specs.names.Scope.{Scope}
+use Rattle.types.specs.names.Table.{look_up}
+use Rattle.types.proofs.names.Inversion.{Each, made_ok, then_ok, both_ok, same_ok, err_not_ok}
 use Rattle.types.specs.declared.call.ResolvedCall.{ResolvedCall}
 use Rattle.types.specs.Call.{Named, are_distinct, as_function, expected, fits_extent, is_any_named, takes_number, takes_object, argument_of, arguments_of, passed_call, fitting_arguments, known_call, found_call, called}
 use Rattle.types.specs.Instruction.{defined_of, alloca_id_of, instruction_of, entry_of, phi_of}

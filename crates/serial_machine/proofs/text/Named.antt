@@ -27,18 +27,18 @@ use Rattle.laws_schedule.specs.ir_reader.Kept.{IsGlobalWritten, IsKeptModule}
 use Rattle.laws_schedule.proofs.ir_reader.Keeping.{answers_kept}
 use Rattle.laws_schedule.specs.refusal.declared.refused.Refused.{Refused as TypeFault}
 use Rattle.laws_schedule.specs.refusal.declared.refused.Refused.TheVariants.{Fault}
-use Rattle.laws_schedule.specs.types_names.declared.scope.Holding.{Holding}
-use Rattle.laws_schedule.specs.types_names.declared.scope.Holding.TheVariants as holding
-use Rattle.laws_schedule.specs.types_names.declared.scope.Named.TheVariants as named_as
-use Rattle.laws_schedule.specs.types_names.declared.scope.Register.{Register}
-use Rattle.laws_schedule.specs.types_names.declared.address.WholeObject.{WholeObject}
-use Rattle.laws_schedule.specs.types_names.Address.{object_of}
-use Rattle.laws_schedule.specs.types_names.Fault.{both_of, made_of, unless_of}
-use Rattle.laws_schedule.specs.types_names.Item.{items_of}
-use Rattle.laws_schedule.specs.types_names.Layout.{layout_of}
-use Rattle.laws_schedule.specs.types_names.Operand.{register_of}
-use Rattle.laws_schedule.specs.types_names.Scope.{Scope}
-use Rattle.laws_schedule.proofs.types_names.Inversion.{made_ok, then_ok, both_ok, same_ok, err_not_ok}
+use Rattle.laws_schedule.specs.types.declared.names.scope.Holding.{Holding}
+use Rattle.laws_schedule.specs.types.declared.names.scope.Holding.TheVariants as holding
+use Rattle.laws_schedule.specs.types.declared.names.scope.Named.TheVariants as named_as
+use Rattle.laws_schedule.specs.types.declared.names.scope.Register.{Register}
+use Rattle.laws_schedule.specs.types.declared.names.address.WholeObject.{WholeObject}
+use Rattle.laws_schedule.specs.types.names.Address.{object_of}
+use Rattle.laws_schedule.specs.types.names.Fault.{both_of, made_of, unless_of}
+use Rattle.laws_schedule.specs.types.names.Item.{items_of}
+use Rattle.laws_schedule.specs.types.names.Layout.{layout_of}
+use Rattle.laws_schedule.specs.types.names.Operand.{register_of}
+use Rattle.laws_schedule.specs.types.names.Scope.{Scope}
+use Rattle.laws_schedule.proofs.types.names.Inversion.{made_ok, then_ok, both_ok, same_ok, err_not_ok}
 use Rattle.laws_schedule.specs.types.Apart.{InstructionNames}
 use Rattle.laws_schedule.specs.types.Call.{Named}
 use Rattle.laws_schedule.specs.types.Instruction.{defined_of, as_alloca, alloca_id_of, instruction_of}

@@ -1,5 +1,5 @@
 use Rattle.types.specs.Block as spec
-use Rattle.types_names.proofs.Giving.{all_step}
+use Rattle.types.proofs.names.Giving.{all_step}
 use Rattle.types.proofs.block.resolve_blocks.Goals as goal
 
 pub loop-place-preserved : goal.loop-place-preserved

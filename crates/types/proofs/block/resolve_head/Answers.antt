@@ -1,8 +1,8 @@
-use Rattle.types_names.specs.Form.{inequalities_of}
-use Rattle.types_names.specs.Note.{all_pending_of, zones_of}
+use Rattle.types.specs.names.Form.{inequalities_of}
+use Rattle.types.specs.names.Note.{all_pending_of, zones_of}
 use Rattle.std.proofs.lemmas.Result.{err_from_is_err_and}
-use Rattle.types_names.specs.declared.form.AnnotationPlace.TheVariants as place
-use Rattle.types_names.proofs.Giving.{gives_from, good, bad_made}
+use Rattle.types.specs.declared.names.form.AnnotationPlace.TheVariants as place
+use Rattle.types.proofs.names.Giving.{gives_from, good, bad_made}
 use Rattle.types.proofs.Heads.{four_give}
 use Rattle.types.proofs.block.resolve_head.Goals as goal
 

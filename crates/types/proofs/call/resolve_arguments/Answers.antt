@@ -1,6 +1,6 @@
 use Rattle.std.proofs.Common.{ap, ◌∙◌}
 use Rattle.types.specs.Call as spec
-use Rattle.types_names.proofs.Giving.{all_step, gives_equal}
+use Rattle.types.proofs.names.Giving.{all_step, gives_equal}
 use Rattle.types.proofs.call.resolve_arguments.Goals as goal
 
 pub loop-place-preserved : goal.loop-place-preserved

@@ -1,5 +1,5 @@
 use Rattle.std.proofs.Common.{map, ap, ◌∙◌}
-use Rattle.types_names.specs.Mention.{mentions_of}
+use Rattle.types.specs.names.Mention.{mentions_of}
 use Rattle.types.proofs.Judging.{resolved}
 use Rattle.types.proofs.check.resolve_module.Goals as goal
 

@@ -1,5 +1,5 @@
 use Rattle.types.specs.Function as spec
-use Rattle.types_names.proofs.Giving.{all_step}
+use Rattle.types.proofs.names.Giving.{all_step}
 use Rattle.types.proofs.function.resolve_functions.Goals as goal
 
 pub loop-place-preserved : goal.loop-place-preserved

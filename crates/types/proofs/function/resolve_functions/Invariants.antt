@@ -1,5 +1,5 @@
 use Rattle.std.proofs.Common.{take}
-use Rattle.types_names.specs.Fault.{Gives, all_of}
+use Rattle.types.specs.names.Fault.{Gives, all_of}
 use Rattle.types.specs.Function as spec
 use Rattle.types.proofs.function.resolve_functions.Given as goal
 

@@ -1,6 +1,6 @@
-use Rattle.types_names.specs.declared.form.AnnotationPlace.TheVariants as place
-use Rattle.types_names.specs.Note.{zone_of, zones_of, more_zones}
-use Rattle.types_names.proofs.Giving.{behind_gives, gives_from}
+use Rattle.types.specs.declared.names.form.AnnotationPlace.TheVariants as place
+use Rattle.types.specs.names.Note.{zone_of, zones_of, more_zones}
+use Rattle.types.proofs.names.Giving.{behind_gives, gives_from}
 use Rattle.types.proofs.function.resolve_head_zones.Goals as goal
 
 pub returns : goal.returns

@@ -1,5 +1,5 @@
 use Rattle.types.specs.Instruction as spec
-use Rattle.types_names.proofs.Giving.{all_step, gives_equal}
+use Rattle.types.proofs.names.Giving.{all_step, gives_equal}
 use Rattle.types.proofs.instruction.resolve_entries.Goals as goal
 
 pub loop-entry-preserved : goal.loop-entry-preserved

@@ -1,5 +1,5 @@
 use Rattle.types.specs.Instruction as spec
-use Rattle.types_names.proofs.Giving.{all_step}
+use Rattle.types.proofs.names.Giving.{all_step}
 use Rattle.types.proofs.instruction.resolve_steps.Goals as goal
 
 pub loop-step-preserved : goal.loop-step-preserved

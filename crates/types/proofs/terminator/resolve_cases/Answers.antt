@@ -1,5 +1,5 @@
 use Rattle.types.specs.Terminator as spec
-use Rattle.types_names.proofs.Giving.{all_step, gives_equal}
+use Rattle.types.proofs.names.Giving.{all_step, gives_equal}
 use Rattle.types.proofs.terminator.resolve_cases.Goals as goal
 
 pub loop-case-preserved : goal.loop-case-preserved

@@ -1,6 +1,0 @@
-use Rattle.std.proofs.Common.{◌≡◌, drop}
-use Rattle.types_names.specs.Form as spec
-use Rattle.types_names.proofs.form.make_form.Given as goal
-
-abbrev pub invariant-loop-term : goal.invariant-loop-term
-invariant-loop-term l = spec.with_all l.line l.form (drop l.term-index l.terms) ≡ spec.ordered_form l.line l.terms l.fn.constant

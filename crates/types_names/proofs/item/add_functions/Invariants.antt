@@ -1,6 +1,0 @@
-use Rattle.std.proofs.Common.{◌≡◌, drop}
-use Rattle.types_names.specs.Item as spec
-use Rattle.types_names.proofs.item.add_functions.Given as goal
-
-abbrev pub invariant-loop-place : goal.invariant-loop-place
-invariant-loop-place l = spec.with_functions l.place l.items (drop l.place l.functions) ≡ spec.with_functions 0 l.initial.items l.functions

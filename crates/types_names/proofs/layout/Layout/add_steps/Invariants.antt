@@ -1,6 +1,0 @@
-use Rattle.std.proofs.Common.{◌≡◌, drop}
-use Rattle.types_names.specs.Layout as spec
-use Rattle.types_names.proofs.layout.Layout.add_steps.Given as goal
-
-abbrev pub invariant-loop-step : goal.invariant-loop-step
-invariant-loop-step l = spec.with_steps l.block l.self (drop l.step-index l.steps) ≡ spec.with_steps l.block l.initial.self l.steps

@@ -1,7 +1,0 @@
-use Rattle.std.proofs.Common.{take}
-use Rattle.types_names.specs.Fault.{Gives}
-use Rattle.types_names.specs.Note as spec
-use Rattle.types_names.proofs.note.resolve_all_pending.Given as goal
-
-abbrev pub invariant-loop-line : goal.invariant-loop-line
-invariant-loop-line l = Gives l.resolved (spec.all_pending_of l.items l.scope l.block (take l.line-index l.lines))

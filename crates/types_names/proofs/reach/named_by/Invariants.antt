@@ -1,5 +1,0 @@
-use Rattle.types_names.proofs.Naming.{Naming}
-use Rattle.types_names.proofs.reach.named_by.Given as goal
-
-abbrev pub invariant-loop-place : goal.invariant-loop-place
-invariant-loop-place l = Naming l.mentions l.marked l.globals l.place l.marks.items

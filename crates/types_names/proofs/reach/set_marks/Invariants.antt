@@ -1,6 +1,0 @@
-use Rattle.std.proofs.Common.{take}
-use Rattle.types_names.specs.Marks.{SetsMarks}
-use Rattle.types_names.proofs.reach.set_marks.Given as goal
-
-abbrev pub invariant-loop-place : goal.invariant-loop-place
-invariant-loop-place l = SetsMarks (take l.place-index l.places) l.fn.marks.items l.marks.items

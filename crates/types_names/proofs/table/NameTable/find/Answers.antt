@@ -1,9 +1,0 @@
-use Rattle.std.proofs.Common.{ap, ◌∙◌}
-use Rattle.types_names.specs.Table.{look_up}
-use Rattle.types_names.proofs.Tables.{look_up-seen}
-use Rattle.types_names.proofs.table.NameTable.find.Goals as goal
-
-pub returns : goal.returns
-returns g c =
-    c.copied.ensures ∙ c.get.ensures.value ∙ look_up-seen c.self.inside.entries.entries c.args.name.now
-    ∙ ap (λ es. look_up es c.args.name.now) c.self.view_is
