@@ -7,9 +7,9 @@ use Rattle.std.proofs.lemmas.List.Elements.{All-push, All-nil}
 use Rattle.std.proofs.lemmas.Bool.{or_parts, and_parts}
 use Rattle.ir_annotation.specs.declared.meaning.Annotation.{Annotation}
 use Rattle.ir_annotation.specs.declared.meaning.Annotation.TheVariants as annotation
-use Rattle.ir_item.specs.declared.item.Item.{Item}
-use Rattle.ir_item.specs.declared.item.Item.TheVariants as item
-use Rattle.ir_item.specs.declared.line.Line.{Line}
+use Rattle.ir_reader.specs.declared.item.item.Item.{Item}
+use Rattle.ir_reader.specs.declared.item.item.Item.TheVariants as item
+use Rattle.ir_reader.specs.declared.item.line.Line.{Line}
 use Rattle.syntax.specs.declared.annotation.Inequality.{Inequality}
 use Rattle.syntax.specs.declared.module.Block.{Block}
 use Rattle.syntax.specs.declared.module.Function.{Function}
@@ -31,9 +31,9 @@ use Rattle.ir_reader.specs.Lines.{lines_of}
 use Rattle.ir_reader.specs.Reading.{start, defines_again, judged_if_placed, with_item, with_said, Steps, Said, Reads, Done, Next, Stop, Overlong, ended, Answers, Read}
 use Rattle.ir_reader.specs.Kept.{IsFunctionWritten, IsFunctionWithin, IsKeptFunction, IsKeptModule}
 use Rattle.ir_reader.proofs.Follows.{Follows, placed_follows}
-use Rattle.ir_item.specs.Lines.{line_of}
-use Rattle.ir_item.specs.Printed.{IsKeptItem}
-use Rattle.ir_item.proofs.ReadSpelled.{line_kept as read_kept}
+use Rattle.ir_reader.specs.item.Lines.{line_of}
+use Rattle.ir_reader.specs.item.Printed.{IsKeptItem}
+use Rattle.ir_reader.proofs.item.ReadSpelled.{line_kept as read_kept}
 use Rattle.ir_reader.proofs.Tracked.{counts_small}
 use Rattle.ir_reader.proofs.Naming.{function_short, module_short}
 use Rattle.ir_reader.proofs.Writing.{IsDraftWritten, placed_written, start_written}

@@ -3,9 +3,9 @@ use Rattle.std.proofs.Common.{ℕ, List, [], ◌∷◌, map, Some, None, refl}
 use Rattle.std.specs.List.{All, flat_map}
 use Rattle.std.proofs.lemmas.List.Elements.{All-nil, All-cons, All-append, All-head, All-tail}
 use Rattle.ir_annotation.specs.Annotations.{IsShortName}
-use Rattle.ir_item.specs.declared.item.Item.TheVariants as item
-use Rattle.ir_item.specs.Printed.{IsKeptItem}
-use Rattle.ir_item.proofs.Names.{item_short, head_short}
+use Rattle.ir_reader.specs.declared.item.item.Item.TheVariants as item
+use Rattle.ir_reader.specs.item.Printed.{IsKeptItem}
+use Rattle.ir_reader.proofs.item.Names.{item_short, head_short}
 use Rattle.syntax.specs.declared.instruction.AllocaSize.TheVariants.{One, Array}
 use Rattle.syntax.specs.declared.operator.Conversion.TheVariants.{Truncate, SignExtend, ZeroExtend}
 use Rattle.syntax.specs.declared.instruction.Instruction.{Instruction}

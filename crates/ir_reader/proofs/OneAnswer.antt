@@ -1,8 +1,8 @@
 -- A text is read in one way.
 use Rattle.std.proofs.Common.{◌≡◌, ℕ, ◌+◌, ◌-◌, ◌<◌, ◌≤◌, List, [], ◌∷◌, length, Option, Result, Ok, Err, refl, sym, subst, min, ap, ◌∙◌, arith}
 use Rattle.std.specs.Prelude.{IsUtf8, if◌then◌else◌}
-use Rattle.ir_item.specs.declared.line.Line.{Line}
-use Rattle.ir_item.specs.Lines.{line_of, IsLineFault, NotUtf8, NotSaid}
+use Rattle.ir_reader.specs.declared.item.line.Line.{Line}
+use Rattle.ir_reader.specs.item.Lines.{line_of, IsLineFault, NotUtf8, NotSaid}
 use Rattle.syntax.specs.declared.module.Module.{Module}
 use Rattle.ir_reader.specs.declared.draft.Draft.{Draft}
 use Rattle.ir_reader.specs.Lines.{lines_of, content}

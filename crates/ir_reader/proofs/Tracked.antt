@@ -2,8 +2,8 @@
 use Rattle.std.proofs.Common.{◌≡◌, ℕ, Bool, true, false, leb, not, List, [], ◌∷◌, ◌++◌, refl, sym, subst, ap, ◌∙◌, arith}
 use Rattle.std.specs.Prelude.{◌&&◌, ◌||◌, Result, Ok, Err, Option, Some, None, IfOk, IfErr, IsTrue, if◌then◌else◌}
 use Rattle.std.proofs.lemmas.Bool.{leb-true, and_parts}
-use Rattle.ir_item.specs.declared.item.Item.{Item}
-use Rattle.ir_item.specs.declared.line.Line.{Line}
+use Rattle.ir_reader.specs.declared.item.item.Item.{Item}
+use Rattle.ir_reader.specs.declared.item.line.Line.{Line}
 use Rattle.ir_reader.specs.declared.draft.Draft.{Draft}
 use Rattle.ir_reader.specs.declared.limits.Counts.{Counts}
 use Rattle.ir_reader.specs.declared.scope.Scope.{Scope}

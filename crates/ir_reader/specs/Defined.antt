@@ -1,7 +1,7 @@
 -- The names that a module's parts define, in the order of the text.
 use Rattle.std.specs.Prelude.{ℕ, List, [], ◌∷◌, ◌++◌, codes, map, flat_map, Option, Some, None}
-use Rattle.ir_item.specs.declared.item.Item.{Item}
-use Rattle.ir_item.specs.declared.item.Item.TheVariants as item
+use Rattle.ir_reader.specs.declared.item.item.Item.{Item}
+use Rattle.ir_reader.specs.declared.item.item.Item.TheVariants as item
 use Rattle.syntax.specs.declared.instruction.Instruction.{Instruction}
 use Rattle.syntax.specs.declared.instruction.Instruction.TheVariants as instruction
 use Rattle.syntax.specs.declared.instruction.Step.{Step}

@@ -2,8 +2,8 @@
 use Rattle.std.specs.Prelude.{ℕ, false, List, [], ◌∷◌, ◌++◌, length, ◌==◌, Option, Some, None, if◌then◌else◌}
 use Rattle.ir_annotation.specs.declared.meaning.Annotation.{Annotation}
 use Rattle.ir_annotation.specs.declared.meaning.Annotation.TheVariants as annotation
-use Rattle.ir_item.specs.declared.item.Item.{Item}
-use Rattle.ir_item.specs.declared.item.Item.TheVariants as item
+use Rattle.ir_reader.specs.declared.item.item.Item.{Item}
+use Rattle.ir_reader.specs.declared.item.item.Item.TheVariants as item
 use Rattle.syntax.specs.declared.annotation.Inequality.{Inequality}
 use Rattle.syntax.specs.declared.module.Block.{Block}
 use Rattle.syntax.specs.declared.module.Function.{Function}

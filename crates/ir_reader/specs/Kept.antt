@@ -14,8 +14,8 @@ use Rattle.syntax.specs.declared.module.Block.{Block}
 use Rattle.syntax.specs.declared.module.Function.{Function}
 use Rattle.syntax.specs.declared.module.Module.{Module}
 use Rattle.ir_annotation.specs.Annotations.{IsShortName, IsInequality, IsZone, IsPending, IsMeasure, IsBudget, IsLeft}
-use Rattle.ir_item.specs.declared.item.Item.TheVariants as item
-use Rattle.ir_item.specs.Printed.{IsKeptItem}
+use Rattle.ir_reader.specs.declared.item.item.Item.TheVariants as item
+use Rattle.ir_reader.specs.item.Printed.{IsKeptItem}
 use Rattle.ir_reader.specs.Names.{is_repeated}
 use Rattle.ir_reader.specs.Defined.{reserved_outside, reserved_inside, function_names, module_names}
 use Rattle.ir_reader.specs.Limits.{register_count, function_cells, global_cells}

@@ -11,3 +11,4 @@ pub mod Opening
 pub mod Reading
 pub mod Scoping
 pub mod Tracking
+pub mod item

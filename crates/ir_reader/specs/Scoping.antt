@@ -1,7 +1,7 @@
 -- Only the reader's own functions need these: the names that stand, as the items come.
 use Rattle.std.specs.Prelude.{ℕ, Bool, ◌||◌, List, [], ◌∷◌, ◌++◌, map}
 use Rattle.syntax.specs.declared.module.Parameter.{Parameter}
-use Rattle.ir_item.specs.declared.item.Item.{Item}
+use Rattle.ir_reader.specs.declared.item.item.Item.{Item}
 use Rattle.ir_reader.specs.declared.scope.Scope.{Scope}
 use Rattle.ir_reader.specs.Names.{is_repeated}
 use Rattle.ir_reader.specs.Defined.{parameter_name, reserved_inside, inside_before, defined_outside, defined_inside}

@@ -3,7 +3,7 @@ use Rattle.std.specs.Prelude.{◌≡◌, ℕ, min, Bool, ◌&&◌, is_some, if�
 use Rattle.refusal.specs.declared.refused.Refused.{Refused}
 use Rattle.refusal.specs.declared.refused.Refused.TheVariants as faults
 use Rattle.syntax.specs.declared.module.Module.{Module}
-use Rattle.ir_item.specs.declared.line.Line.{Line}
+use Rattle.ir_reader.specs.declared.item.line.Line.{Line}
 use Rattle.ir_reader.specs.declared.draft.Draft.{Draft}
 use Rattle.ir_reader.specs.declared.draft.LineContext.{LineContext}
 use Rattle.ir_reader.specs.declared.draft.LineContext.TheVariants as place

@@ -10,12 +10,12 @@ ghost use Rattle.ir_reader.specs.Draft.{placed_in_block_head, placed_in_phis, an
 ghost use Rattle.ir_reader.specs.Draft.{new_place};
 
 use crate::annotating::{BlockHead, FunctionHead, annotated_block, annotated_function};
+use crate::item::Item;
 use crate::opening::{
     new_block, new_function, with_block, with_ending, with_function, with_global, with_phi,
     with_step,
 };
 use ir_annotation::Annotation;
-use ir_item::Item;
 use lists::{Name, OutOfMemory, Seq};
 use std::alloc::Global;
 use syntax::{Block, Function, Inequality, Module};

@@ -6,6 +6,7 @@
 
 mod annotating;
 mod draft;
+pub mod item;
 mod limits;
 mod lines;
 mod names;
@@ -13,5 +14,6 @@ mod opening;
 mod reader;
 mod scope;
 
+pub use item::{Item, Line, items_are_read_back, lines_are_read_back, read_line};
 pub use reader::read;
 pub use refusal::Refused as TextFault;

@@ -7,8 +7,8 @@ ghost use Rattle.ir_reader.specs.Limits.{instruction_cells, are_function_notes_w
 ghost use Rattle.ir_reader.specs.Limits.{is_block_head_within, is_place_within};
 
 use crate::draft::{Draft, LineContext};
+use crate::item::Item;
 use crate::scope::defined_register;
-use ir_item::Item;
 use syntax::{Block, BlockNotes, Function, FunctionNotes, Instruction, Module};
 
 /// Of a text.

@@ -12,10 +12,10 @@ ghost use Rattle.ir_reader.specs.Tracking.{FaultEnded, or_too_late};
 ghost use Rattle.ir_reader.specs.Reading.{start, with_item, Steps, ended, Answers, IsFaultOfText};
 
 use crate::draft::{Draft, LineContext};
+use crate::item::{Line, read_line};
 use crate::limits::{Counts, MAX_BYTES, is_within_limits};
 use crate::lines::{content, cut_line};
 use crate::scope::Scope;
-use ir_item::{Line, read_line};
 use lists::{OutOfMemory, Seq};
 use refusal::{Refused, rule};
 use std::alloc::Global;

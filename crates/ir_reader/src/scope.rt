@@ -6,8 +6,8 @@ ghost use Rattle.ir_reader.specs.Defined.{parameter_name, defined_register, opti
 ghost use Rattle.ir_reader.specs.Names.{is_repeated};
 ghost use Rattle.ir_reader.specs.Scoping.{repeats, scope_with, enters_again, entered};
 
+use crate::item::Item;
 use crate::names::Names;
-use ir_item::Item;
 use lists::{Name, OutOfMemory};
 use std::alloc::Global;
 use std::hash::RandomState;

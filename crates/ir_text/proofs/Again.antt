@@ -5,11 +5,11 @@ use Rattle.std.specs.List.{flat_map}
 use Rattle.ir_annotation.specs.declared.meaning.Annotation.{Annotation}
 use Rattle.ir_annotation.specs.declared.meaning.Annotation.TheVariants as annotation
 use Rattle.ir_annotation.specs.Annotations.{annotation_on}
-use Rattle.ir_item.specs.declared.item.Item.{Item}
-use Rattle.ir_item.specs.declared.item.Item.TheVariants as item
-use Rattle.ir_item.specs.Printed.{item_on, IsKeptItem, said}
-use Rattle.ir_item.proofs.ItemsAgain.{kept_again}
-use Rattle.ir_item.proofs.Shown.{shown_utf8}
+use Rattle.ir_reader.specs.declared.item.item.Item.{Item}
+use Rattle.ir_reader.specs.declared.item.item.Item.TheVariants as item
+use Rattle.ir_reader.specs.item.Printed.{item_on, IsKeptItem, said}
+use Rattle.ir_reader.proofs.item.ItemsAgain.{kept_again}
+use Rattle.ir_reader.proofs.item.Shown.{shown_utf8}
 use Rattle.ir_reader.specs.declared.draft.Draft.{Draft}
 use Rattle.ir_reader.specs.Draft.{placed}
 use Rattle.ir_reader.specs.Counting.{is_within_limits}

@@ -8,8 +8,8 @@ use Rattle.ir_annotation.specs.declared.meaning.Annotation.TheVariants as annota
 use Rattle.ir_annotation.specs.Annotations.{annotation_words}
 use Rattle.ir_annotation.specs.Spelling.{form_text, relation_text, mode_text, object_text, inequality_text, zone_text, measure_text, budget_text, pending_text, left_text, foot_text}
 use Rattle.ir_lex.specs.Words.{words_text}
-use Rattle.ir_item.specs.declared.item.Item.{Item}
-use Rattle.ir_item.specs.declared.item.Item.TheVariants as item
+use Rattle.ir_reader.specs.declared.item.item.Item.{Item}
+use Rattle.ir_reader.specs.declared.item.item.Item.TheVariants as item
 use Rattle.ir_instruction.specs.declared.symbol.Symbol.TheVariants as symbols
 use Rattle.ir_instruction.specs.Spelling.{Atom, Token, Blank, text_of, result_word, parameter_atoms, parted, instruction_atoms, phi_atoms, terminator_atoms}
 use Rattle.ir_instruction.proofs.Texts.{text_appended}

@@ -5,9 +5,9 @@ use Rattle.std.specs.List.{All, flat_map}
 use Rattle.std.proofs.lemmas.List.Elements.{All-head, All-tail}
 use Rattle.ir_annotation.specs.declared.meaning.Annotation.TheVariants as annotation
 use Rattle.ir_annotation.specs.Annotations.{inequality_on, zone_on, pending_on, measure_on, left_on}
-use Rattle.ir_item.specs.declared.item.Item.{Item}
-use Rattle.ir_item.specs.declared.item.Item.TheVariants as item
-use Rattle.ir_item.specs.Printed.{item_on}
+use Rattle.ir_reader.specs.declared.item.item.Item.{Item}
+use Rattle.ir_reader.specs.declared.item.item.Item.TheVariants as item
+use Rattle.ir_reader.specs.item.Printed.{item_on}
 use Rattle.syntax.specs.declared.annotation.Inequality.{Inequality}
 use Rattle.syntax.specs.declared.annotation.Zone.{Zone}
 use Rattle.syntax.specs.declared.annotation.Pending.{Pending}

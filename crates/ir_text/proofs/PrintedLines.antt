@@ -4,9 +4,9 @@ use Rattle.std.specs.Prelude.{if◌then◌else◌}
 use Rattle.std.specs.List.{list_all, prefix_len, flat_map}
 use Rattle.std.proofs.lemmas.Bool.{eqb-true, and_parts}
 use Rattle.std.proofs.lemmas.List.{take_at}
-use Rattle.ir_item.specs.declared.item.Item.{Item}
-use Rattle.ir_item.specs.Printed.{IsKeptItem, item_text}
-use Rattle.ir_item.proofs.Shown.{is_shown, item_shown, spaces_shown}
+use Rattle.ir_reader.specs.declared.item.item.Item.{Item}
+use Rattle.ir_reader.specs.item.Printed.{IsKeptItem, item_text}
+use Rattle.ir_reader.proofs.item.Shown.{is_shown, item_shown, spaces_shown}
 use Rattle.ir_text.specs.Items.{indentation, printed_content, printed_line}
 use Rattle.ir_reader.specs.Lines.{is_inner, onto_first, lines_of, content}
 use Rattle.ir_lex.proofs.Names.{by_test}

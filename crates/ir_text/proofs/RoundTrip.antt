@@ -7,9 +7,9 @@ use Rattle.std.proofs.lemmas.List.Elements.{All-nil, All-cons, All-head, All-tai
 use Rattle.ir_annotation.specs.declared.meaning.Annotation.{Annotation}
 use Rattle.ir_annotation.specs.declared.meaning.Annotation.TheVariants as annotation
 use Rattle.ir_annotation.specs.Annotations.{IsInequality, IsZone, IsPending, IsKeptAnnotation}
-use Rattle.ir_item.specs.declared.item.Item.{Item}
-use Rattle.ir_item.specs.declared.item.Item.TheVariants as item
-use Rattle.ir_item.specs.Printed.{IsKeptItem}
+use Rattle.ir_reader.specs.declared.item.item.Item.{Item}
+use Rattle.ir_reader.specs.declared.item.item.Item.TheVariants as item
+use Rattle.ir_reader.specs.item.Printed.{IsKeptItem}
 use Rattle.syntax.specs.declared.annotation.Zone.{Zone}
 use Rattle.syntax.specs.declared.annotation.FunctionNotes.{FunctionNotes}
 use Rattle.syntax.specs.declared.annotation.BlockNotes.{BlockNotes}

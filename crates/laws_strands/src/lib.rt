@@ -3,9 +3,18 @@
 //! - `Footprint`: the cells that a strand read and wrote, and the deltas that it adds.
 //! - `Strands`: what a strand is, and where it pauses.
 //! - `Law`: a strand that fits a machine is steps of the worker that runs its frame.
+//! - `stacks`: the same of a strand over borders, with a stack of frames of its own.
 #![tactic(auto)]
 
 ghost use Rattle.laws_strands.specs.Law.{ReachedNeverTraps, ReadsAreThere, StrandsAreSteps, StrandsAreStepsWhereDefined, StrandsGoOverBorders};
+
+pub mod stacks;
+
+pub use stacks::{
+    any_memory_serves, deep_ends_match, deep_reads_are_there, deep_strands_are_steps,
+    deep_strands_count, deep_strands_go_over_borders, deep_strands_keep, deep_strands_leave_tasks,
+    reached_are_orderly, sample_goes_deep, writes_are_seen,
+};
 
 /// Where the frame and the reads of a strand are those of a machine that never traps, the strand is as many steps of the worker that runs
 /// the frame: each is enabled, and after them the machine is what it was but for the strand's frame, writes, deltas and count.

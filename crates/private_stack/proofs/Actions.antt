@@ -18,8 +18,8 @@ use Rattle.serial_stack.specs.Steps.{HasNoStep, IsStuck, Run}
 use Rattle.serial_stack.specs.Shown.{item_here}
 use Rattle.serial_stack.proofs.Places.{call_here, detach_here, reattach_here, return_here, sync_here}
 use Rattle.private_stack.specs.frame_strand.Alone as alone
-use Rattle.laws_stacks.specs.Footprint.{memory_of}
-use Rattle.laws_stacks.specs.Deep.{DeepStrand, next_action}
+use Rattle.laws_strands.specs.stacks.Footprint.{memory_of}
+use Rattle.laws_strands.specs.stacks.Deep.{DeepStrand, next_action}
 use Rattle.private_stack.specs.Layouts.{Segment, layout_above}
 use Rattle.private_stack.specs.Shown.{CanGo, ShowsPile}
 use Rattle.private_stack.specs.declared.pile.Pile.{Pile}

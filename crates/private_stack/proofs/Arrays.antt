@@ -35,8 +35,8 @@ use Rattle.private_stack.specs.pages.Logs.{IsWider, Log, is_open}
 use Rattle.private_stack.specs.pages.Tables.{Table, log_of}
 use Rattle.private_stack.proofs.pages.Opening.{has_place_open, open_changed}
 use Rattle.serial_stack.specs.Shown.{item_here}
-use Rattle.laws_stacks.specs.Deep.{DeepStrand, IsDeep}
-use Rattle.laws_stacks.specs.Footprint.{Footprint}
+use Rattle.laws_strands.specs.stacks.Deep.{DeepStrand, IsDeep}
+use Rattle.laws_strands.specs.stacks.Footprint.{Footprint}
 use Rattle.private_stack.specs.Kept.{ShowsLog, write_of}
 use Rattle.private_stack.specs.Layouts.{Segment}
 use Rattle.private_stack.specs.OwnCells.{CanStore, CellsDo, CellsRefuse, DoBy, RefuseBy, any_cell, may_be, own_cell}

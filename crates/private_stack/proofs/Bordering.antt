@@ -10,7 +10,7 @@ use Rattle.semantics.specs.Frames as frames
 use Rattle.semantics.specs.Frames.{Does, Ends, Registers, Role, Value, Free, OnCall}
 use Rattle.semantics.proofs.Actions.{reattach_is_child}
 use Rattle.serial_stack.specs.Layouts.{alloca_sizes, for_body, with_allocas}
-use Rattle.laws_stacks.specs.Footprint.{memory_of}
+use Rattle.laws_strands.specs.stacks.Footprint.{memory_of}
 use Rattle.semantics.specs.State.{continued, detached}
 use Rattle.program.specs.declared.identifier.BlockId.{BlockId}
 use Rattle.program.specs.declared.function.Function.{Function}
@@ -25,8 +25,8 @@ use Rattle.frame_engine.specs.Fits.{PlaceFits}
 use Rattle.frame_engine.specs.Shows.{Layout}
 use Rattle.frame_engine.proofs.Texts.{Located, ends_fit, frame_stands, located, starts_block}
 use Rattle.serial_stack.specs.Shown.{HasTaker, TextFits, item_here, unboxed}
-use Rattle.laws_stacks.specs.Deep.{DeepStrand, IsDeep, Placed, at, entered, is_detached, is_reattached, reattached}
-use Rattle.laws_stacks.proofs.Rising.{deep_ends_match}
+use Rattle.laws_strands.specs.stacks.Deep.{DeepStrand, IsDeep, Placed, at, entered, is_detached, is_reattached, reattached}
+use Rattle.laws_strands.proofs.stacks.Rising.{deep_ends_match}
 use Rattle.private_stack.specs.Kept.{ShowsKept}
 use Rattle.private_stack.specs.Layouts.{Segment, end_above, layout_above}
 use Rattle.private_stack.specs.OwnCells.{segment_of}

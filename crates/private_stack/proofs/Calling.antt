@@ -29,8 +29,8 @@ use Rattle.serial_stack.specs.Shown.{HasTaker, TextFits, item_here, unboxed}
 use Rattle.serial_stack.proofs.Calling.{call_names}
 use Rattle.serial_stack.proofs.Owners.{address_apart, in_apart, new_bases, old_apart, starts_are}
 use Rattle.serial_stack.proofs.Rows.{either_one}
-use Rattle.laws_stacks.specs.Footprint.{Footprint, put}
-use Rattle.laws_stacks.specs.Deep.{DeepStrand, IsDeep, Placed, at, is_called}
+use Rattle.laws_strands.specs.stacks.Footprint.{Footprint, put}
+use Rattle.laws_strands.specs.stacks.Deep.{DeepStrand, IsDeep, Placed, at, is_called}
 use Rattle.private_stack.specs.Kept.{HoldsOwn, ShowsKept}
 use Rattle.private_stack.specs.Layouts.{IsToCome, OwnsNone, Segment, end_above, layout_above}
 use Rattle.private_stack.specs.OwnCells.{own_cell}

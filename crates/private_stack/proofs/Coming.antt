@@ -9,8 +9,8 @@ use Rattle.program.specs.declared.function.Program.{Program}
 use Rattle.frame_engine.specs.Shows.{IsIn, Layout}
 use Rattle.serial_stack.specs.Layouts.{alloca_sizes, for_body, with_allocas}
 use Rattle.serial_stack.proofs.Rows.{either_one}
-use Rattle.laws_stacks.specs.Deep.{Placed}
-use Rattle.laws_stacks.proofs.Rising.{IsNew, new_below, new_child, Rises}
+use Rattle.laws_strands.specs.stacks.Deep.{Placed}
+use Rattle.laws_strands.proofs.stacks.Rising.{IsNew, new_below, new_child, Rises}
 use Rattle.private_stack.specs.Layouts.{IsToCome, OwnsNone, end_above, layout_above}
 
 -- ---- paths

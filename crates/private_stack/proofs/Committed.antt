@@ -5,8 +5,8 @@ use Rattle.std.specs.Option.{option_map}
 use Rattle.std.proofs.lemmas.Bool.{lt-ltb}
 use Rattle.semantics.specs.Cells.{Cell, Memory}
 use Rattle.semantics.specs.State.{sum_in}
-use Rattle.laws_stacks.specs.Footprint.{Footprint, Write, put}
-use Rattle.laws_stacks.specs.Footprint as deep
+use Rattle.laws_strands.specs.stacks.Footprint.{Footprint, Write, put}
+use Rattle.laws_strands.specs.stacks.Footprint as deep
 use Rattle.frame_engine.specs.Flat.{cell_in, is_cell}
 use Rattle.frame_engine.specs.Shows.{Layout, IsIn, ShowsCells, address}
 use Rattle.private_stack.specs.frame_strand.declared.cells.Change.{Change}

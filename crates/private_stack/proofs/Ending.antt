@@ -29,9 +29,9 @@ use Rattle.serial_stack.specs.Shown.{HasTaker, TextFits, item_here, unboxed}
 use Rattle.serial_stack.specs.Layouts.{alloca_sizes, for_body, with_allocas}
 use Rattle.serial_stack.specs.Shown as serial
 use Rattle.serial_stack.proofs.Owners.{address_apart, in_apart, out_apart}
-use Rattle.laws_stacks.specs.Footprint.{Footprint, memory_of, put, stored, with_writes}
-use Rattle.laws_stacks.specs.Deep.{DeepStrand, IsDeep, Placed, at, if_base, is_past_sync, is_returned, next_action, past_sync, returned}
-use Rattle.laws_stacks.proofs.Rising.{Rises, deep_ends_match}
+use Rattle.laws_strands.specs.stacks.Footprint.{Footprint, memory_of, put, stored, with_writes}
+use Rattle.laws_strands.specs.stacks.Deep.{DeepStrand, IsDeep, Placed, at, if_base, is_past_sync, is_returned, next_action, past_sync, returned}
+use Rattle.laws_strands.proofs.stacks.Rising.{Rises, deep_ends_match}
 use Rattle.private_stack.specs.Kept.{ShowsKept}
 use Rattle.private_stack.specs.Layouts.{IsToCome, OwnsNone, Segment, end_above, layout_above}
 use Rattle.private_stack.specs.OwnCells.{own_cell, segment_of}

@@ -13,10 +13,10 @@ use Rattle.program.specs.declared.function.Program.{Program}
 use Rattle.frame_engine.specs.Shows.{Layout}
 use Rattle.serial_stack.specs.Layouts.{alloca_sizes, allocas_in, for_body, size_in, with_allocas}
 use Rattle.private_stack.specs.Layouts.{IsToCome, OwnsNone, end_above, layout_above}
-use Rattle.laws_stacks.specs.Deep.{DeepStrand, IsDeep, Placed}
-use Rattle.laws_stacks.specs.Law.{IsOrderly, Runs, absorbed, with_frames}
-use Rattle.laws_stacks.proofs.Based.{IsBased, based}
-use Rattle.laws_stacks.proofs.Rising.{IsNew, new_below, new_child, Rises, new_is_none, rises, top_is_new}
+use Rattle.laws_strands.specs.stacks.Deep.{DeepStrand, IsDeep, Placed}
+use Rattle.laws_strands.specs.stacks.Law.{IsOrderly, Runs, absorbed, with_frames}
+use Rattle.laws_strands.proofs.stacks.Based.{IsBased, based}
+use Rattle.laws_strands.proofs.stacks.Rising.{IsNew, new_below, new_child, Rises, new_is_none, rises, top_is_new}
 
 -- ---- cells by the text
 

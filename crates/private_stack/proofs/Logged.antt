@@ -9,7 +9,7 @@ use Rattle.semantics.specs.Effect.{stores}
 use Rattle.semantics.specs.Frames.{Frame}
 use Rattle.semantics.proofs.Actions.{same_cell_itself}
 use Rattle.semantics.proofs.SameCells.{same_cell_tells}
-use Rattle.laws_stacks.specs.Footprint.{Footprint, Write, added_to, held, known, raised, settled, stored, untouched, with_read, with_writes}
+use Rattle.laws_strands.specs.stacks.Footprint.{Footprint, Write, added_to, held, known, raised, settled, stored, untouched, with_read, with_writes}
 use Rattle.frame_engine.specs.Shows.{Layout, IsIn, address}
 use Rattle.private_stack.specs.frame_strand.Buffers.{raised_change}
 use Rattle.private_stack.specs.frame_strand.Showing.{AreApart}

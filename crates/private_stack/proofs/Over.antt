@@ -17,8 +17,8 @@ use Rattle.serial_stack.specs.Layouts.{alloca_sizes, for_body, size_in, start_in
 use Rattle.serial_stack.proofs.Owners.{IsApart, address_apart, in_apart}
 use Rattle.serial_stack.proofs.Rows.{IsOlder, IsOwn, cell_is, either_one, same_place, same_pos, start_below}
 use Rattle.private_stack.specs.frame_strand.Showing.{AreApart}
-use Rattle.laws_stacks.specs.Deep.{Placed}
-use Rattle.laws_stacks.proofs.Rising.{Rises}
+use Rattle.laws_strands.specs.stacks.Deep.{Placed}
+use Rattle.laws_strands.proofs.stacks.Rising.{Rises}
 use Rattle.private_stack.specs.Layouts.{IsOutside, IsToCome, OwnsNone, Segment, end_above, layout_above}
 use Rattle.private_stack.proofs.Coming.{IsOf, new_to_come, owner_of, under_long}
 

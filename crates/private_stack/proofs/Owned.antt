@@ -8,9 +8,9 @@ use Rattle.semantics.specs.Frames.{Frame}
 use Rattle.semantics.specs.State.{added, override}
 use Rattle.semantics.proofs.Actions.{same_cell_itself}
 use Rattle.semantics.proofs.SameCells.{same_cell_tells}
-use Rattle.laws_stacks.specs.Footprint.{Footprint, Write, added_to, held, known, put, raised, settled, stored, with_read, with_writes}
-use Rattle.laws_stacks.specs.Footprint as deep
-use Rattle.laws_stacks.proofs.Keeping.{Agrees, put_after, put_read}
+use Rattle.laws_strands.specs.stacks.Footprint.{Footprint, Write, added_to, held, known, put, raised, settled, stored, with_read, with_writes}
+use Rattle.laws_strands.specs.stacks.Footprint as deep
+use Rattle.laws_strands.proofs.stacks.Keeping.{Agrees, put_after, put_read}
 use Rattle.frame_engine.specs.Shows.{Layout, IsIn, address}
 use Rattle.private_stack.specs.frame_strand.Buffers.{raised_change}
 use Rattle.private_stack.specs.frame_strand.Showing.{AreApart}

@@ -4,8 +4,8 @@ use Rattle.std.specs.Prelude.{IsSome}
 use Rattle.std.specs.Option.{option_map}
 use Rattle.std.proofs.lemmas.Option.{same_Some}
 use Rattle.semantics.specs.Cells.{Cell, Memory, or_zero}
-use Rattle.laws_stacks.specs.Footprint.{Footprint, put, seen}
-use Rattle.laws_stacks.proofs.Keeping.{Agrees}
+use Rattle.laws_strands.specs.stacks.Footprint.{Footprint, put, seen}
+use Rattle.laws_strands.proofs.stacks.Keeping.{Agrees}
 use Rattle.frame_engine.specs.Shows.{Layout, IsIn, ShowsCells, address}
 use Rattle.private_stack.specs.frame_strand.Alone.{IsFull}
 use Rattle.private_stack.specs.frame_strand.declared.cells.Change.{Change}

@@ -5,9 +5,9 @@ use Rattle.semantics.specs.Cells.{Cell, owns}
 use Rattle.semantics.specs.Frames.{Role}
 use Rattle.program.specs.declared.function.Program.{Program}
 use Rattle.serial_stack.specs.Shown as serial
-use Rattle.laws_stacks.specs.Deep.{Placed}
-use Rattle.laws_stacks.specs.Footprint.{Footprint}
-use Rattle.laws_stacks.proofs.Rising.{Rises}
+use Rattle.laws_strands.specs.stacks.Deep.{Placed}
+use Rattle.laws_strands.specs.stacks.Footprint.{Footprint}
+use Rattle.laws_strands.proofs.stacks.Rising.{Rises}
 use Rattle.private_stack.specs.Layouts.{IsToCome, end_above}
 use Rattle.private_stack.specs.Shown.{BeginsAt, NoneMet, NotMet}
 use Rattle.private_stack.proofs.Coming.{AreClear, IsClear, base_to_come, under_up}

@@ -7,8 +7,8 @@ use Rattle.semantics.specs.Cells.{Cell, Memory, Object, same_cell, same_object}
 use Rattle.semantics.specs.Effect.{stores, stores_zeros}
 use Rattle.semantics.specs.Frames.{Frame, first_cell}
 use Rattle.semantics.proofs.SameCells.{same_object_is}
-use Rattle.laws_stacks.specs.Footprint.{Footprint, Write, stored, with_writes}
-use Rattle.laws_stacks.proofs.Keeping.{Agrees}
+use Rattle.laws_strands.specs.stacks.Footprint.{Footprint, Write, stored, with_writes}
+use Rattle.laws_strands.proofs.stacks.Keeping.{Agrees}
 use Rattle.frame_engine.specs.Access.{Stores}
 use Rattle.frame_engine.specs.Accesses.{Zeroed}
 use Rattle.frame_engine.specs.Shows.{Layout, IsIn, address}

@@ -12,7 +12,7 @@ use Rattle.frame_engine.specs.declared.activation.Frame as machine
 use Rattle.frame_engine.specs.Activation.{ShowsFrame}
 use Rattle.frame_engine.specs.Shows.{IsIn, Layout, address}
 use Rattle.private_stack.specs.frame_strand.Showing.{AreApart}
-use Rattle.laws_stacks.specs.Deep.{DeepStrand, IsDeep, at}
+use Rattle.laws_strands.specs.stacks.Deep.{DeepStrand, IsDeep, at}
 use Rattle.private_stack.specs.Layouts.{IsOutside, Segment, end_above}
 use Rattle.private_stack.specs.OwnCells.{segment_of}
 use Rattle.private_stack.specs.Shown.{CanGo, ShowsPile}

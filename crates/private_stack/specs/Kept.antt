@@ -2,8 +2,8 @@
 use Rattle.std.specs.Prelude.{◌≡◌, Option, Some, None, IsSome, ℤ}
 use Rattle.std.specs.Option.{option_map}
 use Rattle.semantics.specs.Cells.{Cell}
-use Rattle.laws_stacks.specs.Footprint.{Footprint, Write, put}
-use Rattle.laws_stacks.specs.Footprint as deep
+use Rattle.laws_strands.specs.stacks.Footprint.{Footprint, Write, put}
+use Rattle.laws_strands.specs.stacks.Footprint as deep
 use Rattle.frame_engine.specs.Shows.{Layout, IsIn, address}
 use Rattle.private_stack.specs.frame_strand.declared.cells.Change.{Change}
 use Rattle.private_stack.specs.frame_strand.declared.cells.Change.TheVariants.{Stored, Delta}

@@ -5,7 +5,7 @@ use Rattle.semantics.specs.Cells.{Cell, owns}
 use Rattle.program.specs.declared.function.Program.{Program}
 use Rattle.frame_engine.specs.Shows.{IsIn, Layout}
 use Rattle.serial_stack.specs.Layouts.{alloca_sizes, for_body, with_allocas}
-use Rattle.laws_stacks.specs.Deep.{Placed}
+use Rattle.laws_strands.specs.stacks.Deep.{Placed}
 
 -- so many addresses from a start on
 pub record Segment : Type 0 where

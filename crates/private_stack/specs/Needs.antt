@@ -14,7 +14,7 @@ use Rattle.private_stack.specs.frame_strand.declared.cells.Stop.{Stop}
 use Rattle.private_stack.specs.frame_strand.declared.cells.Stop.TheVariants as stop
 use Rattle.private_stack.specs.pages.Logs.{has_place, value_at}
 use Rattle.private_stack.specs.pages.Tables.{log_of}
-use Rattle.laws_stacks.specs.Deep.{DeepStrand, IsDeep}
+use Rattle.laws_strands.specs.stacks.Deep.{DeepStrand, IsDeep}
 use Rattle.private_stack.specs.Shown.{CanGo, Deeper, ShowsPile}
 use Rattle.private_stack.specs.Layouts.{Segment}
 use Rattle.private_stack.specs.declared.cells.PileCells.{PileCells}

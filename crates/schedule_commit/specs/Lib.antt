@@ -7,4 +7,3 @@ pub mod deep
 pub use Rattle.frame_strand.specs as frame_strand
 pub use Rattle.laws_strands.specs as laws_strands
 pub use Rattle.private_stack.specs as private_stack
-pub use Rattle.laws_stacks.specs as laws_stacks

@@ -13,8 +13,8 @@ use Rattle.schedule_workers.specs.Scheduling.{counted_in, hand_of}
 use Rattle.schedule_workers.specs.Shown.{place_of}
 use Rattle.schedule_workers.proofs.Lending.{free_outside, free_small}
 use Rattle.schedule_workers.proofs.Onward.{seen}
-use Rattle.laws_stacks.specs.Law.{IsOrderly}
-use Rattle.laws_stacks.proofs.Reached.{orderly}
+use Rattle.laws_strands.specs.stacks.Law.{IsOrderly}
+use Rattle.laws_strands.proofs.stacks.Reached.{orderly}
 use Rattle.schedule_commit.specs.private_stack.Along.{IsLent, LoadsGoDeep, MayBegin}
 use Rattle.schedule_commit.specs.private_stack.Layouts.{Segment}
 use Rattle.laws_workers.proofs.strands.Loading.{loads_go_deep}

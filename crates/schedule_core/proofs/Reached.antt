@@ -4,7 +4,7 @@ use Rattle.semantics.specs.Events.{Machine, Event, event, start}
 use Rattle.semantics.specs.Replay.{replay, or_unchanged}
 use Rattle.semantics.proofs.Workers.{Manned}
 use Rattle.semantics.proofs.Starting.{start_manned}
-use Rattle.laws_stacks.proofs.Reached.{after_replay}
+use Rattle.laws_strands.proofs.stacks.Reached.{after_replay}
 use Rattle.program.specs.declared.function.Program.{Program}
 use Rattle.schedule_core.specs.Stages.{IsReached}
 

@@ -5,8 +5,8 @@ use ir_annotation::{
     Annotation, AnnotationLine, push_budget, push_foot, push_inequality, push_left, push_measure,
     push_pending, push_zone, read_annotation,
 };
-use ir_item::read_line;
 use ir_lex::{Kind, TextFault, Token, lex};
+use ir_reader::read_line;
 use lists::Name;
 use std::alloc::{AllocError, Global};
 use std::str;

@@ -25,8 +25,8 @@ use Rattle.syntax.specs.declared.module.Parameter.{Parameter as ParameterText}
 use Rattle.syntax.specs.declared.module.Parameter.TheVariants as parameter_text
 use Rattle.syntax.specs.declared.module.ResultType.{ResultType}
 use Rattle.refusal.specs.declared.refused.Refused.{Refused}
-use Rattle.ir_item.specs.declared.item.Item.TheVariants as item
-use Rattle.ir_item.specs.Printed.{IsKeptItem}
+use Rattle.ir_reader.specs.declared.item.item.Item.TheVariants as item
+use Rattle.ir_reader.specs.item.Printed.{IsKeptItem}
 use Rattle.ir_instruction.specs.Spelling.{Blank, a_mark, define_atoms, global_atoms, instruction_atoms, parameter_atoms, parted}
 use Rattle.ir_reader.specs.Kept.{IsStepWritten, IsBlockWritten, IsFunctionWritten, IsGlobalWritten, IsKeptFunction, IsKeptModule}
 use Rattle.types.specs.declared.names.layout.Layout.{Layout}

@@ -36,8 +36,8 @@ use Rattle.syntax.specs.declared.terminator.Terminator.{Terminator as Terminator
 use Rattle.syntax.specs.declared.terminator.Terminator.TheVariants as end
 use Rattle.refusal.specs.declared.refused.Refused.{Refused}
 use Rattle.refusal.specs.declared.refused.Refused.TheVariants.{Fault}
-use Rattle.ir_item.specs.declared.item.Item.TheVariants as item
-use Rattle.ir_item.specs.Printed.{IsKeptItem}
+use Rattle.ir_reader.specs.declared.item.item.Item.TheVariants as item
+use Rattle.ir_reader.specs.item.Printed.{IsKeptItem}
 use Rattle.ir_instruction.specs.Spelling.{Blank, a_mark, argument_atoms, atoms_of, cases_atoms, entry_atoms, instruction_atoms, operator_atoms, parted, phi_atoms, spelled_cases, terminator_atoms}
 use Rattle.ir_instruction.specs.Symbols.{fits_i64}
 use Rattle.ir_instruction.specs.Grammar.{binary_shape}

@@ -43,11 +43,11 @@ use Rattle.schedule_commit.specs.frame_strand.Alone.{StaysSafeAlone}
 use Rattle.laws_workers.proofs.strands.Alone.{Alone, knows_held, stays_safe}
 use Rattle.laws_workers.proofs.strands.Facts.{met, Told, told_kept, told_held, told_knows, always_told}
 use Rattle.laws_workers.proofs.strands.Numbers.{Firm, firm_kept, firm_held, firm_keeps, always_firm}
-use Rattle.laws_stacks.specs.Deep.{DeepStrand, loaded, IsDeep, is_loaded}
-use Rattle.laws_stacks.specs.Law.{IsOrderly, Runs, Fits, absorbed, IsKept}
-use Rattle.laws_stacks.proofs.Kept.{goes, kept_deep}
-use Rattle.laws_stacks.proofs.Law.{starts}
-use Rattle.laws_stacks.proofs.Reached.{reached_are_orderly}
+use Rattle.laws_strands.specs.stacks.Deep.{DeepStrand, loaded, IsDeep, is_loaded}
+use Rattle.laws_strands.specs.stacks.Law.{IsOrderly, Runs, Fits, absorbed, IsKept}
+use Rattle.laws_strands.proofs.stacks.Kept.{goes, kept_deep}
+use Rattle.laws_strands.proofs.stacks.Law.{starts}
+use Rattle.laws_strands.proofs.stacks.Reached.{reached_are_orderly}
 use Rattle.laws_workers.specs.strands.Promise.{laid_out, IsSafeDeep, StaysSafeDeep, FramesGoAlone, FramesGoDeep}
 use Rattle.schedule_commit.specs.Absorbing.{GoesAloneIn}
 

@@ -28,10 +28,10 @@ use Rattle.private_stack.specs.Shown.{CanGo}
 use Rattle.private_stack.proofs.Coming.{under_long}
 use Rattle.private_stack.proofs.Living as text
 use Rattle.private_stack.proofs.Living.{fresh, local_above, shared_above}
-use Rattle.laws_stacks.specs.Deep.{DeepStrand, IsDeep, Placed, at, next_action}
-use Rattle.laws_stacks.specs.Footprint.{memory_of}
-use Rattle.laws_stacks.specs.Law.{IsOrderly, Runs, absorbed}
-use Rattle.laws_stacks.proofs.Reached.{reached_are_orderly}
+use Rattle.laws_strands.specs.stacks.Deep.{DeepStrand, IsDeep, Placed, at, next_action}
+use Rattle.laws_strands.specs.stacks.Footprint.{memory_of}
+use Rattle.laws_strands.specs.stacks.Law.{IsOrderly, Runs, absorbed}
+use Rattle.laws_strands.proofs.stacks.Reached.{reached_are_orderly}
 use Rattle.laws_workers.specs.strands.Promise.{IsSafeDeep, LoadedFramesGoDeep, StaysSafeDeep, laid_out}
 use Rattle.laws_workers.proofs.strands.Law.{frames_go_deep}
 

@@ -21,8 +21,8 @@ use Rattle.frame_engine.specs.Arguments.{ArgumentsAreWhole}
 use Rattle.frame_engine.specs.Shows.{Layout}
 use Rattle.frame_engine.specs.declared.activation.Places.{Places}
 use Rattle.schedule_commit.specs.frame_strand.Alone.{StaysSafeAlone}
-use Rattle.laws_stacks.specs.Deep.{DeepStrand, IsDeep}
-use Rattle.laws_stacks.specs.Law.{Runs, absorbed}
+use Rattle.laws_strands.specs.stacks.Deep.{DeepStrand, IsDeep}
+use Rattle.laws_strands.specs.stacks.Law.{Runs, absorbed}
 use Rattle.private_stack.specs.Along.{LoadsGoDeep}
 
 -- ---- by itself

@@ -4,7 +4,7 @@ use Rattle.semantics.specs.Frames.{Wait, Free, OnCall}
 use Rattle.semantics.specs.State.{continued, resumed, synced, waiting, wait_after, went}
 use Rattle.linear.specs.declared.form.RegisterId.{RegisterId}
 use Rattle.program.specs.declared.function.Program.{Program}
-use Rattle.laws_stacks.specs.Deep.{DeepStrand, IsDeep, Placed, at, is_advanced, is_called, is_detached, is_filled, is_loaded, is_past_sync, is_reattached, is_returned}
+use Rattle.laws_strands.specs.stacks.Deep.{DeepStrand, IsDeep, Placed, at, is_advanced, is_called, is_detached, is_filled, is_loaded, is_past_sync, is_reattached, is_returned}
 
 -- ---- the lowest frame
 

@@ -28,10 +28,10 @@ use Rattle.schedule_workers.specs.Going.{IsAbove, PointsUp, TextFits}
 use Rattle.schedule_workers.specs.Layouts.{number_in, own_at}
 use Rattle.schedule_workers.specs.Shown.{cells_in}
 use Rattle.schedule_workers.proofs.Pointing.{IsAlike, IsApart, shown_on}
-use Rattle.laws_stacks.specs.Deep.{DeepStrand, IsDeep, Placed}
-use Rattle.laws_stacks.specs.Law.{CountsAre, IsOrderly, Runs, absorbed, counts_in, no_count, with_frames}
-use Rattle.laws_stacks.proofs.Counting.{deep_strands_count}
-use Rattle.laws_stacks.proofs.Rising.{AreBehind, IsBehind, Rises, behind, new_is_none, rises}
+use Rattle.laws_strands.specs.stacks.Deep.{DeepStrand, IsDeep, Placed}
+use Rattle.laws_strands.specs.stacks.Law.{CountsAre, IsOrderly, Runs, absorbed, counts_in, no_count, with_frames}
+use Rattle.laws_strands.proofs.stacks.Counting.{deep_strands_count}
+use Rattle.laws_strands.proofs.stacks.Rising.{AreBehind, IsBehind, Rises, behind, new_is_none, rises}
 use Rattle.private_stack.specs.Layouts.{Segment, end_above, layout_above}
 use Rattle.private_stack.specs.Shown.{CanGo, ShowsBelow, ShowsOn, ShowsPile}
 use Rattle.private_stack.specs.declared.pile.Pile.{Pile}

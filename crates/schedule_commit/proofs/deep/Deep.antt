@@ -30,10 +30,10 @@ use Rattle.schedule_workers.proofs.Standing.{can_step, may_go_on}
 use Rattle.schedule_workers.proofs.Views.{hand_seen}
 use Rattle.schedule_commit.proofs.Noting.{happen_replay}
 use Rattle.schedule_commit.proofs.Sound.{never_traps}
-use Rattle.laws_stacks.specs.Deep.{DeepStrand, IsDeep, Placed}
+use Rattle.laws_strands.specs.stacks.Deep.{DeepStrand, IsDeep, Placed}
 use Rattle.laws_strands.specs.Law.{steps_by}
-use Rattle.laws_stacks.specs.Law.{Fits, IsOrderly, ReadsAgree, Runs, absorbed}
-use Rattle.laws_stacks.proofs.Law.{deep_reads_are_there, deep_strands_are_steps}
+use Rattle.laws_strands.specs.stacks.Law.{Fits, IsOrderly, ReadsAgree, Runs, absorbed}
+use Rattle.laws_strands.proofs.stacks.Law.{deep_reads_are_there, deep_strands_are_steps}
 use Rattle.private_stack.specs.Along.{GoesDeep, IsAlong, IsLent, IsUnderWay}
 use Rattle.private_stack.specs.OwnCells.{segment_of}
 use Rattle.private_stack.specs.Shown.{CanGo, ShowsPile}

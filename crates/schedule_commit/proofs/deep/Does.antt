@@ -17,8 +17,8 @@ use Rattle.schedule_workers.specs.Going.{RunsSafely, TextFits}
 use Rattle.schedule_workers.specs.Shown.{IsShown}
 use Rattle.schedule_commit.proofs.Sound.{never_traps}
 use Rattle.laws_strands.specs.Law.{Happen, steps_by}
-use Rattle.laws_stacks.specs.Law.{IsOrderly, absorbed}
-use Rattle.laws_stacks.proofs.Law.{deep_strands_are_steps}
+use Rattle.laws_strands.specs.stacks.Law.{IsOrderly, absorbed}
+use Rattle.laws_strands.proofs.stacks.Law.{deep_strands_are_steps}
 use Rattle.private_stack.specs.Along.{IsUnderWay}
 use Rattle.private_stack.specs.declared.pile.Pile.{Pile}
 use Rattle.schedule_commit.specs.deep.Absorbing.{Absorbs, DoesDeep, GoesDeepIn, LeavesStallsDeep}

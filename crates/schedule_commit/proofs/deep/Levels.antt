@@ -37,9 +37,9 @@ use Rattle.schedule_workers.specs.Scheduling.{counted_in, hand_of, living_in}
 use Rattle.schedule_workers.specs.Shown.{CalleeStands, HasBlock, HasTaker, IsShown, ShowsAt, ShowsNode, place_of}
 use Rattle.schedule_workers.proofs.Changed.{Holds}
 use Rattle.schedule_workers.proofs.Handing.{hand_set, taken_up}
-use Rattle.laws_stacks.specs.Deep.{Placed}
-use Rattle.laws_stacks.specs.Law.{counts_in, no_count}
-use Rattle.laws_stacks.proofs.Rising.{IsBehind, of_call, of_detach}
+use Rattle.laws_strands.specs.stacks.Deep.{Placed}
+use Rattle.laws_strands.specs.stacks.Law.{counts_in, no_count}
+use Rattle.laws_strands.proofs.stacks.Rising.{IsBehind, of_call, of_detach}
 use Rattle.private_stack.specs.OwnCells.{segment_of}
 use Rattle.private_stack.specs.declared.cells.PileCells.{PileCells}
 use Rattle.schedule_commit.specs.deep.Fitting.{segment_block}

@@ -8,11 +8,11 @@ use Rattle.program.specs.declared.function.Program.{Program}
 use Rattle.laws_strands.specs.Law.{steps_by}
 use Rattle.schedule_workers.specs.Stalls.{Blocks, last_blocks}
 use Rattle.schedule_commit.proofs.Noting.{last_step, step_off}
-use Rattle.laws_stacks.specs.Deep.{DeepStrand, IsDeep, Placed, is_advanced, is_called, is_detached, is_filled, is_loaded, is_past_sync, is_reattached, is_returned}
-use Rattle.laws_stacks.specs.Law.{Fits, IsOrderly, Runs, absorbed}
-use Rattle.laws_stacks.proofs.Keeping.{kept_read}
-use Rattle.laws_stacks.proofs.Law.{deep_strands_are_steps, unsynced}
-use Rattle.laws_stacks.proofs.Rising.{Rises, new_is_none, rises}
+use Rattle.laws_strands.specs.stacks.Deep.{DeepStrand, IsDeep, Placed, is_advanced, is_called, is_detached, is_filled, is_loaded, is_past_sync, is_reattached, is_returned}
+use Rattle.laws_strands.specs.stacks.Law.{Fits, IsOrderly, Runs, absorbed}
+use Rattle.laws_strands.proofs.stacks.Keeping.{kept_read}
+use Rattle.laws_strands.proofs.stacks.Law.{deep_strands_are_steps, unsynced}
+use Rattle.laws_strands.proofs.stacks.Rising.{Rises, new_is_none, rises}
 
 module _ (prog : Program) (workers : ℕ) (m : Machine) (w : ℕ) (orderly : IsOrderly m) (never : NeverTraps prog workers m) (last : Blocks) (q : Path) (was : Frame) (lives : m.core.frames q ≡ Some was) where
   top_off : (d : DeepStrand) → IsDeep prog d → Runs m w d → d.base.path ≢ q → d.top.path ≢ q

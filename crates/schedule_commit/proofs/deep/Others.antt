@@ -12,8 +12,8 @@ use Rattle.frame_engine.specs.declared.activation.Frame as machine
 use Rattle.frame_engine.specs.declared.activation.Places.{Places}
 use Rattle.frame_engine.specs.Shows.{Layout}
 use Rattle.schedule_workers.proofs.Pointing.{not_above}
-use Rattle.laws_stacks.specs.Deep.{Placed}
-use Rattle.laws_stacks.specs.Law.{no_count}
+use Rattle.laws_strands.specs.stacks.Deep.{Placed}
+use Rattle.laws_strands.specs.stacks.Law.{no_count}
 use Rattle.private_stack.specs.Layouts.{Segment}
 use Rattle.schedule_commit.proofs.deep.Climbing.{Climbs, IsOff, IsOn, NoneIs}
 

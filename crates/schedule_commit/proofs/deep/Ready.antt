@@ -26,9 +26,9 @@ use Rattle.schedule_workers.proofs.Onward.{seen}
 use Rattle.schedule_workers.proofs.Views.{frame_found, hand_seen}
 use Rattle.schedule_commit.proofs.Noting.{happen_replay}
 use Rattle.schedule_commit.proofs.Sound.{never_traps}
-use Rattle.laws_stacks.specs.Deep.{DeepStrand, IsDeep, Placed, is_advanced, is_called, is_detached, is_filled, is_loaded, is_past_sync, is_reattached, is_returned}
-use Rattle.laws_stacks.specs.Law.{absorbed}
-use Rattle.laws_stacks.proofs.Law.{deep_strands_are_steps}
+use Rattle.laws_strands.specs.stacks.Deep.{DeepStrand, IsDeep, Placed, is_advanced, is_called, is_detached, is_filled, is_loaded, is_past_sync, is_reattached, is_returned}
+use Rattle.laws_strands.specs.stacks.Law.{absorbed}
+use Rattle.laws_strands.proofs.stacks.Law.{deep_strands_are_steps}
 use Rattle.private_stack.specs.Layouts.{end_above}
 use Rattle.private_stack.specs.OwnCells.{segment_of}
 use Rattle.private_stack.specs.Shown.{ShowsBelow}

@@ -29,8 +29,8 @@ use Rattle.private_stack.specs.declared.pile.Pile.{Pile}
 use Rattle.schedule_commit.specs.deep.Linking.{RegionsFit, frames_of}
 use Rattle.schedule_commit.proofs.deep.Bases.{as_base, lowest_of}
 use Rattle.schedule_commit.proofs.deep.Climbing.{reverse_onto}
-use Rattle.laws_stacks.specs.Footprint.{memory_of}
-use Rattle.laws_stacks.specs.Deep.{DeepStrand, IsDeep, Placed, at, is_advanced, is_called, is_detached, is_filled, is_loaded, is_past_sync, is_reattached, is_returned}
+use Rattle.laws_strands.specs.stacks.Footprint.{memory_of}
+use Rattle.laws_strands.specs.stacks.Deep.{DeepStrand, IsDeep, Placed, at, is_advanced, is_called, is_detached, is_filled, is_loaded, is_past_sync, is_reattached, is_returned}
 
 -- ---- what a detach is
 

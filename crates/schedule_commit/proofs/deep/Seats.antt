@@ -38,8 +38,8 @@ use Rattle.schedule_workers.specs.Shown.{HasBlock, IsBlockOf, IsPlaced, IsShown,
 use Rattle.schedule_workers.proofs.Handing.{own_hand}
 use Rattle.schedule_workers.proofs.Lengths.{not_there}
 use Rattle.schedule_workers.proofs.Views.{hand_seen, named_at_place}
-use Rattle.laws_stacks.specs.Deep.{Placed}
-use Rattle.laws_stacks.specs.Law.{counts_in, no_count}
+use Rattle.laws_strands.specs.stacks.Deep.{Placed}
+use Rattle.laws_strands.specs.stacks.Law.{counts_in, no_count}
 use Rattle.schedule_commit.specs.deep.Committing.{IsBase, runner_under}
 use Rattle.schedule_commit.specs.deep.Fitting.{FitsDeep, segment_block}
 use Rattle.schedule_commit.specs.deep.Linking.{IsActivation, counted_above, counted_of, frames_of, runner_below}

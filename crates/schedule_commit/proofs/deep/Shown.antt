@@ -36,9 +36,9 @@ use Rattle.schedule_workers.proofs.Changed.{Holds, changed_by, changed_to_shown,
 use Rattle.schedule_workers.proofs.Handing.{held_then, others_stay, seen_at, seen_then}
 use Rattle.schedule_workers.proofs.Onward.{seen}
 use Rattle.schedule_workers.proofs.Views.{hand_seen}
-use Rattle.laws_stacks.specs.Deep.{Placed}
-use Rattle.laws_stacks.specs.Law.{IsOrderly, absorbed, no_count}
-use Rattle.laws_stacks.proofs.Rising.{rises}
+use Rattle.laws_strands.specs.stacks.Deep.{Placed}
+use Rattle.laws_strands.specs.stacks.Law.{IsOrderly, absorbed, no_count}
+use Rattle.laws_strands.proofs.stacks.Rising.{rises}
 use Rattle.private_stack.specs.Layouts.{Segment, layout_above}
 use Rattle.private_stack.specs.OwnCells.{segment_of}
 use Rattle.private_stack.specs.Putting.{ArePutInto}

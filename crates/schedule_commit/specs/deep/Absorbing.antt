@@ -3,8 +3,8 @@ use Rattle.std.specs.Prelude.{ℕ, length}
 use Rattle.semantics.specs.Events.{Machine}
 use Rattle.program.specs.declared.function.Program.{Program}
 use Rattle.laws_strands.specs.Law.{Happen, steps_by}
-use Rattle.laws_stacks.specs.Deep.{DeepStrand, IsDeep}
-use Rattle.laws_stacks.specs.Law.{IsOrderly, absorbed}
+use Rattle.laws_strands.specs.stacks.Deep.{DeepStrand, IsDeep}
+use Rattle.laws_strands.specs.stacks.Law.{IsOrderly, absorbed}
 use Rattle.frame_engine.specs.declared.activation.Places.{Places}
 use Rattle.schedule_workers.specs.declared.run.Run.{Run}
 use Rattle.schedule_workers.specs.Going.{RunsSafely}

@@ -1,9 +1,0 @@
-use Rattle.ir_item.proofs.ItemsAgain.{kept_again}
-use Rattle.ir_item.proofs.ReadSpelled.{line_kept}
-use Rattle.ir_item.proofs.printed_laws.items_are_read_back.Goals as goal
-
-pub returns-clause-again : goal.returns-clause-again
-returns-clause-again c = kept_again
-
-pub returns-clause-kept : goal.returns-clause-kept
-returns-clause-kept c = line_kept
