@@ -2,7 +2,7 @@ ghost use Rattle.std.specs.Prelude.{◌≡◌, ◌<◌, Bool, Some, cond, length
 ghost use Rattle.semantics.specs.Frames as frames;
 ghost use Rattle.semantics.specs.Effect.{with_phis};
 ghost use Rattle.program.specs.declared.function.Block.{Block};
-ghost use Rattle.frame_code.specs.Codes.{moves_into};
+ghost use Rattle.frame.specs.code.Codes.{moves_into};
 ghost use Rattle.frame_engine.specs.Words.{word_of};
 ghost use Rattle.frame_engine.specs.Names.{sizes};
 ghost use Rattle.frame_engine.specs.Fits.{EdgeFits};
@@ -10,7 +10,7 @@ ghost use Rattle.frame_engine.specs.Shows.{Layout, ShowsRegisters};
 
 use crate::entering::enter_along;
 use crate::words::{define, register};
-use frame_code::BlockCode;
+use frame::BlockCode;
 use lists::Seq;
 use program::{Block, BlockId, RegisterId};
 

@@ -1,10 +1,10 @@
 ghost use Rattle.std.specs.Prelude.{◌≡◌, IfOk, map};
 ghost use Rattle.program.specs.declared.function.Function.{Function};
-ghost use Rattle.frame_code.specs.Codes.{program_codes};
+ghost use Rattle.frame.specs.code.Codes.{program_codes};
 ghost use Rattle.frame_engine.specs.Starts.{alloca_starts, global_starts};
 
 use crate::activation::Places;
-use frame_code::program_codes;
+use frame::program_codes;
 use lists::{OutOfMemory, Seq};
 use program::{Alloca, Program};
 use std::alloc::Global;

@@ -17,7 +17,7 @@ use Rattle.program.specs.declared.instruction.Operand.TheVariants.{Number, Regis
 use Rattle.program.specs.declared.instruction.Terminator.{Terminator}
 use Rattle.program.specs.declared.instruction.Terminator.TheVariants as terminator
 use Rattle.linear.specs.declared.form.RegisterId.{RegisterId}
-use Rattle.frame_code.proofs.Sets.{codes_equal}
+use Rattle.frame.proofs.code.Sets.{codes_equal}
 use Rattle.frame_engine.specs.Activation.{FrameFits, ProgramFits}
 use Rattle.frame_engine.specs.Fits.{BlockFits, EdgeFits, EndingFits, HasEnding, HasEntry, HasReturned}
 use Rattle.frame_engine.specs.Names.{HasAddress, HasArgument, HasNames, HasObject, HasOperand, HasResult, Sizes}

@@ -4,7 +4,7 @@ use Rattle.semantics.specs.Cells.{Memory}
 use Rattle.semantics.specs.Events.{start}
 use Rattle.program.specs.declared.function.Function.{Function}
 use Rattle.program.specs.declared.function.Program.{Program}
-use Rattle.frame_code.specs.Codes.{program_codes}
+use Rattle.frame.specs.code.Codes.{program_codes}
 use Rattle.schedule_workers.specs.frame_engine.Starts.{alloca_starts, global_starts}
 use Rattle.schedule_workers.specs.frame_engine.declared.activation.Places.{Places}
 use Rattle.schedule_workers.specs.frame_engine.Fits.{HasMoves}

@@ -6,7 +6,7 @@ use Rattle.std.proofs.Props.{props}
 use Rattle.std.proofs.Math.Nat.{ℕ_set}
 use Rattle.std.proofs.Math.IntN.{ℤ_set}
 use mathlib.Core.Sum.{⊎_set}
-use Rattle.frame_code.proofs.Sets.{codes_equal}
+use Rattle.frame.proofs.code.Sets.{codes_equal}
 use Rattle.std.proofs.lemmas.List.{map-append}
 use Rattle.lists.specs.declared.memory.OutOfMemory.{OutOfMemory}
 use Rattle.semantics.specs.Events as running

@@ -5,7 +5,7 @@ use Rattle.std.proofs.Props.{props}
 use Rattle.std.proofs.Math.Nat.{ℕ_set}
 use Rattle.std.proofs.Math.IntN.{ℤ_set}
 use mathlib.Core.Sum.{⊎_set}
-use Rattle.frame_code.proofs.Sets.{codes_equal}
+use Rattle.frame.proofs.code.Sets.{codes_equal}
 use Rattle.semantics.specs.Events.{Machine}
 use Rattle.laws_workers.specs.store.Cells.{NamedCells}
 use Rattle.frame_engine.specs.declared.activation.Places.{Places}

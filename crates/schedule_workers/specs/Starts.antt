@@ -6,7 +6,7 @@ use Rattle.program.specs.declared.function.Function.{Function}
 use Rattle.program.specs.declared.function.Global.{Global}
 use Rattle.program.specs.declared.function.Program.{Program}
 use Rattle.frame_engine.specs.declared.activation.Places.{Places}
-use Rattle.frame_code.specs.Codes.{program_codes}
+use Rattle.frame.specs.code.Codes.{program_codes}
 use Rattle.frame_engine.specs.Starts.{alloca_starts, global_starts}
 use Rattle.schedule_workers.specs.declared.run.Run.{Run}
 use Rattle.schedule_workers.specs.Shown.{IsShown}

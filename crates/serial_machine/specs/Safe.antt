@@ -6,7 +6,7 @@ use Rattle.program.specs.declared.function.Function.{Function}
 use Rattle.program.specs.declared.function.Program.{Program}
 use Rattle.store.specs.verifier.Accepted.{IsProgramOf}
 use Rattle.store.specs.verifier.Budgets.{budget_of}
-use Rattle.frame_code.specs.Codes.{program_codes}
+use Rattle.frame.specs.code.Codes.{program_codes}
 use Rattle.frame_engine.specs.Fits.{HasMoves}
 use Rattle.frame_engine.specs.Operands.{ItemFits}
 use Rattle.frame_engine.specs.Starts.{alloca_starts}

@@ -1,6 +1,6 @@
 ghost use Rattle.std.specs.Prelude.{◌≡◌, IfOk, map};
 ghost use Rattle.program.specs.declared.function.Function.{Function};
-ghost use Rattle.frame_code.specs.Codes.{program_codes};
+ghost use Rattle.frame.specs.code.Codes.{program_codes};
 ghost use Rattle.frame_engine.specs.Starts.{alloca_starts, starts_from};
 
 use frame_engine::Places;

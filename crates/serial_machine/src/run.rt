@@ -1,6 +1,6 @@
 ghost use Rattle.std.specs.Prelude.{◌≡◌, ◌≤◌, ℕ, Some, None, Err, IfNone, IfOk, IfSome, map};
 ghost use Rattle.program.specs.declared.function.Function.{Function};
-ghost use Rattle.frame_code.specs.Codes.{program_codes};
+ghost use Rattle.frame.specs.code.Codes.{program_codes};
 ghost use Rattle.frame_engine.specs.Starts.{alloca_starts, starts_from};
 ghost use Rattle.store.specs.Requirements.{unmet_in};
 ghost use Rattle.store.specs.Made.{HasGlobalCells};

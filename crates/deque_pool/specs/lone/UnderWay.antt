@@ -10,7 +10,7 @@ use Rattle.store.specs.Made.{HasGlobalCells}
 use Rattle.store.specs.Rows.{row_of, sizes_of}
 use Rattle.store.specs.verifier.Accepted.{IsAccepted}
 use Rattle.store.specs.verifier.Budgets.{budget_of}
-use Rattle.frame_code.specs.Codes.{program_codes}
+use Rattle.frame.specs.code.Codes.{program_codes}
 use Rattle.frame_engine.specs.Starts.{alloca_starts, starts_from}
 use Rattle.frame_engine.specs.declared.activation.Places.{Places}
 use Rattle.serial_stack.specs.Runs.{GoesSafely, HasWalked}

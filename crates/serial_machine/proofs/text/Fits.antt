@@ -53,7 +53,7 @@ use Rattle.frame_engine.specs.declared.activation.Places.{Places}
 use Rattle.frame_engine.specs.Activation.{allocas_of, or_none}
 use Rattle.frame_engine.specs.Fits.{BlockFits, EdgeFits, EndingFits, HasEnding, HasEntry, HasPhi, HasReturned, HasMoves}
 use Rattle.frame_engine.specs.Names.{Sizes, sizes, HasAddress, HasArgument, HasNames, HasObject, HasOperand, HasResult}
-use Rattle.frame_code.specs.Codes.{program_codes}
+use Rattle.frame.specs.code.Codes.{program_codes}
 use Rattle.frame_engine.specs.Starts.{alloca_starts, starts_from}
 use Rattle.serial_stack.specs.Shown.{TextFits}
 use Rattle.serial_machine.specs.Safe.{TextsFit}

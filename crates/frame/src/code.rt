@@ -1,5 +1,4 @@
 //! Codes: a program's blocks once more, with operands and edges resolved, so that the engine asks no kind twice.
-#![tactic(auto)]
 
 mod code;
 mod decode;
