@@ -1,6 +1,6 @@
 //! The lines of a text, of which some were put in.
 
-use buffers::{ListBuffer, TextBuffer};
+use lists::{ListBuffer, TextBuffer};
 use std::alloc::{AllocError, Global};
 
 /// The numbers of lines that were put into a text, counted from 1.

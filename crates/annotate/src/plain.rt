@@ -1,7 +1,7 @@
 //! Lines that say no more than another one of their block.
 
-use buffers::ListBuffer;
 use linear::Form;
+use lists::ListBuffer;
 use program::Block;
 use ranges::{Unanswered, difference_of, sum_form};
 use std::alloc::Global;

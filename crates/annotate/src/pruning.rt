@@ -3,8 +3,8 @@ ghost use Rattle.annotate.specs.Kept.{IsAcceptedText};
 
 use crate::new_lines::without;
 use crate::trying::copied;
-use buffers::ListBuffer;
 use explain_facts::spend;
+use lists::ListBuffer;
 use ranges::{Effort, Unanswered};
 use std::alloc::{AllocError, Global};
 use std::hash::RandomState;

@@ -2,11 +2,11 @@
 
 use crate::new_lines::NewLines;
 use crate::plain::{is_plain, said_of};
-use buffers::ListBuffer;
 use explain_costs::cost_findings;
 use explain_facts::Matched;
 use footprints::passes_on;
 use linear_shown::{FactBranches, FactCursor};
+use lists::ListBuffer;
 use program::{Block, BlockId, Function, Inequality, Program};
 use ranges::{BlockFacts, EdgeFacts, Effort, Unanswered, block_facts, difference_of, shows_at};
 use std::alloc::Global;

@@ -1,6 +1,6 @@
 //! Where lists and texts get their memory.
 
-use buffers::TextBuffer;
+use lists::TextBuffer;
 use std::alloc::{AllocError, Global};
 use std::cell::Cell;
 

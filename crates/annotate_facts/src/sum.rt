@@ -1,7 +1,7 @@
 //! Sums of registers, for reckoning.
 
 use crate::heap::Heap;
-use buffers::TextBuffer;
+use lists::TextBuffer;
 use syntax::{Form, Inequality, Operand, Relation};
 
 /// Registers times numbers, and a number. A register stands in it once at most; numbers past 128 bits stay at the last one.

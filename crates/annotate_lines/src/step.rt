@@ -5,7 +5,7 @@ use crate::goal::{Call, Scope, ends_of};
 use annotate_facts::{
     Equation, Known, Sum, Way, block_at, definition_of, is_exact, lines_between, moved, register_of,
 };
-use buffers::TextBuffer;
+use lists::TextBuffer;
 use syntax::{
     BinaryOperator, Block, Conversion, Ending, Inequality, Instruction, Operand, Step, Terminator,
     Width, Zone,

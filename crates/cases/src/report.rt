@@ -1,4 +1,4 @@
-use buffers::TextBuffer;
+use lists::TextBuffer;
 use std::alloc::{AllocError, Global};
 use std::process::ExitCode;
 

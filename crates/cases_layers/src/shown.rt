@@ -8,7 +8,7 @@ mod refusals;
 mod rows;
 mod searched;
 
-use buffers::TextBuffer;
+use lists::TextBuffer;
 use lot::Lot;
 use std::alloc::Global;
 

@@ -1,7 +1,7 @@
 //! What is told of a text with lines put in, by the lines of the text without them.
 
 use annotate::NewLines;
-use buffers::TextBuffer;
+use lists::TextBuffer;
 use std::alloc::{AllocError, Global};
 
 /// What a remark on a line begins with without which the module is accepted.

@@ -4,12 +4,12 @@ ghost use Rattle.program.specs.declared.function.Program.{Program};
 ghost use Rattle.serial_machine.specs.store.Made.{HasGlobalCells, IsMadeFor};
 
 use crate::job::Job;
-use buffers::ListBuffer;
 use cli_data::{
     Beside, DataFault, Dump, Status, print_numbers, read_numbers, read_words, write_words,
 };
 use cli_words::{DataWord, DataWords, RowWord};
 use debugger::Memory;
+use lists::ListBuffer;
 use program::GlobalId;
 use std::alloc::{AllocError, Global};
 use std::io;

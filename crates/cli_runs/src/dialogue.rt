@@ -1,11 +1,10 @@
 //! The dialogue of `tapirvm debug`: a command a line, and a line in answer.
 
-use buffers::TextBuffer;
 use cli_data::Status;
 use cli_words::is_name;
 use debugger::{Debugger, Status as Standing, TaskView, read_number, read_task};
 use frame::Path;
-use lists::OutOfMemory;
+use lists::{OutOfMemory, TextBuffer};
 use std::alloc::{AllocError, Global};
 use std::io;
 use std::io::{BufRead, BufReader, ErrorKind, Read, Write};

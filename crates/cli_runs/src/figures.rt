@@ -1,7 +1,6 @@
 //! Figures of a run: what each worker did, and how much could be done at once.
 
-use buffers::TextBuffer;
-use lists::OutOfMemory;
+use lists::{OutOfMemory, TextBuffer};
 use std::alloc::Global;
 use view_moments::{Moment, Outcome, Timing};
 use view_traces::Event;

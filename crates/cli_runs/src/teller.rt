@@ -2,8 +2,7 @@
 
 use crate::figures::Figures;
 use crate::telling::{Subject, Told, Wanted, Words};
-use buffers::TextBuffer;
-use lists::OutOfMemory;
+use lists::{OutOfMemory, TextBuffer};
 use std::alloc::{AllocError, Global};
 use view_events::{MOST_EVENTS, Numbered, Page, Start, push_event};
 use view_moments::{Moment, Rounds, Scene, Settings, picture, push_moment};

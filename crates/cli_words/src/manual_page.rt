@@ -3,7 +3,7 @@
 use crate::request::Verb;
 use crate::table::{ABOUT, Given, Part, STATUSES, VERBS, row_of};
 use crate::version::VERSION;
-use buffers::TextBuffer;
+use lists::TextBuffer;
 use std::alloc::{AllocError, Global};
 
 /// A text as `man` reads it: a minus stands for itself, and no line begins with a dot.

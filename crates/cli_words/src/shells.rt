@@ -2,7 +2,7 @@
 
 use crate::request::{Shell, Verb};
 use crate::table::{Given, Part, VERBS, row_of};
-use buffers::TextBuffer;
+use lists::TextBuffer;
 use std::alloc::{AllocError, Global};
 
 fn push_words(out: &mut TextBuffer) {

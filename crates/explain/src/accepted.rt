@@ -1,12 +1,11 @@
 //! What an accepted module could do without.
 
 use crate::trial::fault_of;
-use buffers::TextBuffer;
 use explain_costs::push_budgets;
 use explain_facts::spend;
 use explain_findings::{Source, with_line_at};
 use ir_reader::read;
-use lists::OutOfMemory;
+use lists::{OutOfMemory, TextBuffer};
 use program::Program;
 use ranges::Unanswered;
 use std::alloc::Global;

@@ -1,10 +1,10 @@
 //! What is to be stored before the cells of an alloca are read.
 
 use crate::trial::fault_of;
-use buffers::TextBuffer;
 use explain_facts::{Matched, Scene, match_text};
 use explain_findings::{Source, with_line_before};
 use footprints::address_cell;
+use lists::TextBuffer;
 use program::{Alloca, Argument, Block, Instruction, ObjectName, Step};
 use ranges::Unanswered;
 use std::alloc::{AllocError, Global};

@@ -1,9 +1,8 @@
 //! How an explanation is printed.
 
 use crate::report::Explanation;
-use buffers::TextBuffer;
 use explain_findings::{Finding, line_at};
-use lists::OutOfMemory;
+use lists::{OutOfMemory, TextBuffer};
 use rules::{push_heads, push_meanings, push_mends};
 use std::alloc::Global;
 

@@ -1,10 +1,9 @@
 //! What budgets have left over.
 
 use crate::sums::{less_form, number_sum};
-use buffers::TextBuffer;
 use explain_facts::{Scene, push_form};
 use linear::Form;
-use lists::OutOfMemory;
+use lists::{OutOfMemory, TextBuffer};
 use program::Program;
 use ranges::sum_form;
 use std::alloc::Global;

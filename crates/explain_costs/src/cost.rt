@@ -2,14 +2,13 @@
 
 use crate::left::{Need, missing_left};
 use crate::sums::{Counted, Share, amount, less_form, number_sum, plus_form};
-use buffers::{ListBuffer, TextBuffer};
 use cost_table::{Table, Work, make_table, work_of};
 use explain_facts::{
     Known, Matched, Scene, Trying, edge_known, fact_lines, lack_of, push_form, start_lines,
 };
 use explain_findings::{Finding, Source, push_finding};
 use linear::{Fact, Form};
-use lists::OutOfMemory;
+use lists::{ListBuffer, OutOfMemory, TextBuffer};
 use program::{Argument, Block, BlockId, Ending, Function, Instruction, Left, Step, Terminator};
 use ranges::{
     BlockFacts, EdgeFacts, Effort, Move, Sum, Unanswered, argument_moves, block_facts, start_facts,

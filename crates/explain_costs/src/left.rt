@@ -1,11 +1,10 @@
 //! What is said of a block without a `left` line, and the line that would do.
 
 use crate::sums::{Counted, Share, amount, less_form, number_sum, plus_form};
-use buffers::TextBuffer;
 use cost_table::Work;
 use explain_facts::{Scene, Trying, push_form, within_bounds};
 use linear::{Fact, Form, RegisterId};
-use lists::OutOfMemory;
+use lists::{OutOfMemory, TextBuffer};
 use program::{Block, Function, Instruction, Step};
 use ranges::{Unanswered, sum_form};
 use std::alloc::Global;

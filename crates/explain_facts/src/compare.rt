@@ -1,7 +1,7 @@
 //! Tests by which a block is reached: a loop's test that lets its counter go too far.
 
 use crate::scene::Scene;
-use buffers::TextBuffer;
+use lists::TextBuffer;
 use program::{Block, BlockId, Function, Instruction, Operand, RegisterId, Terminator, Width};
 use syntax::Predicate;
 

@@ -8,9 +8,8 @@ use crate::gap::{
 use crate::scene::Scene;
 use crate::spelling::{push_excess, push_inequality};
 use crate::unknown::{is_bounded, push_unbounded};
-use buffers::{ListBuffer, TextBuffer};
 use linear::{Fact, Form, Term};
-use lists::OutOfMemory;
+use lists::{ListBuffer, OutOfMemory, TextBuffer};
 use program::{Block, BlockId, Function, Inequality, RegisterId};
 use ranges::{BlockFacts, Effort, Sum, Unanswered, sum_form};
 use std::alloc::{AllocError, Global};

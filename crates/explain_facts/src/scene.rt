@@ -1,7 +1,6 @@
 //! A function beside the names of its text.
 
-use buffers::ListBuffer;
-use lists::{Name, OutOfMemory};
+use lists::{ListBuffer, Name, OutOfMemory};
 use program::{AllocaId, BlockId, Function, GlobalId, ObjectName, Program, RegisterId};
 use std::alloc::{AllocError, Global};
 use syntax::{Module, Parameter};

@@ -2,7 +2,7 @@
 
 use crate::scene::Scene;
 use crate::unmet::Unmet;
-use buffers::TextBuffer;
+use lists::TextBuffer;
 use program::{Block, BlockId, Instruction, Operand, RegisterId, Step, Terminator};
 use ranges::Sum;
 use syntax::Predicate;

@@ -1,9 +1,9 @@
 //! How forms and what is shown of them are spelled, with the names of the text.
 
 use crate::scene::Scene;
-use buffers::TextBuffer;
 use ir_annotation::sign_text;
 use linear::{Form, Term, side_of};
+use lists::TextBuffer;
 
 /// A number so far from 0 is a bound of a width, and stands on a side of its own.
 const FAR: u128 = 1_000_000_000;

@@ -1,8 +1,8 @@
 //! Registers that no fact bounds from the side that is asked for: why that is, and what to do.
 
 use crate::scene::Scene;
-use buffers::TextBuffer;
 use linear::{Fact, Term};
+use lists::TextBuffer;
 use program::{BlockId, Function, FunctionId, Instruction, Program, RegisterId, Step};
 use syntax::BinaryOperator;
 

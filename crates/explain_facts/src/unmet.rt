@@ -2,9 +2,8 @@
 
 use crate::gap::spend;
 use crate::trial::Matched;
-use buffers::ListBuffer;
 use linear_shown::{FactBranches, FactCursor, Known};
-use lists::{OutOfMemory, Seq};
+use lists::{ListBuffer, OutOfMemory, Seq};
 use program::{Block, Ending, Function, Inequality, Program, Step};
 use ranges::{
     BlockFacts, EdgeFacts, Effort, Obligation, Sum, Unanswered, block_facts, difference_of,

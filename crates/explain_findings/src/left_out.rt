@@ -1,6 +1,6 @@
 //! Words of LLVM that the language leaves out.
 
-use buffers::TextBuffer;
+use lists::TextBuffer;
 
 /// A word, and what to write in its place.
 const LEFT_OUT: &str = "\

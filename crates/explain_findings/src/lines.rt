@@ -1,6 +1,6 @@
 //! The lines of a text, counted from 1.
 
-use buffers::TextBuffer;
+use lists::TextBuffer;
 use std::alloc::{AllocError, Global};
 
 /// Adds lines, each of which begins with this more.

@@ -3,8 +3,7 @@
 use crate::cause::cause_of;
 use crate::finding::{Finding, Source};
 use crate::row::{Row, function_of, rows_of};
-use buffers::TextBuffer;
-use lists::OutOfMemory;
+use lists::{OutOfMemory, TextBuffer};
 use std::alloc::{AllocError, Global};
 
 /// A line of the text, with the lines of its function; none of its own where it has no tokens.

@@ -4,10 +4,9 @@ use crate::finding::{Finding, Source, push_finding};
 use crate::left_out::push_left_out;
 use crate::lines::lines_before;
 use crate::row::{ALONE, tokens_of};
-use buffers::TextBuffer;
 use ir_lex::{Kind, Token};
 use ir_reader::{read, read_line};
-use lists::OutOfMemory;
+use lists::{OutOfMemory, TextBuffer};
 use refusal::Refused;
 use std::alloc::Global;
 

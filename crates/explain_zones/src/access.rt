@@ -4,7 +4,6 @@ use crate::found::{Found, Touched, in_order, push_found, touched_zone};
 use crate::passing::{foot_of, push_edge};
 use crate::spot::Spot;
 use crate::zone_text::{as_written, push_why_beside, push_why_not, push_zone};
-use buffers::{ListBuffer, TextBuffer};
 use explain_facts::{Known, Matched, Scene, fact_lines, spend};
 use explain_findings::{Finding, Source};
 use footprints::{
@@ -12,7 +11,7 @@ use footprints::{
     pointers_of, put_object, step_use,
 };
 use linear_shown::{FactBranches, FactCursor, Known as KnownFacts};
-use lists::OutOfMemory;
+use lists::{ListBuffer, OutOfMemory, TextBuffer};
 use program::{
     Address, Argument, Block, BlockId, Ending, Function, Instruction, Mode, Operand, Step,
     Terminator, Zone,

@@ -3,9 +3,9 @@
 use crate::found::touched_zone;
 use crate::spot::{Put, Spot, zones_of_task};
 use crate::widen::{both_modes, in_numbers, kept};
-use buffers::TextBuffer;
 use explain_facts::Known;
 use footprints::{PlacedZone, same_object};
+use lists::TextBuffer;
 use program::{ObjectName, Zone};
 use ranges::Unanswered;
 use std::alloc::Global;

@@ -1,11 +1,10 @@
 //! Faults of zones with what they touch: one that touches no more than an earlier one of its task does may follow from that.
 
 use crate::zone_text::{as_written, placed_form};
-use buffers::ListBuffer;
 use explain_findings::Finding;
 use footprints::{PlacedZone, covers};
 use linear_shown::{FactCursor, Known};
-use lists::OutOfMemory;
+use lists::{ListBuffer, OutOfMemory};
 use program::Zone;
 use ranges::{Effort, Unanswered};
 use std::alloc::{AllocError, Global};

@@ -2,10 +2,10 @@
 
 use crate::found::TaskPlace;
 use crate::zone_text::{as_written, push_zone};
-use buffers::TextBuffer;
 use explain_facts::{Known, Scene, Trying, match_text, spend};
 use explain_findings::{Finding, Source, with_line_at, with_line_before};
 use footprints::Place;
+use lists::TextBuffer;
 use program::{Block, BlockId, Function, Terminator, Zone};
 use ranges::{Task, Unanswered};
 use std::alloc::{AllocError, Global};

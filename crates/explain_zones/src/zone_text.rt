@@ -1,11 +1,10 @@
 //! How zones are spelled where they are judged, and why one covers another not.
 
-use buffers::TextBuffer;
 use explain_facts::{Scene, Trying, is_against, lack_of, push_form};
 use explain_findings::line_at;
 use footprints::{PlacedZone, mode_covers, same_object};
 use linear::{Form, side_of};
-use lists::{OutOfMemory, Seq};
+use lists::{OutOfMemory, Seq, TextBuffer};
 use program::{Mode, Zone};
 use ranges::{Move, Sum, Unanswered, push_parts, sum_form};
 use std::alloc::Global;

@@ -1,13 +1,12 @@
 //! Runs on threads of which more is told than the answer.
 
 use crate::clocks::microseconds_since;
-use buffers::ListBuffer;
 use cli_answers::{
     Beside, Course, Crew, Effort, Event, Job, Machine, Status, prepared, print_run,
     print_unprepared, tell_course,
 };
 use deque_pool::{Entry, Figures, OpenGate, Recorded, run_recorded};
-use lists::OutOfMemory;
+use lists::{ListBuffer, OutOfMemory};
 use std::alloc::{AllocError, Global};
 use std::io;
 use std::io::Write;

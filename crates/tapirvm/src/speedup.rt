@@ -1,9 +1,9 @@
 //! How long runs on threads take by the number of their workers.
 
 use crate::clocks::microseconds_since;
-use buffers::TextBuffer;
 use cli_answers::{Beside, Finished, Job, Status, prepared, print_run, print_unprepared};
 use deque_pool::OpenGate;
+use lists::TextBuffer;
 use std::io;
 use std::io::Write;
 use std::sync::Wait;

@@ -1,8 +1,8 @@
 //! An event as JSON.
 
 use crate::names::{Names, NumberName, ThingName, ValueName};
-use buffers::TextBuffer;
 use frame::Event;
+use lists::TextBuffer;
 use view_moments::{Change, Moment, Outcome, Place, Settings, TaskName, Written};
 
 /// An event of a run with its number, from 1, and its round.

@@ -5,7 +5,7 @@ use crate::names::Names;
 use crate::script::SCRIPT;
 use crate::spelling::quoted;
 use crate::style::STYLE;
-use buffers::TextBuffer;
+use lists::TextBuffer;
 use std::alloc::{AllocError, Global};
 use view_moments::Settings;
 

@@ -1,7 +1,7 @@
 //! Facts, spelled as annotations spell them.
 
-use buffers::{ListBuffer, TextBuffer};
 use ir_annotation::sign_text;
+use lists::{ListBuffer, TextBuffer};
 use program::{Fact, RegisterId, Term};
 use std::alloc::{AllocError, Global};
 

@@ -1,6 +1,6 @@
 //! The names of registers.
 
-use buffers::ListBuffer;
+use lists::ListBuffer;
 use std::alloc::{AllocError, Global};
 use syntax::{Block, Function, Parameter};
 

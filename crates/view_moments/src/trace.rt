@@ -1,8 +1,8 @@
 //! A line for each event.
 
 use crate::moment::{Moment, Outcome, Place, TaskName};
-use buffers::TextBuffer;
 use frame::Event;
+use lists::TextBuffer;
 
 /// The instruction on a line of the module, counted from 1, without the line's comment.
 fn instruction_at<'a>(lines: &[&'a str], line: u32) -> &'a str {

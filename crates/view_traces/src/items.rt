@@ -1,9 +1,8 @@
 //! What stands in the program at a frame's place, and which registers and cells it sets.
 
-use buffers::ListBuffer;
 use frame::{Role, block_at};
 use frame_engine::{Frame, Places};
-use lists::OutOfMemory;
+use lists::{ListBuffer, OutOfMemory};
 use program::{Address, BlockId, Instruction, ObjectName, Program, RegisterId, Terminator};
 use std::alloc::Global;
 use view_moments::Act;

@@ -1,7 +1,7 @@
 //! The text of a schedule, event for event.
 
-use buffers::TextBuffer;
 use frame::{Event, Path};
+use lists::TextBuffer;
 use std::alloc::{AllocError, Global};
 use view_moments::TaskName;
 

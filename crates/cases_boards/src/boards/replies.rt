@@ -1,7 +1,7 @@
 //! What the calls of a board come to, in words.
 
-use buffers::TextBuffer;
 use frame::Path;
+use lists::TextBuffer;
 use shared_run::{
     Claimed, Committed, Entry, Fetched, History, Loaded, Machine, Pause, Published, Standing,
     Stepped, Ticket,

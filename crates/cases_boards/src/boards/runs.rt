@@ -6,8 +6,7 @@ ghost use Rattle.shared_run.specs.store.Made.{HasGlobalCells, IsMadeFor};
 use crate::boards::mirror::Mirror;
 use crate::boards::players::players_of;
 use crate::boards::rows::{Notes, play_drawn, play_rows};
-use buffers::{ListBuffer, TextBuffer};
-use lists::OutOfMemory;
+use lists::{ListBuffer, OutOfMemory, TextBuffer};
 use serial_machine::serial_run;
 use shared_run::{
     Bench, Board, Finished, History, Machine, Memory, Places, RunFault, Seat, Shared, Start,

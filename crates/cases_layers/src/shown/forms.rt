@@ -1,8 +1,8 @@
 //! How forms are made.
 
 use crate::shown::numbers::{I, N, Numbers};
-use buffers::TextBuffer;
 use linear::{Form, FormFault, RegisterId};
+use lists::TextBuffer;
 use std::alloc::Global;
 
 fn coefficient(form: &Form, register: RegisterId) -> i64 {

@@ -1,6 +1,6 @@
 //! What refusals print.
 
-use buffers::TextBuffer;
+use lists::TextBuffer;
 use refusal::Refused;
 
 /// Prints a broken rule with its line, and want of memory.

@@ -1,7 +1,7 @@
 //! Rows of forms, each shown by facts or not.
 
 use crate::shown::numbers::{Numbers, is_shown};
-use buffers::{ListBuffer, TextBuffer};
+use lists::{ListBuffer, TextBuffer};
 use std::alloc::{AllocError, Global};
 
 /// The form i * %i + n * %n + constant.

@@ -2,8 +2,8 @@
 
 use crate::shown::lot::Lot;
 use crate::shown::numbers::{Numbers, is_shown};
-use buffers::{ListBuffer, TextBuffer};
 use linear::FormFault;
+use lists::{ListBuffer, TextBuffer};
 use std::alloc::{AllocError, Global};
 
 /// a * x + b * y

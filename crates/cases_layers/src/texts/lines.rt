@@ -1,13 +1,12 @@
 //! What the layers below whole texts make of one line.
 
-use buffers::{ListBuffer, TextBuffer};
 use ir_annotation::{
     Annotation, AnnotationLine, push_budget, push_foot, push_inequality, push_left, push_measure,
     push_pending, push_zone, read_annotation,
 };
 use ir_lex::{Kind, TextFault, Token, lex};
 use ir_reader::read_line;
-use lists::Name;
+use lists::{ListBuffer, Name, TextBuffer};
 use std::alloc::{AllocError, Global};
 use std::str;
 

@@ -1,9 +1,8 @@
 //! Lists of tickets: the order at each end, and that each ticket comes out once, whichever threads take it.
 
-use buffers::ListBuffer;
 use cases::Report;
 use deque_pool::{Hands, Taken, Thief};
-use lists::OutOfMemory;
+use lists::{ListBuffer, OutOfMemory};
 use shared_run::Ticket;
 use std::alloc::{AllocError, Global};
 use std::sync::Wait;

@@ -3,10 +3,9 @@
 use crate::json::fault::{push_place, words_of};
 use crate::json::list::{push_member, push_separator, push_text};
 use crate::json::verdict::UNDECIDED;
-use buffers::TextBuffer;
 use explain::{Explanation, Finding};
 use explain_findings::line_at;
-use lists::OutOfMemory;
+use lists::{OutOfMemory, TextBuffer};
 use rules::push_mends;
 use std::alloc::{AllocError, Global};
 

@@ -1,9 +1,8 @@
 //! A broken rule.
 
 use crate::json::list::push_member;
-use buffers::TextBuffer;
 use explain_findings::line_at;
-use lists::OutOfMemory;
+use lists::{OutOfMemory, TextBuffer};
 use rules::push_heads;
 use std::alloc::{AllocError, Global};
 

@@ -1,8 +1,7 @@
 //! What the verifier knows of each block, from the lines that `show` prints.
 
 use crate::json::list::{push_member, push_separator, push_text};
-use buffers::TextBuffer;
-use lists::OutOfMemory;
+use lists::{OutOfMemory, TextBuffer};
 use std::alloc::{AllocError, Global};
 use std::mem;
 

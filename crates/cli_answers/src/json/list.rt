@@ -1,6 +1,6 @@
 //! Lists of texts.
 
-use buffers::TextBuffer;
+use lists::TextBuffer;
 use std::alloc::{AllocError, Global};
 use view_events::quoted;
 

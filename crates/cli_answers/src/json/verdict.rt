@@ -1,7 +1,7 @@
 //! The verdict of `verify` on a module that is accepted.
 
 use crate::json::list::push_separator;
-use buffers::TextBuffer;
+use lists::TextBuffer;
 use std::alloc::{AllocError, Global};
 use verifier::Verified;
 

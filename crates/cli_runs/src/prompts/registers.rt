@@ -2,9 +2,8 @@
 
 use crate::prompts::session::Session;
 use crate::prompts::values::registers_with_values;
-use buffers::TextBuffer;
 use frame::{Path, Role};
-use lists::OutOfMemory;
+use lists::{OutOfMemory, TextBuffer};
 use view_events::ThingName;
 use view_moments::Value;
 use view_traces::Objects;

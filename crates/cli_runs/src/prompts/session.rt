@@ -3,10 +3,9 @@
 ghost use Rattle.std.specs.Prelude.{◌≤◌, length};
 
 use crate::prompts::paint::{Colour, Paint};
-use buffers::TextBuffer;
 use debugger::{Debugger, Event, TaskView, Verified};
 use frame::Path;
-use lists::OutOfMemory;
+use lists::{OutOfMemory, TextBuffer};
 use std::alloc::Global;
 use view_events::Names;
 use view_moments::TaskName;

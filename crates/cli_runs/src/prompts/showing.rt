@@ -2,10 +2,9 @@
 
 use crate::prompts::paint::{Colour, Paint};
 use crate::prompts::session::{Session, push_event};
-use buffers::TextBuffer;
 use debugger::{FrameView, Status, TaskView};
 use frame::Path;
-use lists::OutOfMemory;
+use lists::{OutOfMemory, TextBuffer};
 use view_moments::TaskName;
 
 /// The most cells that one command shows of an object.

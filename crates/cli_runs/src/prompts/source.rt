@@ -2,7 +2,7 @@
 
 use crate::prompts::paint::{Colour, Paint};
 use crate::prompts::session::Session;
-use buffers::TextBuffer;
+use lists::TextBuffer;
 
 /// How many lines are shown before and after a line.
 const AROUND: u64 = 6;

@@ -3,7 +3,7 @@
 use crate::pictures::grid::Grid;
 use crate::pictures::scene::Scene;
 use crate::pictures::svg::{Rectangle, push_rectangle};
-use buffers::TextBuffer;
+use lists::TextBuffer;
 
 /// The room below the rows.
 pub const LEGEND: u64 = 64;

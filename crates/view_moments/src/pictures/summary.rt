@@ -3,7 +3,7 @@
 use crate::pictures::grid::{Grid, STAY};
 use crate::pictures::scene::{Scene, Theft, Work};
 use crate::pictures::svg::{Rectangle, push_rectangle};
-use buffers::TextBuffer;
+use lists::TextBuffer;
 use std::alloc::{AllocError, Global};
 
 /// The width of a column, in pixels.

@@ -5,8 +5,7 @@ use crate::pictures::grid::{Grid, LEFT, STAY, WORK};
 use crate::pictures::legend::{LEGEND, push_legend};
 use crate::pictures::scene::{Scene, Stay, Theft, Work};
 use crate::pictures::summary::push_summary;
-use buffers::TextBuffer;
-use lists::OutOfMemory;
+use lists::{OutOfMemory, TextBuffer};
 use std::alloc::Global;
 use std::fmt;
 
