@@ -2,7 +2,7 @@
 
 use cli_data::Beside;
 use explain_findings::line_at;
-use rules::push_heads;
+use refusal::push_heads;
 use std::alloc::{AllocError, Global};
 use verifier::{Refused, Unverified};
 

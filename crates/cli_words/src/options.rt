@@ -8,7 +8,7 @@ use crate::request::{
     Verb, WordsFault,
 };
 use clap::ArgMatches;
-use rules::rule_text;
+use refusal::rule_text;
 use std::alloc::{AllocError, Global};
 
 /// The words and options of a command as they are read: what is wrong first is kept, and all else is read as if it were not given.

@@ -14,5 +14,5 @@ mod trial;
 pub use explain_findings::Finding;
 pub use explaining::explain;
 pub use printing::told;
+pub use refusal::rule_text;
 pub use report::Explanation;
-pub use rules::rule_text;

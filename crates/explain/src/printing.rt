@@ -3,7 +3,7 @@
 use crate::report::Explanation;
 use explain_findings::{Finding, line_at};
 use lists::{OutOfMemory, TextBuffer};
-use rules::{push_heads, push_meanings, push_mends};
+use refusal::{push_heads, push_meanings, push_mends};
 use std::alloc::Global;
 
 /// The line that breaks a rule, what that means, of its causes only the one that it is where that is known, and after the notes how to mend it.

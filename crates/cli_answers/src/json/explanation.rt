@@ -6,7 +6,7 @@ use crate::json::verdict::UNDECIDED;
 use explain::{Explanation, Finding};
 use explain_findings::line_at;
 use lists::{OutOfMemory, TextBuffer};
-use rules::push_mends;
+use refusal::push_mends;
 use std::alloc::{AllocError, Global};
 
 /// What a line of a fault's notes is.

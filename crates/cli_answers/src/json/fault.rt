@@ -3,7 +3,7 @@
 use crate::json::list::push_member;
 use explain_findings::line_at;
 use lists::{OutOfMemory, TextBuffer};
-use rules::push_heads;
+use refusal::push_heads;
 use std::alloc::{AllocError, Global};
 
 /// The columns of the first and the last byte that is no blank, from 1; of an empty line both are 1.

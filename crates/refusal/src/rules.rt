@@ -1,5 +1,4 @@
 //! The rules in words: one table of where each is reported, what it means, how to mend it, and an example.
-#![tactic(auto)]
 
 mod rule;
 mod texts;
