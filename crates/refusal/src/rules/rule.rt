@@ -1,6 +1,6 @@
 //! The rule of a number, by its row of the table.
 
-use crate::crate::rules::texts::RULES;
+use crate::rules::texts::RULES;
 use lists::OutOfMemory;
 use std::alloc::{AllocError, Global};
 
