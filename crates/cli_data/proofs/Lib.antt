@@ -1,3 +1,4 @@
+mod Joined
 mod Places
 mod Printed
 mod Progress

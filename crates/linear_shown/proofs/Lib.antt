@@ -15,3 +15,4 @@ pub mod Slices
 pub mod Passing
 pub mod Merging
 pub mod Products
+pub mod Summed

@@ -98,3 +98,46 @@ returns-then-not-is_alone-clause-met c = λ there some.
     let count = c.loop-first.count in
     they_meet xs ys sought.first sought.second sought.total c.risen-first.result (count - 1) none none _ _ there (omega (arith, some, c.loop-first.invariant.2, c.requires.upto))
     c.times-of_first.ensures.value c.times-of_second.ensures.value (omega (arith, c.if-total-of_first.false, c.times-of_first.ensures.value, c.risen-first.ensures.reached none there))
+
+pub returns-then-not-is_alone-clause-at : goal.returns-then-not-is_alone-clause-at
+returns-then-not-is_alone-clause-at c = omega (arith, c.loop-first.invariant.0, c.risen-first.ensures.from)
+
+pub returns-then-not-is_alone-clause-within : goal.returns-then-not-is_alone-clause-within
+returns-then-not-is_alone-clause-within c = c.loop-first.invariant.2
+
+pub is_alone-requires-clause-sorted : goal.is_alone-requires-clause-sorted
+is_alone-requires-clause-sorted c = c.requires.seconds.sorted
+
+pub is_alone-requires-clause-count : goal.is_alone-requires-clause-count
+is_alone-requires-clause-count c = omega (arith, c.loop-first.invariant.2, c.requires.upto)
+
+pub is_alone-requires-clause-some : goal.is_alone-requires-clause-some
+is_alone-requires-clause-some c = c.if-count-gt0.true
+
+pub left_after-count-requires-clause-sorted : goal.left_after-count-requires-clause-sorted
+left_after-count-requires-clause-sorted c = c.requires.firsts.sorted
+
+pub left_after-count-requires-clause-at : goal.left_after-count-requires-clause-at
+left_after-count-requires-clause-at c = c.if-first-pass.false
+
+pub left_after-count-requires-clause-some : goal.left_after-count-requires-clause-some
+left_after-count-requires-clause-some c = c.if-count-gt0.true
+
+pub skipped-requires : goal.skipped-requires
+skipped-requires c = record {
+  firsts = c.requires.firsts;
+  seconds = c.requires.seconds;
+  first = c.requires.first;
+  second = c.requires.second;
+  some = c.requires.some;
+  a = c.requires.a;
+  b = c.requires.b;
+  at = omega (arith, c.if-first-pass.false);
+  upto = omega (arith, c.left_after-count.ensures.within, c.loop-first.invariant.2, c.requires.upto);
+}
+
+pub returns-then-is_enough-clause-at : goal.returns-then-is_enough-clause-at
+returns-then-is_enough-clause-at c = omega (arith, c.loop-first.invariant.0, c.risen-first.ensures.from)
+
+pub returns-then-is_enough-clause-within : goal.returns-then-is_enough-clause-within
+returns-then-is_enough-clause-within c = c.loop-first.invariant.2
