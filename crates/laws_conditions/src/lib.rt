@@ -10,8 +10,8 @@
 //! - `sample`: a program that meets all of it, so nothing is void: `pair_on_every_schedule`, `pair_on_two_workers`, `pair_within_tables`.
 #![tactic(auto)]
 
-ghost use Rattle.laws_conditions.specs.refusal.rules.Registers.{RegistersKept};
-ghost use Rattle.laws_conditions.specs.refusal.rules.Serially.{SchedulesWithinTables, SerialRunWithinTables};
+ghost use Rattle.laws_conditions.specs.rules.Registers.{RegistersKept};
+ghost use Rattle.laws_conditions.specs.rules.Serially.{SchedulesWithinTables, SerialRunWithinTables};
 ghost use Rattle.laws_conditions.specs.sample.Pair.{PairOnEverySchedule, PairOnTwoWorkers};
 ghost use Rattle.laws_conditions.specs.sample.PairCosts.{PairWithinTables};
 ghost use Rattle.laws_conditions.specs.theorem.Budgets.{SerialRunExists};

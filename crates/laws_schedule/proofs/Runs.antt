@@ -10,7 +10,7 @@ use Rattle.program.specs.declared.function.Program.{Program}
 use Rattle.laws_phases.specs.region_match.declared.tables.Regions.{Regions}
 use Rattle.verifier.specs.Accepted.{AreTasksOf}
 use Rattle.verifier.specs.Budgets.{budget_of, depth_of}
-use Rattle.laws_conditions.specs.refusal.rules.Registers.{Registered}
+use Rattle.laws_conditions.specs.rules.Registers.{Registered}
 use Rattle.laws_phases.specs.defined.Defined.{IsAlways}
 use Rattle.laws_phases.specs.defined.Placed.{IsPlaced}
 use Rattle.laws_phases.specs.defined.Regions.{UsesOwnRegions}

@@ -12,7 +12,7 @@ use Rattle.laws_conditions.proofs.theorem.SerialExists.{kept_both}
 use Rattle.linear.specs.declared.form.RegisterId.{RegisterId}
 use Rattle.program.specs.declared.function.Program.{Program}
 use Rattle.laws_phases.specs.region_match.Matched.{AreRegionsRight}
-use Rattle.laws_conditions.specs.refusal.rules.Registers.{Registered, GivesNumber}
+use Rattle.laws_conditions.specs.rules.Registers.{Registered, GivesNumber}
 use Rattle.laws_phases.specs.defined.Defined.{IsAlways}
 use Rattle.laws_phases.specs.defined.Names.{IsNamed}
 use Rattle.laws_phases.specs.defined.Placed.{Placed, NoFinds}

@@ -25,12 +25,12 @@ use Rattle.program.specs.declared.instruction.Instruction.{Instruction}
 use Rattle.program.specs.declared.instruction.Instruction.TheVariants as instruction
 use Rattle.program.specs.declared.instruction.Phi.{Phi}
 use Rattle.program.specs.declared.instruction.Step.{Step}
-use Rattle.laws_conditions.specs.refusal.rules.Moves.{number_of, dest_of, GoesOn, Enters, Calls}
-use Rattle.laws_conditions.specs.refusal.rules.InProofs.{Moves, is_next, is_along}
-use Rattle.laws_conditions.specs.refusal.rules.Costs.{numbers, parameters_of, measure_of, bound_of, self_calls_of, instructions_of, calls_left, instructions_left, calls_at, instructions_at, measure_at, cost_below, instructions_for, self_calls_for, spent_by, spent_in, instructions_spent, calls_spent, Lacks, IsEntry, natural, self_cost, had, used, may_use, IsCosted}
+use Rattle.laws_conditions.specs.rules.Moves.{number_of, dest_of, GoesOn, Enters, Calls}
+use Rattle.laws_conditions.specs.rules.InProofs.{Moves, is_next, is_along}
+use Rattle.laws_conditions.specs.rules.Costs.{numbers, parameters_of, measure_of, bound_of, self_calls_of, instructions_of, calls_left, instructions_left, calls_at, instructions_at, measure_at, cost_below, instructions_for, self_calls_for, spent_by, spent_in, instructions_spent, calls_spent, Lacks, IsEntry, natural, self_cost, had, used, may_use, IsCosted}
 use Rattle.program.specs.Calls.{callee_of}
-use Rattle.laws_conditions.specs.refusal.rules.InProofs.{CoversNext, CoversBoth, SomeLeft, CostRules, steps_after, steps_left, rank_of}
-use Rattle.laws_conditions.proofs.refusal.rules.Moves.{moves, syncs_along, calls_here}
+use Rattle.laws_conditions.specs.rules.InProofs.{CoversNext, CoversBoth, SomeLeft, CostRules, steps_after, steps_left, rank_of}
+use Rattle.laws_conditions.proofs.rules.Moves.{moves, syncs_along, calls_here}
 
 -- ---- numbers
 

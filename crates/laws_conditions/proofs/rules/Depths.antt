@@ -11,13 +11,13 @@ use Rattle.laws_conditions.specs.theorem.Budgets.{StaysInDepth}
 use Rattle.linear.specs.declared.form.RegisterId.{RegisterId}
 use Rattle.program.specs.declared.function.Block.{Block}
 use Rattle.program.specs.declared.function.Program.{Program}
-use Rattle.laws_conditions.specs.refusal.rules.InProofs.{Moves, is_next, is_along}
-use Rattle.laws_conditions.specs.refusal.rules.Moves.{Calls}
-use Rattle.laws_conditions.specs.refusal.rules.Costs.{bound_of, natural, measure_at, IsEntry}
-use Rattle.laws_conditions.specs.refusal.rules.InProofs.{CostRules}
-use Rattle.laws_conditions.specs.refusal.rules.Depths.{Levels, DepthTable, may_reach}
-use Rattle.laws_conditions.proofs.refusal.rules.Moves.{moves, sync_here, calls_here, forks_here, item_there}
-use Rattle.laws_conditions.proofs.refusal.rules.Costs.{plain_measure, sync_measure, resumed_measure, entry_bound, lower}
+use Rattle.laws_conditions.specs.rules.InProofs.{Moves, is_next, is_along}
+use Rattle.laws_conditions.specs.rules.Moves.{Calls}
+use Rattle.laws_conditions.specs.rules.Costs.{bound_of, natural, measure_at, IsEntry}
+use Rattle.laws_conditions.specs.rules.InProofs.{CostRules}
+use Rattle.laws_conditions.specs.rules.Depths.{Levels, DepthTable, may_reach}
+use Rattle.laws_conditions.proofs.rules.Moves.{moves, sync_here, calls_here, forks_here, item_there}
+use Rattle.laws_conditions.proofs.rules.Costs.{plain_measure, sync_measure, resumed_measure, entry_bound, lower}
 
 block_there : (o : Option Block) (index : ℕ) (x : Item) → and_then o (λ (b : Block). item_of b.steps b.ending index) ≡ Some x → (b : Block) × (o ≡ Some b)
 block_there None index x e = absurd (cc)

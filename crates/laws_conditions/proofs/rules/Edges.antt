@@ -11,8 +11,8 @@ use Rattle.program.specs.declared.instruction.Argument.TheVariants as argument
 use Rattle.program.specs.declared.instruction.Operand.{Operand}
 use Rattle.program.specs.declared.instruction.Operand.TheVariants.{Number, Register}
 use Rattle.program.specs.declared.instruction.Phi.{Phi}
-use Rattle.laws_conditions.specs.refusal.rules.Costs.{numbers}
-use Rattle.laws_conditions.specs.refusal.rules.Edges.{operand_form, entry_form, phi_forms, edge_forms, argument_form, argument_forms}
+use Rattle.laws_conditions.specs.rules.Costs.{numbers}
+use Rattle.laws_conditions.specs.rules.Edges.{operand_form, entry_form, phi_forms, edge_forms, argument_form, argument_forms}
 
 -- an operand with a value has its form's
 pub operand_value : (r : Registers) (a : Operand) (z : ℤ) → word_at r a ≡ Some z → value (numbers r) (operand_form a) ≡ z

@@ -19,8 +19,8 @@ use Rattle.program.specs.declared.instruction.Instruction.{Instruction}
 use Rattle.program.specs.declared.instruction.Instruction.TheVariants as instruction
 use Rattle.program.specs.declared.instruction.Terminator.{Terminator}
 use Rattle.program.specs.declared.instruction.Terminator.TheVariants as terminator
-use Rattle.laws_conditions.specs.refusal.rules.Moves.{dest_of, GoesOn, Enters, Calls, Forks, EndsFrame, JumpsTo, SyncsTo}
-use Rattle.laws_conditions.specs.refusal.rules.InProofs.{Moves, is_next, is_along}
+use Rattle.laws_conditions.specs.rules.Moves.{dest_of, GoesOn, Enters, Calls, Forks, EndsFrame, JumpsTo, SyncsTo}
+use Rattle.laws_conditions.specs.rules.InProofs.{Moves, is_next, is_along}
 
 -- ---- instructions
 

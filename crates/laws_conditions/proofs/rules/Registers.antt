@@ -16,11 +16,11 @@ use Rattle.program.specs.declared.instruction.Instruction.TheVariants as instruc
 use Rattle.program.specs.declared.instruction.Phi.{Phi}
 use Rattle.program.specs.declared.instruction.Terminator.{Terminator}
 use Rattle.program.specs.declared.instruction.Terminator.TheVariants as terminator
-use Rattle.laws_conditions.specs.refusal.rules.Moves.{number_of, dest_of, GoesOn, Calls}
-use Rattle.laws_conditions.specs.refusal.rules.InProofs.{Moves, is_next, is_along}
-use Rattle.laws_conditions.specs.refusal.rules.Costs.{parameters_of}
-use Rattle.laws_conditions.specs.refusal.rules.Registers.{returns_number, HasPhi, DefinesRegisters, Registered, GivesNumber, RegistersKept}
-use Rattle.laws_conditions.proofs.refusal.rules.Moves.{moves, sync_here, syncs_along, calls_here, forks_here, returns_here, GivenBack}
+use Rattle.laws_conditions.specs.rules.Moves.{number_of, dest_of, GoesOn, Calls}
+use Rattle.laws_conditions.specs.rules.InProofs.{Moves, is_next, is_along}
+use Rattle.laws_conditions.specs.rules.Costs.{parameters_of}
+use Rattle.laws_conditions.specs.rules.Registers.{returns_number, HasPhi, DefinesRegisters, Registered, GivesNumber, RegistersKept}
+use Rattle.laws_conditions.proofs.rules.Moves.{moves, sync_here, syncs_along, calls_here, forks_here, returns_here, GivenBack}
 
 abbrev Given : Registers → ℕ → Type 0
 Given r x = is_some (r x) ≡ true

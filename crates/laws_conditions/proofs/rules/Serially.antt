@@ -15,15 +15,15 @@ use Rattle.laws_conditions.proofs.theorem.Budgets.{serially}
 use Rattle.laws_conditions.proofs.theorem.EverySchedule.{schedule_theorem}
 use Rattle.linear.specs.declared.form.Fact.{Fact}
 use Rattle.program.specs.declared.function.Program.{Program}
-use Rattle.laws_conditions.specs.refusal.rules.Costs.{bound_of, cost_below, IsEntry, may_use}
-use Rattle.laws_conditions.specs.refusal.rules.InProofs.{rank_of}
-use Rattle.laws_conditions.specs.refusal.rules.Depths.{may_reach}
-use Rattle.laws_conditions.specs.refusal.rules.InProofs.{IsCheckedSerially}
-use Rattle.laws_conditions.specs.refusal.rules.Serially.{IsShownSerially, RunsWithinTables, SerialRunWithinTables, SchedulesWithinTables}
-use Rattle.laws_conditions.proofs.refusal.rules.Costs.{Costed, NoFinds, costed_kept, costs_spend, costs_run, entry_costed, entry_budget}
-use Rattle.laws_conditions.specs.refusal.rules.ShownCosts.{Out}
-use Rattle.laws_conditions.proofs.refusal.rules.ShownCosts.{costs_shown}
-use Rattle.laws_conditions.proofs.refusal.rules.Depths.{depths_stay, entry_reach}
+use Rattle.laws_conditions.specs.rules.Costs.{bound_of, cost_below, IsEntry, may_use}
+use Rattle.laws_conditions.specs.rules.InProofs.{rank_of}
+use Rattle.laws_conditions.specs.rules.Depths.{may_reach}
+use Rattle.laws_conditions.specs.rules.InProofs.{IsCheckedSerially}
+use Rattle.laws_conditions.specs.rules.Serially.{IsShownSerially, RunsWithinTables, SerialRunWithinTables, SchedulesWithinTables}
+use Rattle.laws_conditions.proofs.rules.Costs.{Costed, NoFinds, costed_kept, costs_spend, costs_run, entry_costed, entry_budget}
+use Rattle.laws_conditions.specs.rules.ShownCosts.{Out}
+use Rattle.laws_conditions.proofs.rules.ShownCosts.{costs_shown}
+use Rattle.laws_conditions.proofs.rules.Depths.{depths_stay, entry_reach}
 
 module _ (prog : Program) (base : Says) (post : Finds) (fits : Frame → Type 0) (level depth : ℕ → ℕ → ℕ) (checked : IsCheckedSerially prog base post fits level depth) where
   abbrev pub Known : Says

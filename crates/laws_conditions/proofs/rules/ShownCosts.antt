@@ -16,14 +16,14 @@ use Rattle.linear.proofs.Values.{minus_orders, value_plus, value_constant}
 use Rattle.linear_shown.proofs.Sound.{shown_holds}
 use Rattle.program.specs.declared.function.Program.{Program}
 use Rattle.program.specs.declared.instruction.Terminator.{Terminator}
-use Rattle.laws_conditions.specs.refusal.rules.InProofs.{Moves, is_next, is_along}
-use Rattle.laws_conditions.specs.refusal.rules.Moves.{Calls, Forks, EndsFrame}
-use Rattle.laws_conditions.specs.refusal.rules.Costs.{numbers, measure_of, bound_of, self_calls_of, instructions_of, calls_left, instructions_left, calls_at, instructions_at, measure_at, instructions_spent, calls_spent, IsEntry}
-use Rattle.laws_conditions.specs.refusal.rules.InProofs.{CoversNext, CoversBoth, CoversSpent, SomeLeft, CostRules}
-use Rattle.laws_conditions.specs.refusal.rules.Edges.{edge_forms, argument_forms}
-use Rattle.laws_conditions.specs.refusal.rules.ShownCosts.{Out, IsAtLeast, EdgeShown, ForkShown, EndShown, CostsShown, FactsHold}
-use Rattle.laws_conditions.proofs.refusal.rules.Moves.{moves, syncs_along, sync_here, calls_here, forks_here, ends_here}
-use Rattle.laws_conditions.proofs.refusal.rules.Edges.{along_value, called_value}
+use Rattle.laws_conditions.specs.rules.InProofs.{Moves, is_next, is_along}
+use Rattle.laws_conditions.specs.rules.Moves.{Calls, Forks, EndsFrame}
+use Rattle.laws_conditions.specs.rules.Costs.{numbers, measure_of, bound_of, self_calls_of, instructions_of, calls_left, instructions_left, calls_at, instructions_at, measure_at, instructions_spent, calls_spent, IsEntry}
+use Rattle.laws_conditions.specs.rules.InProofs.{CoversNext, CoversBoth, CoversSpent, SomeLeft, CostRules}
+use Rattle.laws_conditions.specs.rules.Edges.{edge_forms, argument_forms}
+use Rattle.laws_conditions.specs.rules.ShownCosts.{Out, IsAtLeast, EdgeShown, ForkShown, EndShown, CostsShown, FactsHold}
+use Rattle.laws_conditions.proofs.rules.Moves.{moves, syncs_along, sync_here, calls_here, forks_here, ends_here}
+use Rattle.laws_conditions.proofs.rules.Edges.{along_value, called_value}
 
 -- ---- what is shown, as inequalities of values
 

@@ -25,16 +25,16 @@ use Rattle.program.specs.declared.instruction.Operand.TheVariants as operand
 use Rattle.program.specs.declared.instruction.Phi.{Phi}
 use Rattle.program.specs.declared.instruction.Terminator.{Terminator}
 use Rattle.program.specs.declared.instruction.Terminator.TheVariants as terminator
-use Rattle.laws_conditions.specs.refusal.rules.Moves.{dest_of, JumpsTo, SyncsTo, EndsFrame}
-use Rattle.laws_conditions.specs.refusal.rules.InProofs.{Moves, is_next, is_along}
-use Rattle.laws_conditions.specs.refusal.rules.Costs.{numbers, parameters_of, measure_of, bound_of, self_calls_of, instructions_of, calls_left, instructions_left, Lacks}
+use Rattle.laws_conditions.specs.rules.Moves.{dest_of, JumpsTo, SyncsTo, EndsFrame}
+use Rattle.laws_conditions.specs.rules.InProofs.{Moves, is_next, is_along}
+use Rattle.laws_conditions.specs.rules.Costs.{numbers, parameters_of, measure_of, bound_of, self_calls_of, instructions_of, calls_left, instructions_left, Lacks}
 use Rattle.program.specs.Calls.{callee_of}
-use Rattle.laws_conditions.specs.refusal.rules.ShownCosts.{Out, EdgeShown, ForkShown, EndShown, CostsShown, FactsHold}
-use Rattle.laws_conditions.specs.refusal.rules.Depths.{Levels, DepthTable}
-use Rattle.laws_conditions.specs.refusal.rules.Serially.{IsShownSerially}
+use Rattle.laws_conditions.specs.rules.ShownCosts.{Out, EdgeShown, ForkShown, EndShown, CostsShown, FactsHold}
+use Rattle.laws_conditions.specs.rules.Depths.{Levels, DepthTable}
+use Rattle.laws_conditions.specs.rules.Serially.{IsShownSerially}
 use Rattle.laws_conditions.specs.sample.PairCosts.{two_deep, PairWithinTables}
-use Rattle.laws_conditions.proofs.refusal.rules.Moves.{moves, sync_here}
-use Rattle.laws_conditions.proofs.refusal.rules.Serially.{by_shown, within_tables}
+use Rattle.laws_conditions.proofs.rules.Moves.{moves, sync_here}
+use Rattle.laws_conditions.proofs.rules.Serially.{by_shown, within_tables}
 
 -- ---- what stands at its places
 

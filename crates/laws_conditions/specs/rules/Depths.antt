@@ -10,8 +10,8 @@ use Rattle.program.specs.declared.instruction.Argument.{Argument}
 use Rattle.program.specs.declared.instruction.Instruction.TheVariants as instruction
 use Rattle.program.specs.declared.instruction.Terminator.{Terminator}
 use Rattle.program.specs.declared.instruction.Terminator.TheVariants as terminator
-use Rattle.laws_conditions.specs.refusal.rules.Moves.{JumpsTo, SyncsTo}
-use Rattle.laws_conditions.specs.refusal.rules.Costs.{bound_of, natural, measure_at}
+use Rattle.laws_conditions.specs.rules.Moves.{JumpsTo, SyncsTo}
+use Rattle.laws_conditions.specs.rules.Costs.{bound_of, natural, measure_at}
 
 -- level function block: within how many detaches the block stands
 pub record Levels (prog : Program) (level : ℕ → ℕ → ℕ) : Type 0 where

@@ -15,10 +15,10 @@ use Rattle.program.specs.declared.instruction.Argument.{Argument}
 use Rattle.program.specs.declared.instruction.Instruction.{Instruction}
 use Rattle.program.specs.declared.instruction.Step.{Step}
 use Rattle.program.specs.declared.instruction.Terminator.{Terminator}
-use Rattle.laws_conditions.specs.refusal.rules.Moves.{dest_of, GoesOn, JumpsTo, Enters}
-use Rattle.laws_conditions.specs.refusal.rules.Costs.{Lacks, bound_of, measure_of, instructions_of, instructions_at, instructions_left, natural, self_calls_of, calls_spent}
-use Rattle.laws_conditions.specs.refusal.rules.Costs.{parameters_of, IsEntry, instructions_spent, calls_at, measure_at, calls_left}
-use Rattle.laws_conditions.specs.refusal.rules.Depths.{Levels, DepthTable}
+use Rattle.laws_conditions.specs.rules.Moves.{dest_of, GoesOn, JumpsTo, Enters}
+use Rattle.laws_conditions.specs.rules.Costs.{Lacks, bound_of, measure_of, instructions_of, instructions_at, instructions_left, natural, self_calls_of, calls_spent}
+use Rattle.laws_conditions.specs.rules.Costs.{parameters_of, IsEntry, instructions_spent, calls_at, measure_at, calls_left}
+use Rattle.laws_conditions.specs.rules.Depths.{Levels, DepthTable}
 use Rattle.program.specs.declared.instruction.Instruction.TheVariants as instruction
 
 -- what stands at the frame's place, and what it leaves of the frame

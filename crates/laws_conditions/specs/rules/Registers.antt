@@ -18,8 +18,8 @@ use Rattle.program.specs.declared.instruction.Instruction.TheVariants as instruc
 use Rattle.program.specs.declared.instruction.Phi.{Phi}
 use Rattle.program.specs.declared.instruction.Terminator.{Terminator}
 use Rattle.program.specs.declared.instruction.Terminator.TheVariants as terminator
-use Rattle.laws_conditions.specs.refusal.rules.Moves.{dest_of, JumpsTo, SyncsTo}
-use Rattle.laws_conditions.specs.refusal.rules.Costs.{parameters_of}
+use Rattle.laws_conditions.specs.rules.Moves.{dest_of, JumpsTo, SyncsTo}
+use Rattle.laws_conditions.specs.rules.Costs.{parameters_of}
 
 abbrev pub is_number : ResultType → Bool
 is_number result_type.Number = true

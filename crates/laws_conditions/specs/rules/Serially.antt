@@ -11,9 +11,9 @@ use Rattle.laws_conditions.specs.theorem.Conditions.{StaysInZone, PassesZonesOn,
 use Rattle.laws_conditions.specs.theorem.Schedules.{TestedZone, tested, RunsAsSerial}
 use Rattle.linear.specs.declared.form.Fact.{Fact}
 use Rattle.program.specs.declared.function.Program.{Program}
-use Rattle.laws_conditions.specs.refusal.rules.Costs.{bound_of, cost_below}
-use Rattle.laws_conditions.specs.refusal.rules.ShownCosts.{Out, CostsShown, FactsHold}
-use Rattle.laws_conditions.specs.refusal.rules.Depths.{Levels, DepthTable}
+use Rattle.laws_conditions.specs.rules.Costs.{bound_of, cost_below}
+use Rattle.laws_conditions.specs.rules.ShownCosts.{Out, CostsShown, FactsHold}
+use Rattle.laws_conditions.specs.rules.Depths.{Levels, DepthTable}
 
 -- the serial run from main's entry: it is within what the tables say of main
 pub record RunsWithinTables (prog : Program) (depth : ℕ → ℕ → ℕ) (arguments : List ℤ) (memory : Memory) : Type 0 where

@@ -16,10 +16,10 @@ use Rattle.program.specs.declared.instruction.Instruction.{Instruction}
 use Rattle.program.specs.declared.instruction.Instruction.TheVariants as instruction
 use Rattle.program.specs.declared.instruction.Terminator.{Terminator}
 use Rattle.program.specs.declared.instruction.Terminator.TheVariants as terminator
-use Rattle.laws_conditions.specs.refusal.rules.Moves.{dest_of, EndsFrame}
-use Rattle.laws_conditions.specs.refusal.rules.Costs.{numbers, parameters_of, measure_of, bound_of, self_calls_of, instructions_of, calls_left, instructions_left}
-use Rattle.laws_conditions.specs.refusal.rules.Costs.{instructions_for, self_calls_for, spent_in, Lacks}
-use Rattle.laws_conditions.specs.refusal.rules.Edges.{edge_forms, argument_forms}
+use Rattle.laws_conditions.specs.rules.Moves.{dest_of, EndsFrame}
+use Rattle.laws_conditions.specs.rules.Costs.{numbers, parameters_of, measure_of, bound_of, self_calls_of, instructions_of, calls_left, instructions_left}
+use Rattle.laws_conditions.specs.rules.Costs.{instructions_for, self_calls_for, spent_in, Lacks}
+use Rattle.laws_conditions.specs.rules.Edges.{edge_forms, argument_forms}
 
 -- an edge out of a block, with the facts that hold on it: those at the block's end, and the branch's own
 pub record Out : Type 0 where

@@ -2,8 +2,8 @@
 use Rattle.std.specs.Prelude.{◌≡◌, ℕ, suc, [], ◌∷◌, ℤ}
 use Rattle.semantics.specs.Cells.{Memory}
 use Rattle.laws_conditions.specs.sample.Pair.{pair}
-use Rattle.laws_conditions.specs.refusal.rules.Costs.{bound_of, cost_below}
-use Rattle.laws_conditions.specs.refusal.rules.Serially.{RunsWithinTables}
+use Rattle.laws_conditions.specs.rules.Costs.{bound_of, cost_below}
+use Rattle.laws_conditions.specs.rules.Serially.{RunsWithinTables}
 
 -- a table in which each call stands on one frame more
 abbrev pub two_deep : ℕ → ℕ → ℕ

@@ -13,13 +13,13 @@ use Rattle.laws_conditions.proofs.theorem.SerialExists.{all_mean, kept_both}
 use Rattle.program.specs.declared.function.Function.{Function}
 use Rattle.program.specs.declared.function.Program.{Program}
 use Rattle.region_match.specs.declared.tables.Regions.{Regions}
-use Rattle.laws_conditions.specs.refusal.rules.Costs.{numbers, may_use, IsCosted}
-use Rattle.laws_conditions.specs.refusal.rules.InProofs.{rank_of}
-use Rattle.laws_conditions.specs.refusal.rules.Depths.{may_reach}
-use Rattle.laws_conditions.specs.refusal.rules.InProofs.{IsCheckedSerially}
-use Rattle.laws_conditions.specs.refusal.rules.Serially.{RunsWithinTables}
-use Rattle.laws_conditions.proofs.refusal.rules.Costs.{NoFinds}
-use Rattle.laws_conditions.proofs.refusal.rules.Serially.{Known, runs_serially, within_tables, by_shown}
+use Rattle.laws_conditions.specs.rules.Costs.{numbers, may_use, IsCosted}
+use Rattle.laws_conditions.specs.rules.InProofs.{rank_of}
+use Rattle.laws_conditions.specs.rules.Depths.{may_reach}
+use Rattle.laws_conditions.specs.rules.InProofs.{IsCheckedSerially}
+use Rattle.laws_conditions.specs.rules.Serially.{RunsWithinTables}
+use Rattle.laws_conditions.proofs.rules.Costs.{NoFinds}
+use Rattle.laws_conditions.proofs.rules.Serially.{Known, runs_serially, within_tables, by_shown}
 use Rattle.laws_phases.specs.facts.Known.{known_at_place, IsMet, KnownHold}
 use Rattle.laws_phases.specs.facts.Handed.{outs_at}
 use Rattle.laws_phases.specs.facts.Kept.{Knows, Ensures}

@@ -30,8 +30,8 @@ use Rattle.region_match.specs.Tasks.{HasTask}
 use Rattle.definedness.specs.Definedness.{IsDefinednessBroken}
 use Rattle.definedness.specs.AllocaActs.{step_cells}
 use Rattle.definedness.specs.Sure.{Labels, IsReattach}
-use Rattle.laws_conditions.specs.refusal.rules.Costs.{parameters_of}
-use Rattle.laws_conditions.proofs.refusal.rules.Moves.{moves, sync_here, syncs_along, calls_here, forks_here}
+use Rattle.laws_conditions.specs.rules.Costs.{parameters_of}
+use Rattle.laws_conditions.proofs.rules.Moves.{moves, sync_here, syncs_along, calls_here, forks_here}
 use Rattle.laws_phases.specs.defined.Leads.{LeadsTo, IsBlock}
 use Rattle.laws_phases.specs.defined.Names.{IsNamed}
 use Rattle.laws_phases.specs.defined.Placed.{IsPlaced}

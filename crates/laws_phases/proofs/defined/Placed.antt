@@ -26,9 +26,9 @@ use Rattle.cfg.specs.Edges.{graph_of}
 use Rattle.cfg.specs.Rules.{IsFunctionRight}
 use Rattle.region_match.specs.Rules.{ending_at}
 use Rattle.region_match.specs.Tasks.{task_along, task_on, HasTask}
-use Rattle.laws_conditions.specs.refusal.rules.InProofs.{Moves, is_next, is_along}
-use Rattle.laws_conditions.specs.refusal.rules.Moves.{SyncsTo}
-use Rattle.laws_conditions.proofs.refusal.rules.Moves.{moves, sync_here, calls_here, forks_here}
+use Rattle.laws_conditions.specs.rules.InProofs.{Moves, is_next, is_along}
+use Rattle.laws_conditions.specs.rules.Moves.{SyncsTo}
+use Rattle.laws_conditions.proofs.rules.Moves.{moves, sync_here, calls_here, forks_here}
 use Rattle.laws_phases.specs.defined.Leads.{LeadsTo, IsBlock}
 use Rattle.laws_phases.specs.defined.Names.{IsNamed}
 use Rattle.laws_phases.specs.defined.Placed.{Suits, IsPlaced, Placed, NoFinds, TasksKept, PlacesHaveItems}

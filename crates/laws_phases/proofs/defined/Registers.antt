@@ -26,10 +26,10 @@ use Rattle.definedness.specs.Missing.{defined_along}
 use Rattle.definedness.specs.Needs.{gives, given_of, numbers_at}
 use Rattle.definedness.specs.RegisterActs.{phi_gives, start_gives, gives_below, inequality_needs, instruction_needs}
 use Rattle.definedness.specs.Definedness.{register_table}
-use Rattle.laws_conditions.specs.refusal.rules.Moves.{dest_of}
-use Rattle.laws_conditions.specs.refusal.rules.Costs.{parameters_of}
-use Rattle.laws_conditions.specs.refusal.rules.Registers.{HasPhi, DefinesRegisters}
-use Rattle.laws_conditions.proofs.refusal.rules.Registers.{registers_kept}
+use Rattle.laws_conditions.specs.rules.Moves.{dest_of}
+use Rattle.laws_conditions.specs.rules.Costs.{parameters_of}
+use Rattle.laws_conditions.specs.rules.Registers.{HasPhi, DefinesRegisters}
+use Rattle.laws_conditions.proofs.rules.Registers.{registers_kept}
 use Rattle.laws_phases.specs.defined.Leads.{LeadsTo, IsBlock}
 use Rattle.laws_phases.specs.defined.Names.{IsNamed}
 use Rattle.laws_phases.specs.defined.Defined.{listed, steps_define, defined_before, IsAlways, DefinedAreKept, UsesAreDefined}

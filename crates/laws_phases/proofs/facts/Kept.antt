@@ -31,12 +31,12 @@ use Rattle.ranges.specs.ranges_owed.Inequalities.{operand_for, result_moves}
 use Rattle.ranges.specs.Edges.{edges_out}
 use Rattle.ranges.specs.ranges_owed.Owed.{owed_at_end, inequalities_owed}
 use Rattle.ranges.specs.Sums.{is_met}
-use Rattle.laws_conditions.specs.refusal.rules.Costs.{numbers, parameters_of}
+use Rattle.laws_conditions.specs.rules.Costs.{numbers, parameters_of}
 use Rattle.program.specs.Calls.{parameters_in}
-use Rattle.laws_conditions.specs.refusal.rules.Moves.{dest_of, Calls, Forks}
-use Rattle.laws_conditions.specs.refusal.rules.InProofs.{Moves, is_next, is_along}
-use Rattle.laws_conditions.specs.refusal.rules.Registers.{returns_number}
-use Rattle.laws_conditions.proofs.refusal.rules.Moves.{moves, sync_here, syncs_along, calls_here, forks_here, returns_here, GivenBack}
+use Rattle.laws_conditions.specs.rules.Moves.{dest_of, Calls, Forks}
+use Rattle.laws_conditions.specs.rules.InProofs.{Moves, is_next, is_along}
+use Rattle.laws_conditions.specs.rules.Registers.{returns_number}
+use Rattle.laws_conditions.proofs.rules.Moves.{moves, sync_here, syncs_along, calls_here, forks_here, returns_here, GivenBack}
 use Rattle.laws_phases.specs.facts.Known.{known_at_place, IsMet, KnownHold}
 use Rattle.laws_phases.specs.facts.Owing.{IsGiven, IsTyped, AreFactsStable, HasWidths}
 use Rattle.ranges.specs.Rules.{AreRangesRight}

@@ -22,9 +22,9 @@ use Rattle.cfg.specs.declared.structure.Way.TheVariants as way
 use Rattle.cfg.specs.Rules.{IsGraphRight}
 use Rattle.region_match.specs.Rules.{ending_at, is_leave}
 use Rattle.region_match.specs.Matched.{IsFunctionBroken, AreRegionsRight}
-use Rattle.laws_conditions.specs.refusal.rules.InProofs.{Moves, is_next, is_along}
-use Rattle.laws_conditions.specs.refusal.rules.Moves.{JumpsTo, SyncsTo, EndsFrame}
-use Rattle.laws_conditions.proofs.refusal.rules.Moves.{IsEnding, moves, sync_here, forks_here, ends_here}
+use Rattle.laws_conditions.specs.rules.InProofs.{Moves, is_next, is_along}
+use Rattle.laws_conditions.specs.rules.Moves.{JumpsTo, SyncsTo, EndsFrame}
+use Rattle.laws_conditions.proofs.rules.Moves.{IsEnding, moves, sync_here, forks_here, ends_here}
 use Rattle.laws_phases.specs.defined.Leads.{LeadsTo}
 use Rattle.laws_phases.specs.defined.Names.{IsNamed}
 use Rattle.laws_phases.specs.defined.Placed.{IsPlaced, Placed, NoFinds}

@@ -12,8 +12,8 @@ use Rattle.cfg.specs.Edges.{graphs_of}
 use Rattle.region_match.specs.Matched.{AreRegionsRight}
 use Rattle.region_match.specs.Tasks.{AreAllTasks}
 use Rattle.region_match.specs.declared.tables.Regions.{Regions}
-use Rattle.laws_conditions.specs.refusal.rules.Costs.{bound_of, numbers, may_use, IsCosted}
-use Rattle.laws_conditions.specs.refusal.rules.Depths.{may_reach}
+use Rattle.laws_conditions.specs.rules.Costs.{bound_of, numbers, may_use, IsCosted}
+use Rattle.laws_conditions.specs.rules.Depths.{may_reach}
 use Rattle.laws_phases.specs.defined.Names.{IsNamed}
 use Rattle.laws_phases.specs.facts.Known.{IsMet, KnownHold}
 use Rattle.ranges.specs.Rules.{AreRangesRight}

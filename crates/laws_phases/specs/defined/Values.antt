@@ -31,7 +31,7 @@ use Rattle.definedness.specs.AllocaActs.{step_cells}
 use Rattle.definedness.specs.Needs.{gives, given_of}
 use Rattle.definedness.specs.Definedness.{alloca_table, IsDefinednessBroken}
 use Rattle.definedness.specs.Sure.{Labels, IsHeld, IsStored, IsReattach, AreSets}
-use Rattle.laws_conditions.specs.refusal.rules.Costs.{parameters_of}
+use Rattle.laws_conditions.specs.rules.Costs.{parameters_of}
 use Rattle.types.specs.Apart.{InstructionNames}
 use Rattle.laws_phases.specs.defined.Leads.{IsBlock}
 use Rattle.laws_phases.specs.defined.Names.{IsNamed}

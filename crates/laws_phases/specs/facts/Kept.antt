@@ -8,8 +8,8 @@ use Rattle.laws_conditions.specs.theorem.SerialConditions.{Says, Finds, KeptSeri
 use Rattle.program.specs.declared.function.Function.{Function}
 use Rattle.program.specs.declared.function.Program.{Program}
 use Rattle.ranges.specs.Rules.{AreRangesRight}
-use Rattle.laws_conditions.specs.refusal.rules.Costs.{numbers}
-use Rattle.laws_conditions.specs.refusal.rules.Registers.{returns_number}
+use Rattle.laws_conditions.specs.rules.Costs.{numbers}
+use Rattle.laws_conditions.specs.rules.Registers.{returns_number}
 use Rattle.laws_phases.specs.facts.Known.{IsMet, KnownHold}
 use Rattle.laws_phases.specs.facts.Owing.{IsTyped, AreFactsStable, HasWidths}
 

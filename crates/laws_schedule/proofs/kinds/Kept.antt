@@ -12,9 +12,9 @@ use Rattle.program.specs.declared.function.Function.{Function}
 use Rattle.program.specs.declared.function.Program.{Program}
 use Rattle.program.specs.declared.instruction.Instruction.TheVariants as instruction
 use Rattle.program.specs.Calls.{parameters_in}
-use Rattle.laws_conditions.specs.refusal.rules.InProofs.{Moves, is_next, is_along}
-use Rattle.laws_conditions.specs.refusal.rules.Moves.{Calls}
-use Rattle.laws_conditions.proofs.refusal.rules.Moves.{moves, syncs_along, calls_here}
+use Rattle.laws_conditions.specs.rules.InProofs.{Moves, is_next, is_along}
+use Rattle.laws_conditions.specs.rules.Moves.{Calls}
+use Rattle.laws_conditions.proofs.rules.Moves.{moves, syncs_along, calls_here}
 use Rattle.laws_phases.specs.defined.Placed.{NoFinds}
 use Rattle.laws_phases.specs.facts.Owing.{IsTyped}
 use Rattle.laws_schedule.specs.typing.Kinds.{IsResult, HasKinds}

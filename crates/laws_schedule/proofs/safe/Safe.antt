@@ -14,8 +14,8 @@ use Rattle.program.specs.declared.instruction.Terminator.{Terminator}
 use Rattle.program.specs.declared.instruction.Terminator.TheVariants as terminator
 use Rattle.verifier.specs.Accepted.{IsProgramOf}
 use Rattle.verifier.specs.Budgets.{budget_of}
-use Rattle.laws_conditions.specs.refusal.rules.Registers.{returns_number}
-use Rattle.laws_conditions.proofs.refusal.rules.Moves.{GivenBack, returns_here}
+use Rattle.laws_conditions.specs.rules.Registers.{returns_number}
+use Rattle.laws_conditions.proofs.rules.Moves.{GivenBack, returns_here}
 use Rattle.laws_phases.specs.defined.Names.{IsNamed}
 use Rattle.laws_phases.specs.defined.Placed.{IsPlaced}
 use Rattle.laws_phases.proofs.defined.Placed.{places_have_items}

@@ -28,8 +28,8 @@ use Rattle.laws_phases.specs.region_match.declared.tables.Regions.{Regions}
 use Rattle.laws_phases.specs.region_match.Tasks.{innermost}
 use Rattle.laws_phases.specs.footprints.Rules.{covering_of}
 use Rattle.program.specs.Calls.{parameters_in}
-use Rattle.laws_conditions.specs.refusal.rules.Moves.{number_of, Calls}
-use Rattle.laws_conditions.proofs.refusal.rules.Moves.{calls_here}
+use Rattle.laws_conditions.specs.rules.Moves.{number_of, Calls}
+use Rattle.laws_conditions.proofs.rules.Moves.{calls_here}
 use Rattle.laws_phases.specs.defined.Placed.{IsPlaced}
 use Rattle.laws_phases.proofs.defined.Regions.{values_length}
 use Rattle.laws_phases.specs.facts.Known.{KnownHold}

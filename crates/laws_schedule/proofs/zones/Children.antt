@@ -32,9 +32,9 @@ use Rattle.laws_phases.specs.region_match.declared.task.Task.{Task}
 use Rattle.laws_phases.specs.footprints.Zones.{mode_covers}
 use Rattle.laws_phases.specs.footprints.Footprints.{foot_of, pending_of}
 use Rattle.laws_phases.specs.footprints.Rules.{foot_at_end, covering_of, is_own_block}
-use Rattle.laws_conditions.specs.refusal.rules.Costs.{numbers}
-use Rattle.laws_conditions.specs.refusal.rules.Moves.{Forks}
-use Rattle.laws_conditions.proofs.refusal.rules.Moves.{forks_here}
+use Rattle.laws_conditions.specs.rules.Costs.{numbers}
+use Rattle.laws_conditions.specs.rules.Moves.{Forks}
+use Rattle.laws_conditions.proofs.rules.Moves.{forks_here}
 use Rattle.laws_phases.specs.defined.Leads.{IsBlock}
 use Rattle.laws_phases.proofs.defined.Placed.{ending_is}
 use Rattle.laws_phases.specs.facts.Known.{KnownHold}

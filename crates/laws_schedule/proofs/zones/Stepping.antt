@@ -36,9 +36,9 @@ use Rattle.laws_phases.specs.region_match.declared.tables.Regions.{Regions}
 use Rattle.laws_phases.specs.region_match.Tasks.{HasTask, innermost, task_along}
 use Rattle.laws_phases.specs.footprints.Footprints.{hands_on, pending_of}
 use Rattle.laws_phases.specs.footprints.Rules.{covering_of}
-use Rattle.laws_conditions.specs.refusal.rules.Costs.{numbers}
-use Rattle.laws_conditions.specs.refusal.rules.Moves.{dest_of, GoesOn}
-use Rattle.laws_conditions.specs.refusal.rules.InProofs.{Moves, is_next, is_along}
+use Rattle.laws_conditions.specs.rules.Costs.{numbers}
+use Rattle.laws_conditions.specs.rules.Moves.{dest_of, GoesOn}
+use Rattle.laws_conditions.specs.rules.InProofs.{Moves, is_next, is_along}
 use Rattle.laws_phases.specs.defined.Leads.{IsBlock, LeadsTo}
 use Rattle.laws_phases.specs.defined.Names.{PhiDefines}
 use Rattle.laws_phases.specs.defined.Placed.{IsPlaced, Placed, NoFinds}

@@ -18,9 +18,9 @@ use Rattle.laws_phases.specs.cfg.declared.structure.Way.TheVariants as way
 use Rattle.laws_phases.specs.ranges.Edges.{edges_out}
 use Rattle.laws_phases.specs.region_match.declared.tables.Regions.{Regions}
 use Rattle.laws_phases.specs.footprints.Footprints.{hands_on}
-use Rattle.laws_conditions.specs.refusal.rules.Costs.{numbers}
-use Rattle.laws_conditions.specs.refusal.rules.Moves.{SyncsTo}
-use Rattle.laws_conditions.proofs.refusal.rules.Moves.{sync_here, syncs_along}
+use Rattle.laws_conditions.specs.rules.Costs.{numbers}
+use Rattle.laws_conditions.specs.rules.Moves.{SyncsTo}
+use Rattle.laws_conditions.proofs.rules.Moves.{sync_here, syncs_along}
 use Rattle.laws_phases.specs.defined.Leads.{LeadsTo}
 use Rattle.laws_phases.specs.facts.Known.{KnownHold}
 use Rattle.laws_phases.proofs.facts.Edges.{IsTaken, sync_taken, tests_here}

@@ -4,7 +4,7 @@ use Rattle.semantics.specs.Frames.{Frame}
 use Rattle.laws_conditions.specs.theorem.SerialConditions.{Nothing, KeptSerially}
 use Rattle.semantics.specs.State.{root_frame}
 use Rattle.program.specs.declared.function.Program.{Program}
-use Rattle.laws_conditions.specs.refusal.rules.Costs.{parameters_of}
+use Rattle.laws_conditions.specs.rules.Costs.{parameters_of}
 use Rattle.laws_phases.specs.defined.Placed.{NoFinds}
 use Rattle.laws_phases.specs.facts.Owing.{IsTyped}
 use Rattle.laws_schedule.specs.typing.Kinds.{HasKinds}

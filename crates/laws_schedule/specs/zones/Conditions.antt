@@ -14,7 +14,7 @@ use Rattle.program.specs.declared.function.Function.{Function}
 use Rattle.program.specs.declared.function.Program.{Program}
 use Rattle.laws_phases.specs.region_match.declared.tables.Regions.{Regions}
 use Rattle.laws_phases.specs.defined.Leads.{IsBlock}
-use Rattle.laws_conditions.specs.refusal.rules.Costs.{numbers}
+use Rattle.laws_conditions.specs.rules.Costs.{numbers}
 use Rattle.laws_phases.specs.facts.Known.{IsMet, KnownHold}
 use Rattle.laws_schedule.specs.zones.Keeping.{Keeping, OfTask, kept_cells, pending_at, Fits, Expects}
 use Rattle.laws_schedule.specs.zones.ByPhases.{IsJudged, GivesWidths, IsByRules}

@@ -21,7 +21,7 @@ use Rattle.laws_phases.specs.ranges.Truth.{operand_value}
 use Rattle.laws_phases.specs.region_match.declared.tables.Regions.{Regions}
 use Rattle.laws_phases.specs.footprints.Footprints.{pending_of}
 use Rattle.laws_phases.specs.footprints.Rules.{covering_of, is_own_block}
-use Rattle.laws_conditions.specs.refusal.rules.Costs.{numbers}
+use Rattle.laws_conditions.specs.rules.Costs.{numbers}
 use Rattle.laws_phases.specs.defined.Placed.{IsPlaced}
 use Rattle.laws_phases.specs.facts.Known.{KnownHold}
 use Rattle.laws_phases.specs.facts.Kept.{IsEnsured}
