@@ -13,9 +13,9 @@ use Rattle.syntax.specs.declared.module.Module.{Module}
 use Rattle.ir_reader.specs.Kept.{IsKeptFunction, IsKeptModule}
 use Rattle.ir_reader.specs.Reading.{Answers}
 use Rattle.ir_reader.proofs.Keeping.{answers_kept}
-use Rattle.types.specs.types.names.Item.{items_of}
-use Rattle.types.specs.types.names.Layout.{layout_of}
-use Rattle.types.proofs.types.names.Inversion.{all_at, both_ok, made_ok}
+use Rattle.types.specs.names.Item.{items_of}
+use Rattle.types.specs.names.Layout.{layout_of}
+use Rattle.types.proofs.names.Inversion.{all_at, both_ok, made_ok}
 use Rattle.types.specs.Function.{function_of, function_with, functions_of}
 use Rattle.types.specs.Meaning.{Means}
 use Rattle.verifier.specs.Limits.{IsWithinLimits}

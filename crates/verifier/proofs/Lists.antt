@@ -1,8 +1,8 @@
 -- Lists that are meant element by element.
 use Rattle.std.proofs.Common.{◌≡◌, ◌∙◌, ℕ, ◌+◌, List, [], ◌∷◌, ◌++◌, length, Result, Ok, refl, sym, ap, subst, arith}
 use Rattle.refusal.specs.declared.refused.Refused.{Refused}
-use Rattle.types.specs.types.names.Fault.{all_of}
-use Rattle.types.proofs.types.names.Inversion.{Each, all_from_ok, same_ok}
+use Rattle.types.specs.names.Fault.{all_of}
+use Rattle.types.proofs.names.Inversion.{Each, all_from_ok, same_ok}
 
 each_count : {A B : Type 0} (f : ℕ → A → Result B Refused) (n : ℕ) (xs : List A) (ys : List B) → Each f n xs ys → length ys ≡ length xs
 each_count f n [] [] e = refl
