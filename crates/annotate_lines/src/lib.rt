@@ -7,6 +7,7 @@
 #![tactic(auto)]
 
 mod cells;
+mod facts;
 mod goal;
 mod hull;
 mod left;

@@ -1,13 +1,13 @@
 //! The lines that are put in.
 
 use crate::cells::firsts_of;
+use crate::facts::{Heap, Known, Sum, edges_of, known_of};
 use crate::goal::Scope;
 use crate::hull::hulls_of;
 use crate::left::{Need, needs_of};
 use crate::pending::{Handed, handed_of};
 use crate::step::Walk;
 use crate::total::Total;
-use annotate_facts::{Heap, Known, Sum, edges_of, known_of};
 use ir_annotation::push_zone;
 use ir_reader::read;
 use lists::TextBuffer;

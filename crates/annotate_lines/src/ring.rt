@@ -1,6 +1,6 @@
 //! Loops that a counter leads round: what falls each time, and what a round needs.
 
-use annotate_facts::{
+use crate::facts::{
     Edge, Known, Sum, block_at, greatest_apart, last_of, names_own, phi_value, value_of,
 };
 use syntax::{Block, Function, Operand};

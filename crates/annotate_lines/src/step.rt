@@ -1,10 +1,10 @@
 //! Lines within blocks, with which facts show what is asked at an instruction or along an edge: lines to be tried.
 
 use crate::cells::Cells;
-use crate::goal::{Call, Scope, ends_of};
-use annotate_facts::{
+use crate::facts::{
     Equation, Known, Sum, Way, block_at, definition_of, is_exact, lines_between, moved, register_of,
 };
+use crate::goal::{Call, Scope, ends_of};
 use lists::TextBuffer;
 use syntax::{
     BinaryOperator, Block, Conversion, Ending, Inequality, Instruction, Operand, Step, Terminator,

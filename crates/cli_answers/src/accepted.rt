@@ -1,7 +1,6 @@
 //! What `verify` prints of a module that is accepted.
 
-use cli_data::Status;
-use cli_words::Request;
+use cli_words::{Request, Status};
 use std::io;
 use std::io::Write;
 use verifier::Verified;

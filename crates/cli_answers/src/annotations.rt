@@ -2,8 +2,7 @@
 
 use crate::refusals::print_unverified;
 use annotate::{NewLines, annotated, pruned};
-use cli_data::{Beside, Status, print_refused};
-use cli_words::Request;
+use cli_words::{Beside, Request, Status, print_refused};
 use explain_findings::line_at;
 use std::alloc::{AllocError, Global};
 use std::hash::RandomState;

@@ -1,6 +1,6 @@
 //! Faults of a file, told on standard error so that editors find the line.
 
-use cli_data::Beside;
+use cli_words::Beside;
 use explain_findings::line_at;
 use refusal::push_heads;
 use std::alloc::{AllocError, Global};

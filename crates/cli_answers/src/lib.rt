@@ -15,16 +15,14 @@ mod requests;
 mod shown;
 mod verdict;
 
-pub use cli_data::{
-    Beside, Dump, Status, Times, fail, print_unreadable, read_data, read_file, read_text,
-    write_bytes, write_file,
-};
 pub use cli_runs::{
     Course, Crew, Effort, Job, Question, is_told, prepared, print_run, print_unprepared,
     tell_course,
 };
 pub use cli_words::{
-    CellWord, Request, Setting, Telling, Verb, WordsFault, bytes_of, text_of, words,
+    Beside, CellWord, Dump, Request, Setting, Status, Telling, Times, Verb, WordsFault, bytes_of,
+    fail, print_unreadable, read_data, read_file, read_text, text_of, words, write_bytes,
+    write_file,
 };
 pub use debugger::{
     Debugger, Event, Finished, Machine, Memory, RunFault, Status as Standing, TaskView, Verified,

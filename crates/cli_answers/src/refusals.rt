@@ -1,7 +1,7 @@
 //! What is said where a module is not taken.
 
 use crate::faults::note_effort;
-use cli_data::{Beside, Status, print_refused};
+use cli_words::{Beside, Status, print_refused};
 use std::io;
 use std::io::Write;
 use verifier::Unverified;

@@ -2,8 +2,7 @@
 
 use crate::annotations::print_annotated;
 use crate::reasons::print_explanation;
-use cli_data::{Beside, Status, print_refused};
-use cli_words::{Request, Verb};
+use cli_words::{Beside, Request, Status, Verb, print_refused};
 use std::alloc::Global;
 use std::hash::RandomState;
 use std::io;

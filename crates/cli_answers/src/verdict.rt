@@ -2,8 +2,7 @@
 
 use crate::annotations::{in_own_lines, judged_text};
 use crate::requests::effort_of;
-use cli_data::Beside;
-use cli_words::Request;
+use cli_words::{Beside, Request};
 use debugger::{Refused, Unverified, Verified, verify_within};
 use std::alloc::{AllocError, Global};
 use std::hash::RandomState;

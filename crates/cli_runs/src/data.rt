@@ -4,10 +4,10 @@ ghost use Rattle.program.specs.declared.function.Program.{Program};
 ghost use Rattle.serial_machine.specs.store.Made.{HasGlobalCells, IsMadeFor};
 
 use crate::job::Job;
-use cli_data::{
-    Beside, DataFault, Dump, Status, print_numbers, read_numbers, read_words, write_words,
+use cli_words::{
+    Beside, DataFault, DataWord, DataWords, Dump, RowWord, Status, print_numbers, read_numbers,
+    read_words, write_words,
 };
-use cli_words::{DataWord, DataWords, RowWord};
 use debugger::Memory;
 use lists::ListBuffer;
 use program::GlobalId;

@@ -1,7 +1,6 @@
 //! The dialogue of `tapirvm debug`: a command a line, and a line in answer.
 
-use cli_data::Status;
-use cli_words::is_name;
+use cli_words::{Status, is_name};
 use debugger::{Debugger, Status as Standing, TaskView, read_number, read_task};
 use frame::Path;
 use lists::{OutOfMemory, TextBuffer};

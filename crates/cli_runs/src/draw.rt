@@ -4,10 +4,10 @@ use crate::figures::Crew;
 use crate::job::Job;
 use crate::runs::{prepared, print_unprepared};
 use crate::tell::tell_course;
-use cli_data::{Beside, Status};
+use cli_words::{Beside, Status};
 use std::io;
 use std::io::Write;
-use view_traces::Draw;
+use view_run::Draw;
 
 /// Runs by events that are drawn by the seed, and tells of them where that is asked for.
 pub fn run_drawn<W: Write>(

@@ -2,8 +2,7 @@
 
 use lists::{OutOfMemory, TextBuffer};
 use std::alloc::Global;
-use view_moments::{Moment, Outcome, Timing};
-use view_traces::Event;
+use view_run::{Event, Moment, Outcome, Timing};
 
 /// What a worker of a run on threads did beside its events.
 #[derive(Clone, Copy)]

@@ -1,7 +1,6 @@
 //! A module that the verifier took, and what is asked of it.
 
-use cli_data::{Beside, Status, stop_for_memory};
-use cli_words::Request;
+use cli_words::{Beside, Request, Status, stop_for_memory};
 use debugger::{RunFault, ScheduleFault, Verified};
 use std::alloc::{AllocError, Global};
 use std::hash::RandomState;

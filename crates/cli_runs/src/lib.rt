@@ -22,4 +22,4 @@ pub use figures::{Crew, Effort};
 pub use job::{Job, Question};
 pub use runs::{debug, prepared, print_run, print_unprepared, run_serial};
 pub use tell::{is_told, tell_course, tell_replay};
-pub use view_traces::Course;
+pub use view_run::Course;

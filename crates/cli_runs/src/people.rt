@@ -2,7 +2,7 @@
 
 use crate::job::Job;
 use crate::prompts::{Session, converse};
-use cli_data::{Status, print_refused};
+use cli_words::{Status, print_refused};
 use debugger::Debugger;
 use ir_reader::read;
 use program::Program;

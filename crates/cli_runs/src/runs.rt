@@ -8,8 +8,7 @@ use crate::data::{has_data, keep_dumps, load_all, print_rows};
 use crate::dialogue::converse;
 use crate::job::{Job, print_schedule_fault};
 use crate::people::guide;
-use cli_data::{Beside, Status, print_unreadable, stop_for_memory};
-use cli_words::{CellWord, Setting};
+use cli_words::{Beside, CellWord, Setting, Status, print_unreadable, stop_for_memory};
 use debugger::{
     Debugger, Event, Finished, Machine, Memory, RunFault, Verified, read_schedule, replay,
 };

@@ -6,8 +6,7 @@ use crate::figures::Crew;
 use crate::job::{Job, print_schedule_fault};
 use crate::runs::{prepared, print_no_schedule, print_replayed, print_unprepared, run_schedule};
 use crate::telling::{Subject, Told, Wanted, Words, tell};
-use cli_data::{Beside, Status, stop_for_memory};
-use cli_words::Telling;
+use cli_words::{Beside, Status, Telling, stop_for_memory};
 use debugger::{Memory, read_schedule};
 use ir_reader::read;
 use program::Program;
@@ -16,7 +15,7 @@ use std::io;
 use std::io::Write;
 use syntax::Module;
 use view_events::Names;
-use view_traces::{Course, Listed};
+use view_run::{Course, Listed};
 
 /// What is asked to be told of a run.
 fn wanted_of(telling: &Telling) -> Wanted {

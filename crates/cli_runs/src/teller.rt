@@ -5,8 +5,7 @@ use crate::telling::{Subject, Told, Wanted, Words};
 use lists::{OutOfMemory, TextBuffer};
 use std::alloc::{AllocError, Global};
 use view_events::{MOST_EVENTS, Numbered, Page, Start, push_event};
-use view_moments::{Moment, Rounds, Scene, Settings, picture, push_moment};
-use view_traces::{Event, Script};
+use view_run::{Event, Moment, Rounds, Scene, Script, Settings, picture, push_moment};
 
 /// What is made of the events of a run.
 #[derive(Drop)]

@@ -1,6 +1,6 @@
 //! A run that is told.
 
-ghost use Rattle.view_traces.specs.store.Made.{IsMadeFor};
+ghost use Rattle.view_run.specs.store.Made.{IsMadeFor};
 
 use crate::figures::Crew;
 use crate::teller::Teller;
@@ -9,8 +9,7 @@ use std::alloc::{AllocError, Global};
 use std::io;
 use std::io::Write;
 use view_events::Names;
-use view_moments::Settings;
-use view_traces::{Course, Machine, Memory, RunFault, Verified, Watch};
+use view_run::{Course, Machine, Memory, RunFault, Settings, Verified, Watch};
 
 /// What is asked for.
 #[derive(Clone, Copy)]

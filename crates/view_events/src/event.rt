@@ -3,7 +3,7 @@
 use crate::names::{Names, NumberName, ThingName, ValueName};
 use frame::Event;
 use lists::TextBuffer;
-use view_moments::{Change, Moment, Outcome, Place, Settings, TaskName, Written};
+use view_run::{Change, Moment, Outcome, Place, Settings, TaskName, Written};
 
 /// An event of a run with its number, from 1, and its round.
 #[derive(Clone, Copy)]

@@ -6,7 +6,7 @@ use program::{Program, RegisterId};
 use std::alloc::Global;
 use std::fmt;
 use syntax::Module;
-use view_moments::{TaskName, Thing, Value};
+use view_run::{TaskName, Thing, Value};
 
 /// The functions of a program, each beside its text.
 #[derive(Drop)]

@@ -7,7 +7,7 @@ use crate::spelling::quoted;
 use crate::style::STYLE;
 use lists::TextBuffer;
 use std::alloc::{AllocError, Global};
-use view_moments::Settings;
+use view_run::Settings;
 
 /// The most events that a page tells.
 pub const MOST_EVENTS: u64 = 20_000;

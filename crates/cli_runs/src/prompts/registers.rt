@@ -5,8 +5,7 @@ use crate::prompts::values::registers_with_values;
 use frame::{Path, Role};
 use lists::{OutOfMemory, TextBuffer};
 use view_events::ThingName;
-use view_moments::Value;
-use view_traces::Objects;
+use view_run::{Objects, Value};
 
 impl Session<'_, '_> {
     /// Where the objects stand at this position.

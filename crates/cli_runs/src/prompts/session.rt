@@ -8,7 +8,7 @@ use frame::Path;
 use lists::{OutOfMemory, TextBuffer};
 use std::alloc::Global;
 use view_events::Names;
-use view_moments::TaskName;
+use view_run::TaskName;
 
 /// A debugger, with the texts that people see.
 #[derive(Drop)]

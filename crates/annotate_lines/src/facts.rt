@@ -1,0 +1,24 @@
+//! Facts of a function's registers, and which of them hold wherever a block begins.
+//!
+//! A fact is a sum of registers that is at least 0. Here are sums, with their bounds, the facts that add up to one, and how it is spelled; what instructions
+//! make of registers; the edges from block to block, by the labels of the text; and the heap that all that is made on. [`known_of`] takes what the text states,
+//! the outcomes of branches and what instructions make, and if asked what may be so of counters; of these it finds what all ways to a block bring along.
+mod bound;
+mod definition;
+mod edge;
+mod fact;
+mod guess;
+mod heap;
+mod keep;
+mod search;
+mod sum;
+
+pub use bound::{greatest, greatest_apart};
+pub use definition::{Equation, definition_of, is_exact, moved, value_of};
+pub use edge::{Edge, Way, block_at, definition_in, edges_of, last_of, phi_value, register_of};
+pub use fact::Facts;
+pub use guess::{Place, Rise, dominators_of, rise_of};
+pub use heap::Heap;
+pub use keep::{Known, MOST_BLOCKS, known_of, names_own};
+pub use search::lines_between;
+pub use sum::Sum;

@@ -1,0 +1,93 @@
+//! What instructions and phis make of registers.
+
+use crate::facts::edge::{definition_in, phi_value};
+use crate::facts::heap::Heap;
+use crate::facts::sum::Sum;
+use lists::Name;
+use syntax::{BinaryOperator, Function, Instruction, Operand, Phi};
+
+/// How often an operator's left and right operand stand in the sum that it makes, but for what its width cannot hold; none where it makes
+/// no sum.
+fn times_of(operator: BinaryOperator, right: &Operand) -> Option<(i128, i128)> {
+    match operator {
+        BinaryOperator::Add | BinaryOperator::AddNoWrap => Some((1, 1)),
+        BinaryOperator::Subtract | BinaryOperator::SubtractNoWrap => Some((1, -1)),
+        BinaryOperator::Multiply | BinaryOperator::MultiplyNoWrap => match right {
+            Operand::Number(number) => Some((i128::from(*number), 0)),
+            Operand::Register(_) => None,
+        },
+        _ => None,
+    }
+}
+
+/// The sum that an instruction makes; none where it makes no sum.
+pub fn definition_of<'a>(heap: &'a Heap, instruction: &'a Instruction) -> Option<Sum<'a>> {
+    let Instruction::Binary {
+        operator,
+        left,
+        right,
+        ..
+    } = instruction
+    else {
+        return None;
+    };
+    let Some((of_left, of_right)) = times_of(*operator, right) else {
+        return None;
+    };
+    let mut sum = Sum::of_operand(heap, left, of_left);
+    sum.add_operand(right, of_right);
+    Some(sum)
+}
+
+/// The sum that a function's instruction makes of a register; none where that makes no sum, or none defines the register.
+pub fn value_of<'a>(heap: &'a Heap, function: &'a Function, name: &str) -> Option<Sum<'a>> {
+    match definition_in(function, name) {
+        Some(instruction) => definition_of(heap, instruction),
+        None => None,
+    }
+}
+
+/// Whether an instruction makes its sum or product as it is, without a remainder by the width.
+pub fn is_exact(instruction: &Instruction) -> bool {
+    match instruction {
+        Instruction::Binary { operator, .. } => matches!(
+            operator,
+            BinaryOperator::AddNoWrap
+                | BinaryOperator::SubtractNoWrap
+                | BinaryOperator::MultiplyNoWrap
+        ),
+        _ => false,
+    }
+}
+
+/// That a register is at most a sum, and that it is at least the sum.
+#[derive(Drop)]
+pub struct Equation<'a> {
+    pub most: Sum<'a>,
+    pub least: Sum<'a>,
+}
+
+impl<'a> Equation<'a> {
+    /// That a register is this sum.
+    pub fn of(heap: &'a Heap, name: &'a str, value: &Sum<'a>) -> Equation<'a> {
+        let own = Sum::of_register(heap, name, 1);
+        Equation {
+            most: value.with(&own, -1),
+            least: own.with(value, -1),
+        }
+    }
+}
+
+/// A sum at a block's start, with what its phis take on an edge from a block of this label put in.
+pub fn moved<'a>(heap: &'a Heap, sum: &Sum<'a>, label: &Name, phis: &'a [Phi]) -> Sum<'a> {
+    let mut moved = Sum::number(heap, sum.constant);
+    for (name, coefficient) in &sum.terms {
+        if *coefficient != 0 {
+            match phi_value(phis, name, label) {
+                Some(value) => moved.add_operand(value, *coefficient),
+                None => moved.add_term(name, *coefficient),
+            }
+        }
+    }
+    moved
+}

@@ -1,0 +1,392 @@
+//! What is known wherever a block begins, because all ways to it bring it along.
+
+use crate::facts::bound::bound_among;
+use crate::facts::edge::{Edge, defines, edges_of};
+use crate::facts::fact::Facts;
+use crate::facts::guess::{Place, dominators_of};
+use crate::facts::heap::Heap;
+use crate::facts::sum::Sum;
+use syntax::{Block, Function};
+
+/// The most blocks of a function in which something is guessed, and rounds are counted.
+pub const MOST_BLOCKS: usize = 256;
+
+/// The facts of a function, and which of them hold where.
+pub struct Known<'a> {
+    pub heap: &'a Heap,
+    pub function: &'a Function,
+    pub edges: Vec<Edge<'a>>,
+    /// For each block the numbers of the edges that lead to it.
+    into: Vec<Vec<usize>>,
+    pub facts: Facts<'a>,
+    /// For each block the numbers of the facts that its head states.
+    given: Vec<Vec<usize>>,
+    /// For each block the numbers of the facts that may be so at it, and are to be tried.
+    guessed: Vec<Vec<usize>>,
+    /// For each edge the numbers of the facts that its source adds.
+    pub added: Vec<Vec<usize>>,
+    /// For each block the numbers of the facts that its own instructions make.
+    made: Vec<Vec<usize>>,
+    /// For each block whether each fact is brought along to it; no fact that is not is marked.
+    marks: Vec<Vec<bool>>,
+}
+
+/// Written out, so that no crate above proves it anew.
+impl Drop for Known<'_> {
+    fn drop(self) {
+        let Known {
+            heap: _,
+            function: _,
+            edges: _,
+            into: _,
+            facts: _,
+            given: _,
+            guessed: _,
+            added: _,
+            made: _,
+            marks: _,
+        } = self;
+    }
+}
+
+/// A row of numbers; one that is not there has none.
+fn row_of(rows: &[Vec<usize>], row: usize) -> &[usize] {
+    if row < rows.len() {
+        rows[row].as_slice()
+    } else {
+        &[]
+    }
+}
+
+fn row_has(rows: &[Vec<usize>], row: usize, number: usize) -> bool {
+    for other in row_of(rows, row) {
+        if *other == number {
+            return true;
+        }
+    }
+    false
+}
+
+/// For each block the numbers of the edges that lead to it.
+fn into_blocks(heap: &Heap, edges: &[Edge<'_>], count: usize) -> Vec<Vec<usize>> {
+    let mut into = heap.list();
+    for _block in 0..count {
+        heap.push(&mut into, heap.list());
+    }
+    for (number, edge) in edges.iter().enumerate() {
+        if edge.to < into.len() {
+            heap.push(&mut into[edge.to], number);
+        }
+    }
+    into
+}
+
+impl<'a> Known<'a> {
+    /// States what the blocks' heads say; at the entry what the function asks of its parameters too.
+    fn give_all(&mut self) {
+        let function = self.function;
+        self.facts.state(function.notes.requirements.as_slice());
+        for block in function.blocks.as_slice() {
+            self.facts.state(block.notes.keeps.as_slice());
+            self.heap.push(&mut self.given, self.facts.take());
+        }
+    }
+
+    /// States what the edges add.
+    fn add_all(&mut self) {
+        for edge in &self.edges {
+            self.facts.pass(*edge);
+            self.heap.push(&mut self.added, self.facts.take());
+        }
+    }
+
+    /// States what the instructions of the blocks make.
+    fn make_all(&mut self) {
+        for block in 0..self.function.blocks.len() {
+            self.facts.make_all(block);
+            self.heap.push(&mut self.made, self.facts.take());
+        }
+    }
+
+    /// States what may be so of a block's counters, by the facts from this number on.
+    fn guess(&mut self, above: &[usize], block: usize, first: usize) {
+        let place = Place {
+            heap: self.heap,
+            function: self.function,
+            above,
+            block,
+        };
+        let sums = self.facts.sums.as_slice();
+        let from = first.min(sums.len());
+        let guesses = place.guesses(&sums[from..]);
+        self.facts.add_all(guesses);
+        let stated = self.facts.take();
+        if block < self.guessed.len() {
+            let added = self.guessed[block].extend_from_slice(stated.as_slice());
+            self.heap.kept(added);
+        }
+    }
+
+    /// The same of all blocks.
+    fn guess_from(&mut self, above: &[usize], first: usize) {
+        for block in 0..self.function.blocks.len() {
+            self.guess(above, block, first);
+        }
+    }
+
+    /// States what may be so at the heads of loops, unless the function has many blocks; then what may be so if that is.
+    fn guess_all(&mut self) {
+        let count = self.function.blocks.len();
+        for _block in 0..count {
+            self.heap.push(&mut self.guessed, self.heap.list());
+        }
+        if count > MOST_BLOCKS {
+            return;
+        }
+        let above = dominators_of(self.heap, self.edges.as_slice(), count);
+        let stated = self.facts.sums.len();
+        self.guess_from(above.as_slice(), 0);
+        self.guess_from(above.as_slice(), stated)
+    }
+
+    /// The numbers of the facts that the source of an edge adds on it.
+    pub fn facts_on(&self, edge: usize) -> &[usize] {
+        row_of(self.added.as_slice(), edge)
+    }
+
+    /// The facts that are known at a block.
+    pub fn facts_at(&self, block: usize) -> Vec<Sum<'a>> {
+        let mut facts = self.heap.list();
+        for number in 0..self.facts.sums.len() {
+            if self.is_known(block, number) {
+                self.heap.push(&mut facts, self.facts.sums[number].copy());
+            }
+        }
+        facts
+    }
+
+    /// Whether the fact is a guess at the block.
+    pub fn is_guessed(&self, block: usize, fact: usize) -> bool {
+        row_has(self.guessed.as_slice(), block, fact)
+    }
+
+    /// Whether something is guessed in the function, so that of two facts the one that says more may be none.
+    fn has_guesses(&self) -> bool {
+        for row in &self.guessed {
+            if !row.is_empty() {
+                return true;
+            }
+        }
+        false
+    }
+
+    pub fn is_given(&self, block: usize, fact: usize) -> bool {
+        row_has(self.given.as_slice(), block, fact)
+    }
+
+    /// Whether the fact is marked at the block.
+    pub fn is_known(&self, block: usize, fact: usize) -> bool {
+        if block >= self.marks.len() {
+            return false;
+        }
+        let marks = self.marks[block].as_slice();
+        fact < marks.len() && marks[fact]
+    }
+
+    /// Whether another fact that is known at the block says more of the same registers with the same coefficients. Beside guesses only what heads state is
+    /// sure enough.
+    pub fn is_weaker(&self, block: usize, fact: &Sum<'a>) -> bool {
+        let is_sure = !self.has_guesses();
+        for number in 0..self.facts.sums.len() {
+            if self.is_known(block, number) && (is_sure || self.is_given(block, number)) {
+                if let Some(apart) = fact.number_with(&self.facts.sums[number], -1) {
+                    if apart > 0 {
+                        return true;
+                    }
+                }
+            }
+        }
+        false
+    }
+
+    /// How much a sum lacks to be at least 0, by one fact that is known at the block.
+    fn lack(&self, block: usize, sum: &Sum<'a>) -> Option<i128> {
+        let mut least = None;
+        for number in 0..self.facts.sums.len() {
+            if self.is_known(block, number) {
+                let lack = lack_by(sum, &self.facts.sums[number]);
+                least = bound_among(least, lack, true);
+            }
+        }
+        least
+    }
+
+    /// How much one sum lacks to be no less than the other.
+    pub fn lack_of(&self, block: usize, one: &Sum<'a>, other: &Sum<'a>) -> Option<i128> {
+        let difference = one.with(other, -1);
+        match difference.as_number() {
+            Some(number) => Some(number.saturating_neg().max(0)),
+            None => self.lack(block, &difference),
+        }
+    }
+
+    /// The greater of two sums, or one with what it may lack, or their sum where nothing is known of that.
+    pub fn greater(&self, block: usize, one: &Sum<'a>, other: &Sum<'a>) -> Sum<'a> {
+        match (
+            self.lack_of(block, one, other),
+            self.lack_of(block, other, one),
+        ) {
+            (Some(first), Some(second)) if second < first => other.raised(second),
+            (Some(first), _) => one.raised(first),
+            (None, Some(second)) => other.raised(second),
+            (None, None) => one.with(other, 1),
+        }
+    }
+
+    /// The marks of a block to begin with: each fact, but at the entry only what it states.
+    fn first_marks(&self, block: usize) -> Vec<bool> {
+        let mut marks = self.heap.list();
+        for fact in 0..self.facts.sums.len() {
+            let is_marked = block != 0 || self.is_given(block, fact);
+            self.heap.push(&mut marks, is_marked);
+        }
+        marks
+    }
+
+    fn mark_all(&mut self) {
+        for block in 0..self.function.blocks.len() {
+            let marks = self.first_marks(block);
+            self.heap.push(&mut self.marks, marks);
+        }
+    }
+
+    /// Whether some way leads to the block and each of them brings the fact.
+    fn is_brought(&self, block: usize, fact: usize) -> bool {
+        let into = row_of(self.into.as_slice(), block);
+        for number in into {
+            if !self.is_along(*number, fact) {
+                return false;
+            }
+        }
+        !into.is_empty()
+    }
+
+    /// Whether the edge of this number brings the fact.
+    fn is_along(&self, number: usize, fact: usize) -> bool {
+        if number >= self.edges.len() {
+            return false;
+        }
+        let from = self.edges[number].from;
+        self.is_known(from, fact)
+            || row_has(self.added.as_slice(), number, fact)
+            || row_has(self.made.as_slice(), from, fact)
+    }
+
+    fn unmark(&mut self, block: usize, fact: usize) {
+        if block < self.marks.len() {
+            let marks = &mut self.marks[block];
+            if fact < marks.len() {
+                marks[fact] = false;
+            }
+        }
+    }
+
+    /// Whether the fact names a register that the block defines.
+    fn is_renamed(&self, block: usize, fact: usize) -> bool {
+        let blocks = self.function.blocks.as_slice();
+        let sums = self.facts.sums.as_slice();
+        block >= blocks.len() || fact >= sums.len() || names_own(&blocks[block], &sums[fact])
+    }
+
+    /// Whether a mark at a block still stands.
+    fn stands(&self, block: usize, fact: usize) -> bool {
+        self.is_given(block, fact)
+            || self.is_guessed(block, fact)
+            || self.is_brought(block, fact) && !self.is_renamed(block, fact)
+    }
+
+    /// Takes away the marks of a block that no longer stand; whether there were some.
+    fn settle(&mut self, block: usize) -> bool {
+        let mut is_changed = false;
+        for fact in 0..self.facts.sums.len() {
+            if self.is_known(block, fact) && !self.stands(block, fact) {
+                self.unmark(block, fact);
+                is_changed = true;
+            }
+        }
+        is_changed
+    }
+
+    /// One round over the blocks; whether some marks were taken away.
+    fn settle_all(&mut self) -> bool {
+        let mut is_changed = false;
+        for block in 0..self.function.blocks.len() {
+            if self.settle(block) {
+                is_changed = true;
+            }
+        }
+        is_changed
+    }
+
+    /// Finds the facts, and marks what is known at each block.
+    fn find(&mut self, has_guesses: bool) {
+        self.give_all();
+        self.add_all();
+        self.make_all();
+        if has_guesses {
+            self.guess_all();
+        }
+        self.mark_all();
+        for _round in 0..self.function.blocks.len() {
+            if !self.settle_all() {
+                return;
+            }
+        }
+    }
+}
+
+/// How much a sum lacks to be at least 0 if a fact is, where it is a multiple of that and a number.
+fn lack_by<'a>(sum: &Sum<'a>, fact: &Sum<'a>) -> Option<i128> {
+    let Some((name, coefficient)) = fact.first() else {
+        return None;
+    };
+    let times = sum.coefficient(name).checked_div(coefficient).unwrap_or(0);
+    if times <= 0 {
+        return None;
+    }
+    match sum.number_with(fact, 0i128.saturating_sub(times)) {
+        Some(number) => Some(number.saturating_neg().max(0)),
+        None => None,
+    }
+}
+
+/// Whether a sum names a register that the block defines.
+pub fn names_own(block: &Block, sum: &Sum<'_>) -> bool {
+    for (name, coefficient) in &sum.terms {
+        if *coefficient != 0 && defines(block, name) {
+            return true;
+        }
+    }
+    false
+}
+
+/// What is known at each block, by what heads state, `shows` and the outcomes of branches. A fact about registers that the block defines
+/// anew is not brought along to it. What may be so of counters is among it, if guesses are asked for.
+pub fn known_of<'a>(heap: &'a Heap, function: &'a Function, has_guesses: bool) -> Known<'a> {
+    let edges = edges_of(heap, function);
+    let into = into_blocks(heap, edges.as_slice(), function.blocks.len());
+    let mut known = Known {
+        heap,
+        function,
+        edges,
+        into,
+        facts: Facts::new(heap, function),
+        given: heap.list(),
+        guessed: heap.list(),
+        added: heap.list(),
+        made: heap.list(),
+        marks: heap.list(),
+    };
+    known.find(has_guesses);
+    known
+}

@@ -1,6 +1,0 @@
-use Rattle.std.proofs.Common.{◌≡◌, map, take}
-use Rattle.cli_data.specs.Data.{word_of}
-use Rattle.cli_data.proofs.words.read_words.Given as goal
-
-abbrev pub invariant-loop-word : goal.invariant-loop-word
-invariant-loop-word l = l.numbers.items ≡ map word_of (take l.word-index l.words)

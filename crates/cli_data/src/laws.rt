@@ -1,8 +1,0 @@
-//! Laws.
-
-ghost use Rattle.cli_data.specs.Data.{ReadsBack};
-
-/// What is printed of numbers is read as these numbers.
-pub fn reads_back()
-    ensures { ReadsBack }
-{}

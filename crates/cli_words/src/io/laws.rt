@@ -1,0 +1,8 @@
+//! Laws.
+
+ghost use Rattle.cli_words.specs.io.Data.{ReadsBack};
+
+/// What is printed of numbers is read as these numbers.
+pub fn reads_back()
+    ensures { ReadsBack }
+{}

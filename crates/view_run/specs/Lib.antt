@@ -1,0 +1,3 @@
+pub mod Rounds
+-- for the crates above
+pub use Rattle.schedule_core.specs.store as store
