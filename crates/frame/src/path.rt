@@ -34,9 +34,7 @@ impl Path {
         ensures { IfOk result (λ p. p.numbers ≡ self.now.numbers ++ (number ∷ [])) }
     {
         let mut numbers = Vec::with_capacity(alloc, self.numbers.len().saturating_add(1))?;
-        for each in self.numbers.as_slice() {
-            numbers.push(*each)?;
-        }
+        numbers.extend_from_slice(self.numbers.as_slice())?;
         numbers.push(number)?;
         Ok(Path {
             numbers: Seq::from_vec(numbers),
@@ -47,10 +45,7 @@ impl Path {
     pub fn copy(&self, alloc: Global) -> Result<Path, OutOfMemory>
         ensures { IfOk result (λ p. p.numbers ≡ self.now.numbers) }
     {
-        let mut numbers = Vec::with_capacity(alloc, self.numbers.len())?;
-        for each in self.numbers.as_slice() {
-            numbers.push(*each)?;
-        }
+        let numbers = Vec::from_slice(alloc, self.numbers.as_slice())?;
         Ok(Path {
             numbers: Seq::from_vec(numbers),
         })
