@@ -3,7 +3,6 @@ pub mod regions
 pub mod facts
 pub mod zones
 pub mod costs
-pub mod conditions
 -- for the crates above
 pub use Rattle.cfg.proofs as cfg
 pub use Rattle.ranges.proofs as ranges

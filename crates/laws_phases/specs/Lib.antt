@@ -3,7 +3,6 @@ pub mod regions
 pub mod facts
 pub mod zones
 pub mod costs
-pub mod conditions
 -- for the crates above
 pub use Rattle.cfg.specs as cfg
 pub use Rattle.cost_table.specs as cost_table

@@ -1,7 +1,6 @@
 //! What the rules of each phase of the verifier, as the phase defines them, owe the machine: laws about the frames of a run. There is no
 //! code to run here. `specs/` and `proofs/` have a folder for each subject; the laws below stand in the same order.
 //!
-//! - `conditions`: what all of it is for. Local conditions, each about one frame at one place, give every schedule.
 //! - `defined`: regions and definedness. `Names`: what the laws ask of the rules on names, types and the graph. `Placed`: each frame stands
 //!   in a block whose task suits its role. `Regions`: the regions of a frame's task are its own. `Defined`: registers that are defined on
 //!   each path to a place. `Stable`, `Known`: what a step leaves alone: no register that its place names, or that is known there. `Values`:
@@ -14,8 +13,6 @@
 //!   touched is covered, and clear of what is pending. `Edges`, `Stays`: what is pending goes on. `Tables`: tasks have one table.
 //! - `costs`: `Depths`, `Levels`: the depths of the table. `Shown`: facts show the rules on cost. `Ends`: the serial run from any place ends.
 #![tactic(auto)]
-
-mod conditions;
 
 ghost use Rattle.laws_phases.specs.costs.Depths.{DepthsTabled};
 ghost use Rattle.laws_phases.specs.costs.Ends.{EndsFromAnyPlace, RunEndsWithinBudget};
@@ -39,11 +36,6 @@ ghost use Rattle.laws_phases.specs.zones.Children.{FeetAreLet};
 ghost use Rattle.laws_phases.specs.zones.Edges.{FeetGoOn, PendingGoesOn};
 ghost use Rattle.laws_phases.specs.zones.Stays.{ZonesStay};
 ghost use Rattle.laws_phases.specs.zones.Tables.{TasksHaveOneTable};
-
-pub use conditions::{
-    every_schedule, pair_on_every_schedule, pair_on_two_workers, pair_within_tables,
-    registers_kept, schedules_within_tables, serial_run_exists, serial_run_within_tables,
-};
 
 /// Along the serial run each frame stands in a block of its function, and its role is that of the block's task.
 pub fn tasks_are_kept()

@@ -1,7 +1,7 @@
 -- What is kept along the serial run of a program that the verifier takes, from its first frame on.
 use Rattle.std.proofs.Common.{ℕ, List, [], ℤ}
 use Rattle.semantics.specs.Cells.{Memory, globals_of}
-use Rattle.laws_phases.specs.conditions.theorem.SerialConditions.{Says, Nothing, KeptSerially}
+use Rattle.laws_conditions.specs.theorem.SerialConditions.{Says, Nothing, KeptSerially}
 use Rattle.semantics.specs.State.{root_frame}
 use Rattle.program.specs.declared.function.Program.{Program}
 use Rattle.verifier.specs.Accepted.{IsProgramOf}

@@ -7,7 +7,7 @@ use Rattle.program.specs.declared.function.Program.{Program}
 use Rattle.refusal.specs.declared.broken.Broken.{Broken}
 use Rattle.laws_phases.specs.region_match.declared.tables.Regions.{Regions}
 use Rattle.verifier.specs.Budgets.{budget_of, depth_in, depth_of}
-use Rattle.laws_phases.specs.conditions.rules.Costs.{bound_in, bound_of}
+use Rattle.laws_conditions.specs.rules.Costs.{bound_in, bound_of}
 use Rattle.laws_phases.specs.cost_table.Cost.{whole_cost, whole_cost_of}
 use Rattle.laws_phases.specs.cost_table.Depth.{first_depths, tasks_of}
 use Rattle.laws_phases.specs.costs.Depths.{depth_in as depth_over, depth_of as depth_at}

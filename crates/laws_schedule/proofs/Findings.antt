@@ -7,10 +7,10 @@ use Rattle.semantics.specs.Effect.{Action, Plain, Detach, Reattach, Sync, Call, 
 use Rattle.semantics.specs.State.{went, detached, continued, synced, called, waiting, resumed}
 use Rattle.semantics.specs.SerialMeaning.{Left, Gave, Outcome, written, cleared, meaning}
 use Rattle.semantics.specs.SerialMeaning.{by_action}
-use Rattle.laws_phases.specs.conditions.theorem.SerialConditions.{Says, Finds, Nothing, KeptSerially}
+use Rattle.laws_conditions.specs.theorem.SerialConditions.{Says, Finds, Nothing, KeptSerially}
 use Rattle.semantics.proofs.Actions.{return_is_body, reattach_is_child}
 use Rattle.semantics.proofs.Outcomes.{counted_is, joined_is, from_effect, from_child, from_call, from_last}
-use Rattle.laws_phases.proofs.conditions.theorem.SerialExists.{Suits, body_gave}
+use Rattle.laws_conditions.proofs.theorem.SerialExists.{Suits, body_gave}
 use Rattle.program.specs.declared.function.Program.{Program}
 
 module _ (prog : Program) (good : Says) (post : Finds) (kept : KeptSerially prog Nothing good post) where

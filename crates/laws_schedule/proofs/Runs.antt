@@ -5,12 +5,12 @@ use Rattle.semantics.specs.Cells.{Memory, globals_of}
 use Rattle.semantics.specs.Frames.{Frame}
 use Rattle.semantics.specs.State.{root_frame}
 use Rattle.semantics.specs.SerialMeaning.{Gave, Outcome, IsSerialMeaning}
-use Rattle.laws_phases.specs.conditions.theorem.SerialConditions.{Nothing, KeptSerially}
+use Rattle.laws_conditions.specs.theorem.SerialConditions.{Nothing, KeptSerially}
 use Rattle.program.specs.declared.function.Program.{Program}
 use Rattle.laws_phases.specs.region_match.declared.tables.Regions.{Regions}
 use Rattle.verifier.specs.Accepted.{AreTasksOf}
 use Rattle.verifier.specs.Budgets.{budget_of, depth_of}
-use Rattle.laws_phases.specs.conditions.rules.Registers.{Registered}
+use Rattle.laws_conditions.specs.rules.Registers.{Registered}
 use Rattle.laws_phases.specs.defined.Defined.{IsAlways}
 use Rattle.laws_phases.specs.defined.Placed.{IsPlaced}
 use Rattle.laws_phases.specs.defined.Regions.{UsesOwnRegions}

@@ -2,15 +2,15 @@
 use Rattle.std.proofs.Common.{◌≡◌, ℕ, ◌≤◌, List, [], ℤ, Bool, true, sym, subst}
 use Rattle.semantics.specs.Paths.{Path}
 use Rattle.semantics.specs.Cells.{Memory}
-use Rattle.laws_phases.specs.conditions.theorem.Conditions.{ClosesRegions}
+use Rattle.laws_conditions.specs.theorem.Conditions.{ClosesRegions}
 use Rattle.semantics.specs.Frames.{Frame}
 use Rattle.semantics.specs.State.{root_frame}
 use Rattle.semantics.specs.SerialMeaning.{Outcome, IsSerialMeaning}
 use Rattle.semantics.specs.Events.{Event, start}
 use Rattle.semantics.specs.Replay.{replay}
-use Rattle.laws_phases.specs.conditions.theorem.Schedules.{KeepsSchedule}
-use Rattle.laws_phases.proofs.conditions.theorem.EverySchedule.{kept_by_schedules}
-use Rattle.laws_phases.proofs.conditions.theorem.SerialExists.{serial_alone}
+use Rattle.laws_conditions.specs.theorem.Schedules.{KeepsSchedule}
+use Rattle.laws_conditions.proofs.theorem.EverySchedule.{kept_by_schedules}
+use Rattle.laws_conditions.proofs.theorem.SerialExists.{serial_alone}
 use Rattle.program.specs.declared.function.Program.{Program}
 use Rattle.laws_phases.specs.region_match.declared.tables.Regions.{Regions}
 use Rattle.verifier.specs.Accepted.{AreTasksOf}

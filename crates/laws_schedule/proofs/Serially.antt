@@ -5,14 +5,14 @@ use Rattle.semantics.specs.Cells.{Memory}
 use Rattle.semantics.specs.Arithmetic.{Trap}
 use Rattle.semantics.specs.Frames.{Free, OnRegion, OnCall, Frame}
 use Rattle.semantics.specs.State.{wait_after, waiting}
-use Rattle.laws_phases.specs.conditions.theorem.Conditions.{Going}
-use Rattle.laws_phases.specs.conditions.theorem.SerialConditions.{Says, Finds, Nothing, KeptSerially}
-use Rattle.laws_phases.specs.conditions.theorem.InProofs.{And, FindsBoth}
-use Rattle.laws_phases.proofs.conditions.theorem.SerialExists.{kept_both}
+use Rattle.laws_conditions.specs.theorem.Conditions.{Going}
+use Rattle.laws_conditions.specs.theorem.SerialConditions.{Says, Finds, Nothing, KeptSerially}
+use Rattle.laws_conditions.specs.theorem.InProofs.{And, FindsBoth}
+use Rattle.laws_conditions.proofs.theorem.SerialExists.{kept_both}
 use Rattle.linear.specs.declared.form.RegisterId.{RegisterId}
 use Rattle.program.specs.declared.function.Program.{Program}
 use Rattle.laws_phases.specs.region_match.Matched.{AreRegionsRight}
-use Rattle.laws_phases.specs.conditions.rules.Registers.{Registered, GivesNumber}
+use Rattle.laws_conditions.specs.rules.Registers.{Registered, GivesNumber}
 use Rattle.laws_phases.specs.defined.Defined.{IsAlways}
 use Rattle.laws_phases.specs.defined.Names.{IsNamed}
 use Rattle.laws_phases.specs.defined.Placed.{Placed, NoFinds}

@@ -5,7 +5,7 @@ use Rattle.semantics.specs.Frames.{global_cells}
 use Rattle.semantics.specs.SerialMeaning.{Gave, Outcome, IsSerialMeaning}
 use Rattle.semantics.specs.Events.{Event, start}
 use Rattle.semantics.specs.Replay.{replay}
-use Rattle.laws_phases.specs.conditions.theorem.Schedules.{KeepsSchedule}
+use Rattle.laws_conditions.specs.theorem.Schedules.{KeepsSchedule}
 use Rattle.program.specs.declared.function.Function.{Function}
 use Rattle.program.specs.declared.function.Program.{Program}
 use Rattle.verifier.specs.Accepted.{IsProgramOf}

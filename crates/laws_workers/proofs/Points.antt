@@ -18,8 +18,8 @@ use Rattle.program.specs.declared.instruction.Argument.TheVariants as argument
 use Rattle.program.specs.declared.instruction.Instruction.{Instruction}
 use Rattle.program.specs.declared.instruction.Instruction.TheVariants as instruction
 use Rattle.program.specs.declared.instruction.Phi.{Phi}
-use Rattle.serial_machine.specs.laws_phases.conditions.rules.InProofs.{Moves, is_next, is_along}
-use Rattle.serial_machine.proofs.laws_phases.conditions.rules.Moves.{moves, syncs_along, calls_here}
+use Rattle.serial_machine.specs.laws_conditions.rules.InProofs.{Moves, is_next, is_along}
+use Rattle.serial_machine.proofs.laws_conditions.rules.Moves.{moves, syncs_along, calls_here}
 use Rattle.serial_machine.specs.laws_schedule.safe.Kept.{OfAll}
 use Rattle.serial_machine.specs.laws_schedule.zones.ByPhases.{IsKeptBySteps}
 use Rattle.serial_machine.proofs.laws_schedule.kinds.Registers.{argument_at}

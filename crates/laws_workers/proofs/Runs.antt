@@ -17,7 +17,7 @@ use Rattle.serial_machine.specs.verifier.Accepted.{IsAccepted}
 use Rattle.serial_machine.proofs.laws_schedule.Promise.{accepted_programs_keep_their_promise}
 use Rattle.serial_machine.proofs.laws_schedule.safe.Replayed.{from_later}
 use Rattle.serial_machine.proofs.laws_schedule.safe.Safe.{schedules_are_safe}
-use Rattle.serial_machine.specs.laws_phases.conditions.theorem.Schedules.{KeepsSchedule}
+use Rattle.serial_machine.specs.laws_conditions.theorem.Schedules.{KeepsSchedule}
 use Rattle.schedule_workers.specs.declared.activation.Activation.{Activation}
 use Rattle.schedule_workers.specs.declared.run.Run.{Run}
 use Rattle.schedule_workers.specs.Going.{Becomes, CanGo, RunsSafely}

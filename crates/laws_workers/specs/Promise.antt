@@ -8,7 +8,7 @@ use Rattle.semantics.specs.SerialMeaning.{Gave, Outcome, IsSerialMeaning}
 use Rattle.semantics.specs.Events.{Machine, Event, start}
 use Rattle.semantics.specs.Replay.{replay}
 use Rattle.program.specs.declared.function.Program.{Program}
-use Rattle.serial_machine.specs.laws_phases.conditions.theorem.Schedules.{KeepsSchedule}
+use Rattle.serial_machine.specs.laws_conditions.theorem.Schedules.{KeepsSchedule}
 use Rattle.cactus.specs.ByPath.{named}
 use Rattle.schedule_workers.specs.frame_engine.Flat.{cell_in}
 use Rattle.schedule_workers.specs.frame_engine.declared.activation.Places.{Places}

@@ -6,7 +6,7 @@ use Rattle.std.proofs.lemmas.List.{length-append}
 use Rattle.program.specs.declared.function.Global.{Global}
 use Rattle.program.specs.declared.function.Program.{Program}
 use Rattle.lists.specs.declared.memory.OutOfMemory.{OutOfMemory}
-use Rattle.laws_workers.specs.laws_phases.conditions.theorem.Schedules.{KeepsSchedule}
+use Rattle.laws_workers.specs.laws_conditions.theorem.Schedules.{KeepsSchedule}
 use Rattle.laws_workers.specs.verifier.Accepted.{IsAccepted}
 use Rattle.laws_workers.specs.store.Requirements.{unmet_in}
 use Rattle.laws_workers.specs.store.Cells.{NamedCells, cell_at}

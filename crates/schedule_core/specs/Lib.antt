@@ -11,7 +11,7 @@ pub mod Piles
 pub mod ReadyBelow
 pub mod FrameViews
 -- for the crates above
-pub use Rattle.laws_workers.specs.laws_phases.conditions as laws_phases
+pub use Rattle.laws_workers.specs.laws_conditions as laws_conditions
 pub use Rattle.laws_workers.specs.store as store
 pub use Rattle.laws_workers.specs.laws_schedule as laws_schedule
 pub use Rattle.laws_workers.specs.verifier as verifier

@@ -5,7 +5,7 @@ use Rattle.semantics.specs.Frames.{Frame}
 use Rattle.semantics.specs.Events as running
 use Rattle.semantics.specs.Replay.{or_unchanged, replay}
 use Rattle.semantics.specs.SerialMeaning.{Outcome, IsSerialMeaning}
-use Rattle.laws_workers.specs.laws_phases.conditions.theorem.Schedules.{KeepsSchedule}
+use Rattle.laws_workers.specs.laws_conditions.theorem.Schedules.{KeepsSchedule}
 use Rattle.laws_workers.specs.verifier.Accepted.{IsAccepted}
 use Rattle.laws_workers.specs.verifier.Budgets.{budget_of, IsDepthOf}
 use Rattle.program.specs.declared.function.Program.{Program}

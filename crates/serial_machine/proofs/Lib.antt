@@ -10,5 +10,5 @@ pub mod Held
 pub mod Engine
 -- for the crates above
 pub use Rattle.laws_schedule.proofs as laws_schedule
-pub use Rattle.laws_schedule.proofs.laws_phases.conditions as laws_phases
+pub use Rattle.laws_schedule.proofs.laws_conditions as laws_conditions
 pub use Rattle.laws_schedule.proofs.laws_phases as laws_phases

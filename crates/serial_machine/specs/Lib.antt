@@ -7,5 +7,5 @@ pub mod Rows
 pub use Rattle.laws_schedule.specs as laws_schedule
 pub use Rattle.store.specs as store
 pub use Rattle.store.specs.verifier as verifier
-pub use Rattle.laws_schedule.specs.laws_phases.conditions as laws_phases
+pub use Rattle.laws_schedule.specs.laws_conditions as laws_conditions
 pub use Rattle.laws_schedule.specs.laws_phases as laws_phases

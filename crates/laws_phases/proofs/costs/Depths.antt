@@ -15,8 +15,8 @@ use Rattle.program.specs.declared.instruction.Instruction.TheVariants as instruc
 use Rattle.program.specs.declared.instruction.Step.{Step}
 use Rattle.region_match.specs.declared.task.Task.{Task}
 use Rattle.region_match.specs.declared.tables.Regions.{Regions}
-use Rattle.laws_phases.specs.conditions.rules.Costs.{bound_in}
-use Rattle.laws_phases.specs.conditions.rules.Depths.{DepthTable}
+use Rattle.laws_conditions.specs.rules.Costs.{bound_in}
+use Rattle.laws_conditions.specs.rules.Depths.{DepthTable}
 use Rattle.program.specs.Calls.{callee_of}
 use Rattle.cost_table.specs.Depth.{detaches_around, greatest, greatest_block, callee_depth, block_depth, self_depth, self_call_depth, flat_depth, self_calls_depth, depth_from, tasks_of, whole_depth_of, first_depths}
 use Rattle.laws_phases.specs.costs.Depths.{level_of, depth_in, depth_of, CallsUpward}

@@ -5,21 +5,21 @@ use Rattle.semantics.specs.Paths.{Path}
 use Rattle.semantics.specs.Cells.{Memory, globals_of}
 use Rattle.semantics.specs.Frames.{Frame}
 use Rattle.semantics.specs.State.{root_frame}
-use Rattle.laws_phases.specs.conditions.theorem.SerialConditions.{Says, Finds, Nothing, KeptSerially}
-use Rattle.laws_phases.specs.conditions.theorem.InProofs.{And, FindsBoth}
-use Rattle.laws_phases.specs.conditions.theorem.InProofs.{WithinBudget, WithinDepth}
-use Rattle.laws_phases.proofs.conditions.theorem.Budgets.{budget_kept, depth_kept, with_one_more}
-use Rattle.laws_phases.proofs.conditions.theorem.SerialExists.{all_mean, kept_both}
+use Rattle.laws_conditions.specs.theorem.SerialConditions.{Says, Finds, Nothing, KeptSerially}
+use Rattle.laws_conditions.specs.theorem.InProofs.{And, FindsBoth}
+use Rattle.laws_conditions.specs.theorem.InProofs.{WithinBudget, WithinDepth}
+use Rattle.laws_conditions.proofs.theorem.Budgets.{budget_kept, depth_kept, with_one_more}
+use Rattle.laws_conditions.proofs.theorem.SerialExists.{all_mean, kept_both}
 use Rattle.program.specs.declared.function.Function.{Function}
 use Rattle.program.specs.declared.function.Program.{Program}
 use Rattle.region_match.specs.declared.tables.Regions.{Regions}
-use Rattle.laws_phases.specs.conditions.rules.Costs.{numbers, may_use, IsCosted}
-use Rattle.laws_phases.specs.conditions.rules.InProofs.{rank_of}
-use Rattle.laws_phases.specs.conditions.rules.Depths.{may_reach}
-use Rattle.laws_phases.specs.conditions.rules.InProofs.{IsCheckedSerially}
-use Rattle.laws_phases.specs.conditions.rules.Serially.{RunsWithinTables}
-use Rattle.laws_phases.proofs.conditions.rules.Costs.{NoFinds}
-use Rattle.laws_phases.proofs.conditions.rules.Serially.{Known, runs_serially, within_tables, by_shown}
+use Rattle.laws_conditions.specs.rules.Costs.{numbers, may_use, IsCosted}
+use Rattle.laws_conditions.specs.rules.InProofs.{rank_of}
+use Rattle.laws_conditions.specs.rules.Depths.{may_reach}
+use Rattle.laws_conditions.specs.rules.InProofs.{IsCheckedSerially}
+use Rattle.laws_conditions.specs.rules.Serially.{RunsWithinTables}
+use Rattle.laws_conditions.proofs.rules.Costs.{NoFinds}
+use Rattle.laws_conditions.proofs.rules.Serially.{Known, runs_serially, within_tables, by_shown}
 use Rattle.laws_phases.specs.facts.Known.{known_at_place, IsMet, KnownHold}
 use Rattle.laws_phases.specs.facts.Handed.{outs_at}
 use Rattle.laws_phases.specs.facts.Kept.{Knows, Ensures}

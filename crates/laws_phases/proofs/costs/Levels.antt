@@ -24,7 +24,7 @@ use Rattle.region_match.specs.declared.tables.FunctionTasks.{FunctionTasks}
 use Rattle.region_match.specs.declared.tables.Regions.{Regions}
 use Rattle.region_match.specs.Matched.{AreRegionsRight}
 use Rattle.region_match.specs.Tasks.{task_along, task_on, HasTask, innermost, task_at, AreTasks, AreAllTasks}
-use Rattle.laws_phases.specs.conditions.rules.Depths.{Levels}
+use Rattle.laws_conditions.specs.rules.Depths.{Levels}
 use Rattle.laws_phases.specs.defined.Leads.{LeadsTo, IsBlock}
 use Rattle.laws_phases.specs.defined.Names.{IsNamed}
 use Rattle.laws_phases.proofs.defined.Lists.{at_within}

@@ -16,7 +16,7 @@ use Rattle.program.specs.declared.instruction.Phi.{Phi}
 use Rattle.cfg.specs.Edges.{value_from, moves_from}
 use Rattle.ranges.specs.ranges_owed.Inequalities.{operand_for, argument_operand, argument_moves}
 use Rattle.ranges.specs.Truth.{operand_value}
-use Rattle.laws_phases.specs.conditions.rules.Edges.{operand_form, entry_form, phi_forms, argument_forms}
+use Rattle.laws_conditions.specs.rules.Edges.{operand_form, entry_form, phi_forms, argument_forms}
 use Rattle.laws_phases.specs.facts.Owing.{AreApart}
 use Rattle.laws_phases.proofs.facts.Edges.{moved_or, moved_or_is, moved_or_same, value_from_is, not_moved}
 use Rattle.laws_phases.proofs.facts.Calls.{argument_form_value}

@@ -5,7 +5,7 @@ use Rattle.std.proofs.lemmas.List.Sums.{sum_by-cons}
 use Rattle.program.specs.declared.function.Function.{Function}
 use Rattle.program.specs.declared.function.Program.{Program}
 use Rattle.program.specs.declared.instruction.Step.{Step}
-use Rattle.laws_phases.specs.conditions.rules.Costs.{bound_in, bound_of, self_calls_in, instructions_in, cost_below as cost_below_of, instructions_for, self_calls_for, spent_by}
+use Rattle.laws_conditions.specs.rules.Costs.{bound_in, bound_of, self_calls_in, instructions_in, cost_below as cost_below_of, instructions_for, self_calls_for, spent_by}
 use Rattle.program.specs.Calls.{callee_of}
 use Rattle.cost_table.specs.Cost.{cost_below, whole_cost_of, callee_cost, self_call, instructions_of, self_calls_of}
 

@@ -19,7 +19,7 @@ use Rattle.ranges.specs.Sums.{sum_form, shows_form, shows}
 use Rattle.ranges.specs.ranges_owed.Inequalities.{parts_of}
 use Rattle.ranges.specs.Truth.{parts_value, sum_value}
 use Rattle.ranges.proofs.Truth.{form_value}
-use Rattle.laws_phases.specs.conditions.rules.ShownCosts.{IsAtLeast}
+use Rattle.laws_conditions.specs.rules.ShownCosts.{IsAtLeast}
 use Rattle.laws_phases.proofs.defined.Lists.{later_within}
 use Rattle.cfg.proofs.Searching.{Contains_map}
 use Rattle.laws_phases.proofs.facts.Sums.{Moved, unmoved, parts_moved, parts_append}

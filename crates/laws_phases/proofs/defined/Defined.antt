@@ -38,7 +38,7 @@ use Rattle.definedness.specs.Missing.{defined_along}
 use Rattle.definedness.specs.Needs.{gives, given_of, numbers_of, numbers_at}
 use Rattle.definedness.specs.RegisterActs.{register_needs, operand_needs, form_needs, inequality_needs, alloca_needs, object_needs, zone_needs, pending_needs, left_needs, address_needs, argument_needs, instruction_needs, definition_of, definition_gives, step_acts, result_needs, terminator_needs, ending_needs, entry_needs, phi_needs, value_needs, phi_gives, note_needs, start_gives, body_acts, register_acts}
 use Rattle.definedness.specs.Definedness.{registers_from, register_table, AreRegistersDefined}
-use Rattle.laws_phases.specs.conditions.rules.Moves.{number_of, dest_of}
+use Rattle.laws_conditions.specs.rules.Moves.{number_of, dest_of}
 use Rattle.laws_phases.specs.defined.Defined.{listed, steps_define, defined_before}
 use Rattle.laws_phases.proofs.defined.Lists.{none_within, within_cases}
 

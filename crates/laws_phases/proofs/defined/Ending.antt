@@ -10,7 +10,7 @@ use Rattle.program.specs.declared.identifier.BlockId.{BlockId}
 use Rattle.program.specs.declared.function.Program.{Program}
 use Rattle.program.specs.declared.instruction.Terminator.{Terminator}
 use Rattle.program.specs.declared.instruction.Terminator.TheVariants as terminator
-use Rattle.laws_phases.proofs.conditions.rules.Moves.{ends_here}
+use Rattle.laws_conditions.proofs.rules.Moves.{ends_here}
 
 -- a reattach comes of a reattach alone
 abbrev ByReattach : Terminator → Action → Type 0

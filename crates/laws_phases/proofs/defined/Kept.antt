@@ -6,7 +6,7 @@ use Rattle.semantics.specs.Frames.{Value, Registers, Frame, Does, Ends, item_at,
 use Rattle.semantics.specs.Effect.{Sync, Call, Reattach, Detach, argument_values, action_of}
 use Rattle.semantics.specs.State.{detached, continued, synced, called, waiting, resumed}
 use Rattle.semantics.specs.SerialMeaning.{Left, Gave, Outcome}
-use Rattle.laws_phases.specs.conditions.theorem.SerialConditions.{Says, KeptSerially}
+use Rattle.laws_conditions.specs.theorem.SerialConditions.{Says, KeptSerially}
 use Rattle.semantics.specs.SerialMeaning.{one_more, both_outcomes, at_last}
 use Rattle.semantics.proofs.Confluence.{one_result}
 use Rattle.linear.specs.declared.form.RegisterId.{RegisterId}
@@ -30,8 +30,8 @@ use Rattle.region_match.specs.Tasks.{HasTask}
 use Rattle.definedness.specs.Definedness.{IsDefinednessBroken}
 use Rattle.definedness.specs.AllocaActs.{step_cells}
 use Rattle.definedness.specs.Sure.{Labels, IsReattach}
-use Rattle.laws_phases.specs.conditions.rules.Costs.{parameters_of}
-use Rattle.laws_phases.proofs.conditions.rules.Moves.{moves, sync_here, syncs_along, calls_here, forks_here}
+use Rattle.laws_conditions.specs.rules.Costs.{parameters_of}
+use Rattle.laws_conditions.proofs.rules.Moves.{moves, sync_here, syncs_along, calls_here, forks_here}
 use Rattle.laws_phases.specs.defined.Leads.{LeadsTo, IsBlock}
 use Rattle.laws_phases.specs.defined.Names.{IsNamed}
 use Rattle.laws_phases.specs.defined.Placed.{IsPlaced}

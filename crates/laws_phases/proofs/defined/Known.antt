@@ -39,8 +39,8 @@ use Rattle.ranges.specs.ranges_owed.Inequalities.{operand_for, parts_of, differe
 use Rattle.ranges.specs.ranges_owed.Scales.{scale_number, scale_left, scale_right, scale_of}
 use Rattle.ranges.specs.Learned.{is_multiple, is_product, is_between, is_quotient, is_divisor, binary_sums, is_32_bits, conversion_sums, call_sums, learned}
 use Rattle.ranges.specs.Places.{stated, start_facts, with_shows, after_step, facts_before, step_shows, facts_at_step}
-use Rattle.laws_phases.specs.conditions.rules.Moves.{dest_of}
-use Rattle.laws_phases.specs.conditions.rules.Costs.{Lacks}
+use Rattle.laws_conditions.specs.rules.Moves.{dest_of}
+use Rattle.laws_conditions.specs.rules.Costs.{Lacks}
 use Rattle.laws_phases.specs.defined.Leads.{IsBlock}
 use Rattle.laws_phases.specs.defined.Names.{StepDefines}
 use Rattle.laws_phases.specs.defined.Stable.{Names, IsSteady, IsStable}

@@ -27,8 +27,8 @@ use Rattle.definedness.specs.declared.act.Act.TheVariants.{Needs}
 use Rattle.definedness.specs.Needs.{gives}
 use Rattle.definedness.specs.AllocaActs.{element_in, element_object, object_read, address_read, argument_read, step_cells, alloca_acts}
 use Rattle.definedness.specs.Definedness.{IsFunctionBroken, IsDefinednessBroken}
-use Rattle.laws_phases.specs.conditions.rules.Moves.{dest_of}
-use Rattle.laws_phases.specs.conditions.rules.Costs.{parameters_of}
+use Rattle.laws_conditions.specs.rules.Moves.{dest_of}
+use Rattle.laws_conditions.specs.rules.Costs.{parameters_of}
 use Rattle.laws_phases.specs.defined.Leads.{IsBlock}
 use Rattle.laws_phases.specs.defined.Names.{StepDefines, IsNamed}
 use Rattle.laws_phases.specs.defined.Values.{Reads, NamesObjects, Full, Shallow, stored_before, HasValues, ReadsValues, ReadsHaveValues}

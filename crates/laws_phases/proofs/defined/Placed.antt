@@ -8,7 +8,7 @@ use Rattle.semantics.specs.Frames.{Registers, Body, Frame, Item, Does, Ends, ite
 use Rattle.semantics.specs.Effect.{Effect}
 use Rattle.semantics.specs.State.{went, detached, continued, synced, called, waiting, resumed}
 use Rattle.semantics.proofs.Confluence.{one_result}
-use Rattle.laws_phases.specs.conditions.theorem.SerialConditions.{Says, Nothing, KeptSerially}
+use Rattle.laws_conditions.specs.theorem.SerialConditions.{Says, Nothing, KeptSerially}
 use Rattle.linear.specs.declared.form.RegisterId.{RegisterId}
 use Rattle.program.specs.declared.identifier.BlockId.{BlockId}
 use Rattle.program.specs.declared.function.Block.{Block}
@@ -26,9 +26,9 @@ use Rattle.cfg.specs.Edges.{graph_of}
 use Rattle.cfg.specs.Rules.{IsFunctionRight}
 use Rattle.region_match.specs.Rules.{ending_at}
 use Rattle.region_match.specs.Tasks.{task_along, task_on, HasTask}
-use Rattle.laws_phases.specs.conditions.rules.InProofs.{Moves, is_next, is_along}
-use Rattle.laws_phases.specs.conditions.rules.Moves.{SyncsTo}
-use Rattle.laws_phases.proofs.conditions.rules.Moves.{moves, sync_here, calls_here, forks_here}
+use Rattle.laws_conditions.specs.rules.InProofs.{Moves, is_next, is_along}
+use Rattle.laws_conditions.specs.rules.Moves.{SyncsTo}
+use Rattle.laws_conditions.proofs.rules.Moves.{moves, sync_here, calls_here, forks_here}
 use Rattle.laws_phases.specs.defined.Leads.{LeadsTo, IsBlock}
 use Rattle.laws_phases.specs.defined.Names.{IsNamed}
 use Rattle.laws_phases.specs.defined.Placed.{Suits, IsPlaced, Placed, NoFinds, TasksKept, PlacesHaveItems}

@@ -24,10 +24,10 @@ use Rattle.cfg.specs.Edges.{graph_of}
 use Rattle.region_match.specs.Rules.{Starts, IsStarted, IsEndingWrong}
 use Rattle.region_match.specs.Tasks.{task_along, HasTask}
 use Rattle.region_match.specs.Matched.{AreRegionsRight}
-use Rattle.laws_phases.specs.conditions.rules.Moves.{dest_of}
-use Rattle.laws_phases.specs.conditions.rules.InProofs.{Moves, is_next, is_along}
-use Rattle.laws_phases.specs.conditions.rules.Costs.{parameters_of}
-use Rattle.laws_phases.proofs.conditions.rules.Moves.{moves, sync_here, syncs_along, calls_here, forks_here}
+use Rattle.laws_conditions.specs.rules.Moves.{dest_of}
+use Rattle.laws_conditions.specs.rules.InProofs.{Moves, is_next, is_along}
+use Rattle.laws_conditions.specs.rules.Costs.{parameters_of}
+use Rattle.laws_conditions.proofs.rules.Moves.{moves, sync_here, syncs_along, calls_here, forks_here}
 use Rattle.laws_phases.specs.defined.Leads.{IsBlock}
 use Rattle.laws_phases.specs.defined.Names.{StepDefines, IsNamed}
 use Rattle.laws_phases.specs.defined.Placed.{IsPlaced}

@@ -5,7 +5,7 @@ use Rattle.std.proofs.lemmas.Bool.Decides.{eqb_tells}
 use Rattle.std.proofs.lemmas.List.Elements.{Contains-append_left, Contains-append_right, Contains-append_cases}
 use Rattle.semantics.specs.Frames.{Does, Ends, item_at, phis_at}
 use Rattle.semantics.proofs.Confluence.{one_result}
-use Rattle.laws_phases.specs.conditions.theorem.SerialConditions.{Nothing}
+use Rattle.laws_conditions.specs.theorem.SerialConditions.{Nothing}
 use Rattle.program.specs.declared.function.Block.{Block}
 use Rattle.program.specs.declared.function.Function.{Function}
 use Rattle.program.specs.declared.function.Program.{Program}
@@ -26,10 +26,10 @@ use Rattle.definedness.specs.Missing.{defined_along}
 use Rattle.definedness.specs.Needs.{gives, given_of, numbers_at}
 use Rattle.definedness.specs.RegisterActs.{phi_gives, start_gives, gives_below, inequality_needs, instruction_needs}
 use Rattle.definedness.specs.Definedness.{register_table}
-use Rattle.laws_phases.specs.conditions.rules.Moves.{dest_of}
-use Rattle.laws_phases.specs.conditions.rules.Costs.{parameters_of}
-use Rattle.laws_phases.specs.conditions.rules.Registers.{HasPhi, DefinesRegisters}
-use Rattle.laws_phases.proofs.conditions.rules.Registers.{registers_kept}
+use Rattle.laws_conditions.specs.rules.Moves.{dest_of}
+use Rattle.laws_conditions.specs.rules.Costs.{parameters_of}
+use Rattle.laws_conditions.specs.rules.Registers.{HasPhi, DefinesRegisters}
+use Rattle.laws_conditions.proofs.rules.Registers.{registers_kept}
 use Rattle.laws_phases.specs.defined.Leads.{LeadsTo, IsBlock}
 use Rattle.laws_phases.specs.defined.Names.{IsNamed}
 use Rattle.laws_phases.specs.defined.Defined.{listed, steps_define, defined_before, IsAlways, DefinedAreKept, UsesAreDefined}

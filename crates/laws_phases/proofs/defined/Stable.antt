@@ -21,8 +21,8 @@ use Rattle.definedness.specs.Missing.{defined_along}
 use Rattle.definedness.specs.Needs.{given_of, numbers_at}
 use Rattle.definedness.specs.RegisterActs.{inequality_needs, pending_needs, left_needs, zone_needs, instruction_needs, note_needs, register_acts}
 use Rattle.definedness.specs.Definedness.{register_table}
-use Rattle.laws_phases.specs.conditions.rules.Moves.{dest_of}
-use Rattle.laws_phases.specs.conditions.rules.Registers.{HasPhi}
+use Rattle.laws_conditions.specs.rules.Moves.{dest_of}
+use Rattle.laws_conditions.specs.rules.Registers.{HasPhi}
 use Rattle.laws_phases.specs.defined.Leads.{IsBlock}
 use Rattle.laws_phases.specs.defined.Names.{StepDefines, PhiDefines, DefinesOnce, IsNamed}
 use Rattle.laws_phases.specs.defined.Defined.{defined_before, AreUsesDefined}

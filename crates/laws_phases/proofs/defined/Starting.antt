@@ -5,7 +5,7 @@ use Rattle.semantics.specs.Frames.{Word, cell_of}
 use Rattle.semantics.specs.State.{root_frame}
 use Rattle.program.specs.declared.function.Function.{Function}
 use Rattle.program.specs.declared.function.Program.{Program}
-use Rattle.laws_phases.specs.conditions.rules.Costs.{parameters_of}
+use Rattle.laws_conditions.specs.rules.Costs.{parameters_of}
 use Rattle.laws_phases.specs.defined.Names.{StepDefines, IsNamed}
 use Rattle.laws_phases.specs.defined.Placed.{IsPlaced}
 use Rattle.laws_phases.proofs.defined.Stored.{held_at_entry}

@@ -34,9 +34,9 @@ use Rattle.region_match.specs.Tasks.{task_along, HasTask}
 use Rattle.definedness.specs.Needs.{gives}
 use Rattle.definedness.specs.AllocaActs.{instruction_cells, step_cells}
 use Rattle.definedness.specs.Sure.{Labels}
-use Rattle.laws_phases.specs.conditions.rules.Moves.{number_of, dest_of}
-use Rattle.laws_phases.specs.conditions.rules.InProofs.{Moves, is_next, is_along}
-use Rattle.laws_phases.specs.conditions.rules.Costs.{parameters_of}
+use Rattle.laws_conditions.specs.rules.Moves.{number_of, dest_of}
+use Rattle.laws_conditions.specs.rules.InProofs.{Moves, is_next, is_along}
+use Rattle.laws_conditions.specs.rules.Costs.{parameters_of}
 use Rattle.laws_phases.specs.defined.Leads.{LeadsTo, IsBlock}
 use Rattle.laws_phases.specs.defined.Names.{StepDefines, IsNamed}
 use Rattle.laws_phases.specs.defined.Values.{NamesObjects, Full, Shallow, IsLabelled, IsHeldAt, LiesIn, HasValues, KeepsValues}

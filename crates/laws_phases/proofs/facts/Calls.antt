@@ -24,13 +24,13 @@ use Rattle.ranges.specs.Truth.{operand_value, IsTrueAt}
 use Rattle.ranges.specs.ranges_owed.Inequalities.{operand_for, difference_of, argument_operand, argument_moves, result_moves, register_operand, call_moves}
 use Rattle.ranges.specs.Learned.{call_sums}
 use Rattle.ranges.specs.ranges_owed.Owed.{owed, call_owed, inequalities_owed}
-use Rattle.laws_phases.specs.conditions.rules.Costs.{numbers, parameters_of}
+use Rattle.laws_conditions.specs.rules.Costs.{numbers, parameters_of}
 use Rattle.semantics.specs.Cells.{or_zero}
 use Rattle.program.specs.Calls.{parameters_in}
-use Rattle.laws_phases.specs.conditions.rules.Edges.{operand_form, argument_form, argument_forms}
-use Rattle.laws_phases.specs.conditions.rules.Moves.{number_of, Calls}
-use Rattle.laws_phases.specs.conditions.rules.Registers.{returns_number}
-use Rattle.laws_phases.proofs.conditions.rules.Edges.{arguments_word}
+use Rattle.laws_conditions.specs.rules.Edges.{operand_form, argument_form, argument_forms}
+use Rattle.laws_conditions.specs.rules.Moves.{number_of, Calls}
+use Rattle.laws_conditions.specs.rules.Registers.{returns_number}
+use Rattle.laws_conditions.proofs.rules.Edges.{arguments_word}
 use Rattle.laws_phases.specs.facts.Known.{known_at_place, known_in, known_in_block, IsMet, KnownHold}
 use Rattle.laws_phases.specs.facts.Owing.{IsGiven, IsTyped, IsOtherArgument, AreFactsStable}
 use Rattle.ranges.specs.Rules.{AreRangesRight}

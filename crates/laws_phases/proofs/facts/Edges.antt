@@ -48,9 +48,9 @@ use Rattle.ranges.specs.Edges.{compare_of, compared, at_least, above, compare_su
 use Rattle.program.specs.Blocks.{block_phis}
 use Rattle.program.specs.Steps.{or_else}
 use Rattle.ranges.proofs.Truth.{facts_true}
-use Rattle.laws_phases.specs.conditions.rules.Costs.{numbers}
-use Rattle.laws_phases.specs.conditions.rules.Moves.{JumpsTo, SyncsTo}
-use Rattle.laws_phases.proofs.conditions.rules.Moves.{given_case}
+use Rattle.laws_conditions.specs.rules.Costs.{numbers}
+use Rattle.laws_conditions.specs.rules.Moves.{JumpsTo, SyncsTo}
+use Rattle.laws_conditions.proofs.rules.Moves.{given_case}
 use Rattle.laws_phases.specs.facts.Known.{known_at_place, known_in, known_in_block, IsMet, HoldsTest, KnownHold}
 use Rattle.laws_phases.specs.facts.Owing.{AreApart}
 use Rattle.ranges.specs.Rules.{AreRangesRight}

@@ -25,9 +25,9 @@ use Rattle.program.specs.declared.instruction.Operand.{Operand}
 use Rattle.program.specs.declared.instruction.Operand.TheVariants.{Number, Register}
 use Rattle.ranges.specs.Truth.{operand_value, IsTrueAt}
 use Rattle.ranges.specs.Learned.{learned}
-use Rattle.laws_phases.specs.conditions.rules.Costs.{numbers}
-use Rattle.laws_phases.specs.conditions.rules.Moves.{dest_of}
-use Rattle.laws_phases.proofs.conditions.rules.Moves.{no_trap, given_case}
+use Rattle.laws_conditions.specs.rules.Costs.{numbers}
+use Rattle.laws_conditions.specs.rules.Moves.{dest_of}
+use Rattle.laws_conditions.proofs.rules.Moves.{no_trap, given_case}
 use Rattle.laws_phases.specs.facts.Known.{HoldsTest}
 use Rattle.laws_phases.specs.facts.Owing.{IsOther, Avoids, FitsText, FitsConversion, FitsWidths}
 use Rattle.laws_phases.proofs.facts.Sums.{word_value}

@@ -19,11 +19,11 @@ use Rattle.ranges.specs.Sums.{facts_of}
 use Rattle.ranges.specs.Edges.{edges_out}
 use Rattle.ranges.specs.Places.{with_shows, step_shows}
 use Rattle.ranges.proofs.Truth.{facts_true}
-use Rattle.laws_phases.specs.conditions.rules.Costs.{numbers}
-use Rattle.laws_phases.specs.conditions.rules.InProofs.{Moves, is_next, is_along}
-use Rattle.laws_phases.specs.conditions.rules.Moves.{JumpsTo, SyncsTo}
-use Rattle.laws_phases.specs.conditions.rules.ShownCosts.{Out}
-use Rattle.laws_phases.proofs.conditions.rules.Moves.{moves, sync_here, forks_here}
+use Rattle.laws_conditions.specs.rules.Costs.{numbers}
+use Rattle.laws_conditions.specs.rules.InProofs.{Moves, is_next, is_along}
+use Rattle.laws_conditions.specs.rules.Moves.{JumpsTo, SyncsTo}
+use Rattle.laws_conditions.specs.rules.ShownCosts.{Out}
+use Rattle.laws_conditions.proofs.rules.Moves.{moves, sync_here, forks_here}
 use Rattle.laws_phases.specs.facts.Known.{known_at_place, known_in, known_in_block, IsMet, KnownHold}
 use Rattle.ranges.specs.Rules.{AreRangesRight}
 use Rattle.laws_phases.specs.facts.Handed.{out_of, outs_along, outs_behind, outs_in, outs_at, FactsHandedOn, FactsAtStart, FactsTabled}

@@ -11,7 +11,7 @@ use Rattle.semantics.specs.Arithmetic.{Undefined, Unmatched}
 use Rattle.semantics.specs.Effect.{stops, returns, returns_value, Effect, Plain, Sync, Return, registers_along, phi_value, with_phis, terminator_action, item_action, action_of}
 use Rattle.semantics.specs.State.{went, detached, continued, synced, called, with_result}
 use Rattle.semantics.proofs.Outcomes.{gave_same, left_none}
-use Rattle.laws_phases.specs.conditions.theorem.SerialConditions.{Says, KeptSerially}
+use Rattle.laws_conditions.specs.theorem.SerialConditions.{Says, KeptSerially}
 use Rattle.linear.specs.Forms.{value}
 use Rattle.linear_shown.specs.Shown.{AllHold}
 use Rattle.linear.specs.declared.form.Fact.{Fact}
@@ -31,12 +31,12 @@ use Rattle.ranges.specs.ranges_owed.Inequalities.{operand_for, result_moves}
 use Rattle.ranges.specs.Edges.{edges_out}
 use Rattle.ranges.specs.ranges_owed.Owed.{owed_at_end, inequalities_owed}
 use Rattle.ranges.specs.Sums.{is_met}
-use Rattle.laws_phases.specs.conditions.rules.Costs.{numbers, parameters_of}
+use Rattle.laws_conditions.specs.rules.Costs.{numbers, parameters_of}
 use Rattle.program.specs.Calls.{parameters_in}
-use Rattle.laws_phases.specs.conditions.rules.Moves.{dest_of, Calls, Forks}
-use Rattle.laws_phases.specs.conditions.rules.InProofs.{Moves, is_next, is_along}
-use Rattle.laws_phases.specs.conditions.rules.Registers.{returns_number}
-use Rattle.laws_phases.proofs.conditions.rules.Moves.{moves, sync_here, syncs_along, calls_here, forks_here, returns_here, GivenBack}
+use Rattle.laws_conditions.specs.rules.Moves.{dest_of, Calls, Forks}
+use Rattle.laws_conditions.specs.rules.InProofs.{Moves, is_next, is_along}
+use Rattle.laws_conditions.specs.rules.Registers.{returns_number}
+use Rattle.laws_conditions.proofs.rules.Moves.{moves, sync_here, syncs_along, calls_here, forks_here, returns_here, GivenBack}
 use Rattle.laws_phases.specs.facts.Known.{known_at_place, IsMet, KnownHold}
 use Rattle.laws_phases.specs.facts.Owing.{IsGiven, IsTyped, AreFactsStable, HasWidths}
 use Rattle.ranges.specs.Rules.{AreRangesRight}

@@ -25,8 +25,8 @@ use Rattle.definedness.specs.declared.act.Act.{Act}
 use Rattle.definedness.specs.declared.act.Act.TheVariants.{Needs}
 use Rattle.definedness.specs.RegisterActs.{register_needs, operand_needs, object_needs, address_needs, argument_needs, instruction_needs}
 use Rattle.ranges.specs.Places.{step_shows, facts_at_step}
-use Rattle.laws_phases.specs.conditions.rules.Moves.{dest_of}
-use Rattle.laws_phases.specs.conditions.rules.Costs.{parameters_of, Lacks}
+use Rattle.laws_conditions.specs.rules.Moves.{dest_of}
+use Rattle.laws_conditions.specs.rules.Costs.{parameters_of, Lacks}
 use Rattle.laws_phases.specs.facts.Known.{shows_at, known_at_place}
 use Rattle.laws_phases.specs.defined.Names.{NamesOnly}
 use Rattle.laws_phases.specs.facts.Owing.{IsGiven, IsTyped, IsOther, IsOtherArgument, Avoids, LeavesKnown, AreApart, AreFactsStable}

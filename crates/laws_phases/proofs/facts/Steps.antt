@@ -19,9 +19,9 @@ use Rattle.ranges.specs.Truth.{operand_value}
 use Rattle.ranges.specs.Learned.{learned}
 use Rattle.ranges.specs.Places.{with_shows}
 use Rattle.ranges.proofs.Truth.{facts_true}
-use Rattle.laws_phases.specs.conditions.rules.Costs.{numbers, Lacks}
+use Rattle.laws_conditions.specs.rules.Costs.{numbers, Lacks}
 use Rattle.semantics.specs.Cells.{or_zero}
-use Rattle.laws_phases.specs.conditions.rules.Moves.{dest_of}
+use Rattle.laws_conditions.specs.rules.Moves.{dest_of}
 use Rattle.laws_phases.specs.facts.Known.{known_at_place, HoldsTest, KnownHold}
 use Rattle.laws_phases.specs.facts.Owing.{IsOther, IsUntouched, LeavesKnown, AreFactsStable}
 use Rattle.ranges.specs.Rules.{AreRangesRight}

@@ -44,7 +44,7 @@ use Rattle.ranges.specs.ranges_owed.Scales.{scale_of}
 use Rattle.ranges.specs.ranges_owed.Owed.{must, half, last_bit, is_not_zero, is_not_least_by_minus_one, product_owed, binary_owed, index_owed, owed, greatest as greatest_owed, is_amount as amount_owed}
 use Rattle.program.specs.Cells.{object_cells as cells_owed, global_cells, alloca_cells, parameter_cells}
 use Rattle.ranges.proofs.Truth.{met_true}
-use Rattle.laws_phases.specs.conditions.rules.Costs.{numbers}
+use Rattle.laws_conditions.specs.rules.Costs.{numbers}
 use Rattle.laws_phases.specs.facts.Known.{known_at_place}
 use Rattle.laws_phases.specs.facts.Traps.{IsThere, FindsAll, MayEnd, NoTraps}
 use Rattle.laws_phases.proofs.facts.Sums.{word_value}

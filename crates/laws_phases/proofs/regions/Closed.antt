@@ -7,7 +7,7 @@ use Rattle.semantics.specs.Frames.{Value, Registers, Frame, Ends, item_at}
 use Rattle.semantics.specs.Effect.{Effect, Action, Detach, Reattach, Sync, Call, Return, action_of}
 use Rattle.semantics.specs.State.{went, continued, synced, waiting, resumed}
 use Rattle.semantics.specs.SerialMeaning.{Left, Gave}
-use Rattle.laws_phases.specs.conditions.theorem.SerialConditions.{Nothing, KeptSerially}
+use Rattle.laws_conditions.specs.theorem.SerialConditions.{Nothing, KeptSerially}
 use Rattle.semantics.specs.SerialMeaning.{at_last}
 use Rattle.semantics.proofs.Confluence.{one_result}
 use Rattle.linear.specs.declared.form.RegisterId.{RegisterId}
@@ -22,9 +22,9 @@ use Rattle.cfg.specs.declared.structure.Way.TheVariants as way
 use Rattle.cfg.specs.Rules.{IsGraphRight}
 use Rattle.region_match.specs.Rules.{ending_at, is_leave}
 use Rattle.region_match.specs.Matched.{IsFunctionBroken, AreRegionsRight}
-use Rattle.laws_phases.specs.conditions.rules.InProofs.{Moves, is_next, is_along}
-use Rattle.laws_phases.specs.conditions.rules.Moves.{JumpsTo, SyncsTo, EndsFrame}
-use Rattle.laws_phases.proofs.conditions.rules.Moves.{IsEnding, moves, sync_here, forks_here, ends_here}
+use Rattle.laws_conditions.specs.rules.InProofs.{Moves, is_next, is_along}
+use Rattle.laws_conditions.specs.rules.Moves.{JumpsTo, SyncsTo, EndsFrame}
+use Rattle.laws_conditions.proofs.rules.Moves.{IsEnding, moves, sync_here, forks_here, ends_here}
 use Rattle.laws_phases.specs.defined.Leads.{LeadsTo}
 use Rattle.laws_phases.specs.defined.Names.{IsNamed}
 use Rattle.laws_phases.specs.defined.Placed.{IsPlaced, Placed, NoFinds}

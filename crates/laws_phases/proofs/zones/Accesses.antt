@@ -30,7 +30,7 @@ use Rattle.footprints.specs.Cells.{end_value, HasCell}
 use Rattle.footprints.specs.Footprints.{Place, pointed, pointer_of, address_cell, form_at, cells_zone, access_use, cell_use, step_use, first_cell as first_named}
 use Rattle.program.specs.Steps.{or_else}
 use Rattle.footprints.specs.Rules.{place_in}
-use Rattle.laws_phases.specs.conditions.rules.Costs.{numbers}
+use Rattle.laws_conditions.specs.rules.Costs.{numbers}
 use Rattle.laws_phases.specs.zones.Uses.{StandsIn, KnownHolds, NamesApart, IsAt, ElementsHold, task_of, MayUse}
 use Rattle.footprints.specs.Rules.{AreZonesRightBy}
 use Rattle.laws_phases.specs.zones.Accesses.{AccessesAreLet}

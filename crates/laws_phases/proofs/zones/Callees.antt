@@ -37,8 +37,8 @@ use Rattle.footprints.specs.Zones.{span}
 use Rattle.footprints.specs.Cells.{terms_value, end_value}
 use Rattle.footprints.specs.Footprints.{Place, argument_object, put_object, put_in, is_put_allowed, is_put_clear, callee_use, call_use, step_use}
 use Rattle.footprints.specs.Rules.{place_in}
-use Rattle.laws_phases.specs.conditions.rules.Costs.{numbers}
-use Rattle.laws_phases.proofs.conditions.rules.Moves.{calls_here}
+use Rattle.laws_conditions.specs.rules.Costs.{numbers}
+use Rattle.laws_conditions.proofs.rules.Moves.{calls_here}
 use Rattle.laws_phases.specs.zones.Uses.{StandsIn, KnownHolds, IsUsed, NamesApart, HoldsCell, task_of, MayUse}
 use Rattle.footprints.specs.Rules.{AreZonesRightBy}
 use Rattle.laws_phases.specs.zones.Callees.{IsOverParameters, CalleesAreLet}

@@ -21,7 +21,7 @@ use Rattle.ranges.specs.Places.{facts_at_end}
 use Rattle.footprints.specs.Zones.{as_written}
 use Rattle.footprints.specs.Footprints.{Place, is_allowed, is_clear, foot_of, end_use}
 use Rattle.footprints.specs.Rules.{place_in}
-use Rattle.laws_phases.proofs.conditions.rules.Moves.{forks_here}
+use Rattle.laws_conditions.proofs.rules.Moves.{forks_here}
 use Rattle.laws_phases.specs.zones.Uses.{StandsIn, KnownHolds, NamesApart, HoldsCell, task_of, MayUse}
 use Rattle.footprints.specs.Rules.{AreZonesRightBy}
 use Rattle.laws_phases.specs.zones.Children.{FeetAreLet}

@@ -27,7 +27,7 @@ use Rattle.footprints.specs.Zones.{span, as_written, is_empty, covers}
 use Rattle.footprints.specs.Cells.{terms_value, end_value}
 use Rattle.footprints.specs.Footprints.{foot_of, hands_on, is_passed, are_passed, foot_passed, child_passed_on, pending_of}
 use Rattle.footprints.proofs.CellLaws.{empty_cells, covered_cells, covers_mode}
-use Rattle.laws_phases.specs.conditions.rules.Costs.{numbers}
+use Rattle.laws_conditions.specs.rules.Costs.{numbers}
 use Rattle.types.specs.Apart.{in_pending}
 use Rattle.laws_phases.specs.zones.Uses.{StandsIn, IsUsed, HoldsCell}
 use Rattle.laws_phases.specs.zones.Edges.{GoesAlong, IsPendingFor, PendingGoesOn, FeetGoOn}

@@ -24,7 +24,7 @@ use Rattle.footprints.specs.Cells.{terms_value, end_value, HasCell}
 use Rattle.footprints.specs.Footprints.{is_own, is_allowed, is_clear}
 use Rattle.footprints.specs.Rules.{covering_of, is_own_block, place_in}
 use Rattle.footprints.proofs.CellLaws.{covered_by_one, shared_cells}
-use Rattle.laws_phases.specs.conditions.rules.Costs.{numbers}
+use Rattle.laws_conditions.specs.rules.Costs.{numbers}
 use Rattle.laws_phases.specs.zones.Uses.{StandsIn, IsUsed, NamesApart, HoldsCell, IsInOne, IsOwnCell, IsClearOf, task_of, MayUse}
 use Rattle.laws_phases.proofs.zones.Places.{get_is, all_pass}
 

@@ -11,8 +11,8 @@ use Rattle.semantics.specs.State.{went}
 use Rattle.program.specs.declared.annotation.Zone.{Zone}
 use Rattle.program.specs.declared.identifier.ObjectName.{ObjectName}
 use Rattle.program.specs.declared.identifier.ObjectName.TheVariants.{Global, Alloca, Parameter}
-use Rattle.laws_phases.specs.conditions.rules.Moves.{GoesOn}
-use Rattle.laws_phases.specs.conditions.rules.Costs.{numbers, Lacks}
+use Rattle.laws_conditions.specs.rules.Moves.{GoesOn}
+use Rattle.laws_conditions.specs.rules.Costs.{numbers, Lacks}
 use Rattle.laws_phases.specs.zones.Uses.{HoldsCell}
 use Rattle.laws_phases.specs.zones.Stays.{IsUnnamed, ZonesStay}
 

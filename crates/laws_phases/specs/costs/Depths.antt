@@ -9,7 +9,7 @@ use Rattle.program.specs.declared.instruction.Argument.{Argument}
 use Rattle.program.specs.declared.instruction.Instruction.TheVariants as instruction
 use Rattle.region_match.specs.declared.task.Task.{Task}
 use Rattle.region_match.specs.declared.tables.Regions.{Regions}
-use Rattle.laws_phases.specs.conditions.rules.Depths.{DepthTable}
+use Rattle.laws_conditions.specs.rules.Depths.{DepthTable}
 use Rattle.cost_table.specs.Depth.{detaches_around, depth_from, first_depths, tasks_of}
 
 abbrev pub level_of : Regions → ℕ → ℕ → ℕ

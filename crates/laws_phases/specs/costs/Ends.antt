@@ -5,15 +5,15 @@ use Rattle.semantics.specs.Cells.{Memory, globals_of}
 use Rattle.semantics.specs.Frames.{Frame}
 use Rattle.semantics.specs.State.{root_frame}
 use Rattle.semantics.specs.SerialMeaning.{Outcome, meaning, IsSerialMeaning}
-use Rattle.laws_phases.specs.conditions.theorem.SerialConditions.{Nothing, KeptSerially}
+use Rattle.laws_conditions.specs.theorem.SerialConditions.{Nothing, KeptSerially}
 use Rattle.program.specs.declared.function.Function.{Function}
 use Rattle.program.specs.declared.function.Program.{Program}
 use Rattle.cfg.specs.Edges.{graphs_of}
 use Rattle.region_match.specs.Matched.{AreRegionsRight}
 use Rattle.region_match.specs.Tasks.{AreAllTasks}
 use Rattle.region_match.specs.declared.tables.Regions.{Regions}
-use Rattle.laws_phases.specs.conditions.rules.Costs.{bound_of, numbers, may_use, IsCosted}
-use Rattle.laws_phases.specs.conditions.rules.Depths.{may_reach}
+use Rattle.laws_conditions.specs.rules.Costs.{bound_of, numbers, may_use, IsCosted}
+use Rattle.laws_conditions.specs.rules.Depths.{may_reach}
 use Rattle.laws_phases.specs.defined.Names.{IsNamed}
 use Rattle.laws_phases.specs.facts.Known.{IsMet, KnownHold}
 use Rattle.ranges.specs.Rules.{AreRangesRight}

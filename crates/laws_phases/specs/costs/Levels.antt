@@ -5,7 +5,7 @@ use Rattle.cfg.specs.Rules.{IsGraphRight}
 use Rattle.region_match.specs.Matched.{AreRegionsRight}
 use Rattle.region_match.specs.Tasks.{AreAllTasks}
 use Rattle.region_match.specs.declared.tables.Regions.{Regions}
-use Rattle.laws_phases.specs.conditions.rules.Depths.{Levels}
+use Rattle.laws_conditions.specs.rules.Depths.{Levels}
 use Rattle.laws_phases.specs.defined.Names.{IsNamed}
 use Rattle.laws_phases.specs.costs.Depths.{level_of}
 

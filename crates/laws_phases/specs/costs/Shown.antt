@@ -3,7 +3,7 @@ use Rattle.std.specs.Prelude.{◌≡◌, ℕ, ◌<◌, length, Some, All, true, 
 use Rattle.program.specs.declared.function.Function.{Function}
 use Rattle.program.specs.declared.function.Program.{Program}
 use Rattle.cfg.specs.Rules.{IsGraphRight}
-use Rattle.laws_phases.specs.conditions.rules.ShownCosts.{CostsShown}
+use Rattle.laws_conditions.specs.rules.ShownCosts.{CostsShown}
 use Rattle.laws_phases.specs.defined.Stable.{IsStable as LeavesNamedAlone}
 use Rattle.laws_phases.specs.facts.Known.{known_at_place}
 use Rattle.laws_phases.specs.facts.Owing.{IsTyped, AreFactsStable}

@@ -1,7 +1,7 @@
 -- Registers that are defined on each path to a place, as the rule on registers has them.
 use Rattle.std.specs.Prelude.{◌≡◌, ℕ, zero, suc, List, [], ◌∷◌, ◌++◌, length, map, Option, Some, None, Contains, slice_get}
 use Rattle.semantics.specs.Frames.{Does, item_at}
-use Rattle.laws_phases.specs.conditions.theorem.SerialConditions.{Nothing, KeptSerially}
+use Rattle.laws_conditions.specs.theorem.SerialConditions.{Nothing, KeptSerially}
 use Rattle.std.specs.List.{flat_map}
 use Rattle.program.specs.declared.function.Block.{Block}
 use Rattle.program.specs.declared.function.Function.{Function}
@@ -16,8 +16,8 @@ use Rattle.definedness.specs.declared.act.Act.TheVariants.{Needs}
 use Rattle.definedness.specs.RegisterActs.{phi_gives, start_gives, instruction_needs}
 use Rattle.region_match.specs.Matched.{AreRegionsRight}
 use Rattle.definedness.specs.Definedness.{register_table, AreRegistersDefined}
-use Rattle.laws_phases.specs.conditions.rules.Moves.{dest_of}
-use Rattle.laws_phases.specs.conditions.rules.Registers.{Registered, GivesNumber}
+use Rattle.laws_conditions.specs.rules.Moves.{dest_of}
+use Rattle.laws_conditions.specs.rules.Registers.{Registered, GivesNumber}
 use Rattle.laws_phases.specs.defined.Leads.{IsBlock}
 use Rattle.laws_phases.specs.defined.Names.{IsNamed}
 

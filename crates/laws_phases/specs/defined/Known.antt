@@ -10,7 +10,7 @@ use Rattle.program.specs.declared.function.Program.{Program}
 use Rattle.program.specs.declared.instruction.Argument.{Argument}
 use Rattle.program.specs.declared.instruction.Instruction.TheVariants as instruction
 use Rattle.ranges.specs.Places.{facts_at_step}
-use Rattle.laws_phases.specs.conditions.rules.Costs.{Lacks}
+use Rattle.laws_conditions.specs.rules.Costs.{Lacks}
 use Rattle.laws_phases.specs.defined.Leads.{IsBlock}
 use Rattle.laws_phases.specs.defined.Names.{StepDefines, NamesOnly}
 use Rattle.laws_phases.specs.defined.Stable.{IsStable}

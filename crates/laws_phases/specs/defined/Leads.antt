@@ -7,7 +7,7 @@ use Rattle.program.specs.declared.instruction.Terminator.{Terminator}
 use Rattle.program.specs.declared.instruction.Terminator.TheVariants as terminator
 use Rattle.cfg.specs.declared.structure.Way.{Way}
 use Rattle.cfg.specs.declared.structure.Way.TheVariants as way
-use Rattle.laws_phases.specs.conditions.rules.Moves.{JumpsTo, SyncsTo}
+use Rattle.laws_conditions.specs.rules.Moves.{JumpsTo, SyncsTo}
 
 abbrev pub DetachesTo : Terminator → ℕ → Type 0
 DetachesTo (terminator.Jump target) b = ⊥

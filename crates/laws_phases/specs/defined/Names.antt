@@ -14,9 +14,9 @@ use Rattle.program.specs.declared.instruction.Terminator.{Terminator}
 use Rattle.program.specs.declared.instruction.Terminator.TheVariants as terminator
 use Rattle.program.specs.declared.annotation.Inequality.{Inequality}
 use Rattle.cfg.specs.declared.structure.Way.{Way}
-use Rattle.laws_phases.specs.conditions.rules.Moves.{dest_of}
-use Rattle.laws_phases.specs.conditions.rules.Costs.{parameters_of}
-use Rattle.laws_phases.specs.conditions.rules.Registers.{returns_number}
+use Rattle.laws_conditions.specs.rules.Moves.{dest_of}
+use Rattle.laws_conditions.specs.rules.Costs.{parameters_of}
+use Rattle.laws_conditions.specs.rules.Registers.{returns_number}
 use Rattle.laws_phases.specs.defined.Leads.{LeadsTo, IsBlock}
 
 -- both sides of the inequality name such registers alone

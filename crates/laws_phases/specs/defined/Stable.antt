@@ -16,7 +16,7 @@ use Rattle.region_match.specs.Matched.{AreRegionsRight}
 use Rattle.definedness.specs.declared.act.Act.{Act}
 use Rattle.definedness.specs.declared.act.Act.TheVariants.{Needs}
 use Rattle.definedness.specs.RegisterActs.{inequality_needs, pending_needs, left_needs, zone_needs, instruction_needs}
-use Rattle.laws_phases.specs.conditions.rules.Moves.{dest_of}
+use Rattle.laws_conditions.specs.rules.Moves.{dest_of}
 use Rattle.laws_phases.specs.defined.Leads.{IsBlock}
 use Rattle.laws_phases.specs.defined.Names.{StepDefines, PhiDefines, IsNamed}
 use Rattle.laws_phases.specs.defined.Defined.{AreUsesDefined}

@@ -5,8 +5,8 @@ use Rattle.semantics.specs.Frames.{block_at, global_cells}
 use Rattle.semantics.specs.State.{root_frame}
 use Rattle.program.specs.declared.function.Program.{Program}
 use Rattle.region_match.specs.Matched.{AreRegionsRight}
-use Rattle.laws_phases.specs.conditions.rules.Costs.{parameters_of}
-use Rattle.laws_phases.specs.conditions.rules.Registers.{Registered}
+use Rattle.laws_conditions.specs.rules.Costs.{parameters_of}
+use Rattle.laws_conditions.specs.rules.Registers.{Registered}
 use Rattle.laws_phases.specs.defined.Names.{IsNamed}
 use Rattle.laws_phases.specs.defined.Placed.{IsPlaced}
 use Rattle.laws_phases.specs.defined.Defined.{IsAlways}

@@ -5,7 +5,7 @@ use Rattle.semantics.specs.Paths.{Path}
 use Rattle.semantics.specs.Cells.{Object, Shared, Local, Cell, Memory}
 use Rattle.semantics.specs.Frames.{Frame, Does, item_at, global_cells, cells_of, cell_of, object_at, cell_at}
 use Rattle.semantics.specs.SerialMeaning.{Left, Outcome}
-use Rattle.laws_phases.specs.conditions.theorem.SerialConditions.{KeptSerially}
+use Rattle.laws_conditions.specs.theorem.SerialConditions.{KeptSerially}
 use Rattle.linear.specs.declared.form.RegisterId.{RegisterId}
 use Rattle.program.specs.declared.identifier.FunctionId.{FunctionId}
 use Rattle.program.specs.declared.identifier.AllocaId.{AllocaId}
@@ -31,7 +31,7 @@ use Rattle.definedness.specs.AllocaActs.{step_cells}
 use Rattle.definedness.specs.Needs.{gives, given_of}
 use Rattle.definedness.specs.Definedness.{alloca_table, IsDefinednessBroken}
 use Rattle.definedness.specs.Sure.{Labels, IsHeld, IsStored, IsReattach, AreSets}
-use Rattle.laws_phases.specs.conditions.rules.Costs.{parameters_of}
+use Rattle.laws_conditions.specs.rules.Costs.{parameters_of}
 use Rattle.types.specs.Apart.{InstructionNames}
 use Rattle.laws_phases.specs.defined.Leads.{IsBlock}
 use Rattle.laws_phases.specs.defined.Names.{IsNamed}

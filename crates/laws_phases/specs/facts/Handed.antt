@@ -14,8 +14,8 @@ use Rattle.ranges.specs.declared.edge.EdgeSums.{EdgeSums}
 use Rattle.ranges.specs.Sums.{facts_of}
 use Rattle.ranges.specs.Edges.{edges_out}
 use Rattle.ranges.specs.Places.{facts_at_step, facts_at_end}
-use Rattle.laws_phases.specs.conditions.rules.Costs.{numbers}
-use Rattle.laws_phases.specs.conditions.rules.ShownCosts.{Out, FactsHold}
+use Rattle.laws_conditions.specs.rules.Costs.{numbers}
+use Rattle.laws_conditions.specs.rules.ShownCosts.{Out, FactsHold}
 use Rattle.laws_phases.specs.facts.Known.{known_at_place, IsMet, KnownHold}
 use Rattle.laws_phases.specs.facts.Owing.{IsTyped, AreFactsStable}
 use Rattle.ranges.specs.Rules.{AreRangesRight}

@@ -4,12 +4,12 @@ use Rattle.semantics.specs.Paths.{Path}
 use Rattle.semantics.specs.Cells.{Memory, or_zero}
 use Rattle.semantics.specs.Frames.{Registers, Frame}
 use Rattle.semantics.specs.SerialMeaning.{Gave}
-use Rattle.laws_phases.specs.conditions.theorem.SerialConditions.{Says, Finds, KeptSerially}
+use Rattle.laws_conditions.specs.theorem.SerialConditions.{Says, Finds, KeptSerially}
 use Rattle.program.specs.declared.function.Function.{Function}
 use Rattle.program.specs.declared.function.Program.{Program}
 use Rattle.ranges.specs.Rules.{AreRangesRight}
-use Rattle.laws_phases.specs.conditions.rules.Costs.{numbers}
-use Rattle.laws_phases.specs.conditions.rules.Registers.{returns_number}
+use Rattle.laws_conditions.specs.rules.Costs.{numbers}
+use Rattle.laws_conditions.specs.rules.Registers.{returns_number}
 use Rattle.laws_phases.specs.facts.Known.{IsMet, KnownHold}
 use Rattle.laws_phases.specs.facts.Owing.{IsTyped, AreFactsStable, HasWidths}
 

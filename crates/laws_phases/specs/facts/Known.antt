@@ -15,7 +15,7 @@ use Rattle.program.specs.declared.instruction.Instruction.TheVariants as instruc
 use Rattle.program.specs.declared.instruction.Step.{Step}
 use Rattle.ranges.specs.Truth.{operand_value}
 use Rattle.ranges.specs.Places.{start_facts, with_shows, facts_before}
-use Rattle.laws_phases.specs.conditions.rules.Costs.{numbers}
+use Rattle.laws_conditions.specs.rules.Costs.{numbers}
 
 -- the `shows` lines before a step, and at the index behind all steps those before the terminator
 abbrev pub shows_at : List Step → Option Ending → ℕ → List Inequality

@@ -22,9 +22,9 @@ use Rattle.program.specs.declared.instruction.Step.{Step}
 use Rattle.program.specs.declared.instruction.Terminator.{Terminator}
 use Rattle.program.specs.declared.instruction.Terminator.TheVariants as terminator
 use Rattle.ranges.specs.Edges.{edges_out}
-use Rattle.laws_phases.specs.conditions.rules.Moves.{dest_of}
-use Rattle.laws_phases.specs.conditions.rules.Costs.{parameters_of, Lacks}
-use Rattle.laws_phases.specs.conditions.rules.Registers.{returns_number}
+use Rattle.laws_conditions.specs.rules.Moves.{dest_of}
+use Rattle.laws_conditions.specs.rules.Costs.{parameters_of, Lacks}
+use Rattle.laws_conditions.specs.rules.Registers.{returns_number}
 use Rattle.laws_phases.specs.facts.Known.{known_at_place}
 use Rattle.laws_phases.specs.defined.Names.{NamesOnly}
 

@@ -3,7 +3,7 @@ use Rattle.std.specs.Prelude.{◌≡◌, ◌↔◌, ℕ, Bool, true, is_some, So
 use Rattle.semantics.specs.Paths.{Path}
 use Rattle.semantics.specs.Frames.{Frame, block_at}
 use Rattle.semantics.specs.State.{root_frame}
-use Rattle.laws_phases.specs.conditions.theorem.Conditions.{ClosesRegions}
+use Rattle.laws_conditions.specs.theorem.Conditions.{ClosesRegions}
 use Rattle.program.specs.declared.function.Function.{Function}
 use Rattle.program.specs.declared.function.Program.{Program}
 use Rattle.cfg.specs.Edges.{graph_of}

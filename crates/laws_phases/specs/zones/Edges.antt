@@ -23,7 +23,7 @@ use Rattle.ranges.specs.Places.{edges_known}
 use Rattle.ranges.specs.Truth.{operand_value}
 use Rattle.footprints.specs.Zones.{mode_covers}
 use Rattle.footprints.specs.Footprints.{foot_of, hands_on, pending_of}
-use Rattle.laws_phases.specs.conditions.rules.Costs.{numbers}
+use Rattle.laws_conditions.specs.rules.Costs.{numbers}
 use Rattle.laws_phases.specs.zones.Uses.{StandsIn, IsUsed, HoldsCell}
 use Rattle.footprints.specs.Rules.{AreZonesRightBy}
 

@@ -6,8 +6,8 @@ use Rattle.semantics.specs.Effect.{Effect}
 use Rattle.semantics.specs.State.{went}
 use Rattle.program.specs.declared.annotation.Zone.{Zone}
 use Rattle.program.specs.declared.identifier.ObjectName.TheVariants.{Parameter}
-use Rattle.laws_phases.specs.conditions.rules.Moves.{GoesOn}
-use Rattle.laws_phases.specs.conditions.rules.Costs.{Lacks}
+use Rattle.laws_conditions.specs.rules.Moves.{GoesOn}
+use Rattle.laws_conditions.specs.rules.Costs.{Lacks}
 use Rattle.laws_phases.specs.zones.Uses.{HoldsCell}
 
 -- the zone names no such register

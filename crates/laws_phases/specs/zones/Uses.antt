@@ -32,7 +32,7 @@ use Rattle.footprints.specs.Zones.{mode_covers, modes_agree}
 use Rattle.footprints.specs.Footprints.{pointed}
 use Rattle.footprints.specs.Rules.{covering_of, is_own_block}
 use Rattle.region_match.specs.Tasks.{tasks_in}
-use Rattle.laws_phases.specs.conditions.rules.Costs.{numbers}
+use Rattle.laws_conditions.specs.rules.Costs.{numbers}
 
 -- the effect uses the cell in this way
 abbrev pub Uses : Effect → Mode → Cell → Type 0

@@ -6,15 +6,15 @@ use Rattle.semantics.specs.Frames.{Value, Registers, OnCall, Frame}
 use Rattle.semantics.specs.Effect.{Effect, Action, Plain, Sync, instruction_action, item_action, action_of}
 use Rattle.semantics.specs.State.{went, detached, continued, synced, called, waiting, resumed}
 use Rattle.semantics.proofs.Diamond.{no_call_after}
-use Rattle.laws_phases.specs.conditions.theorem.SerialConditions.{Says, Nothing, KeptSerially}
+use Rattle.laws_conditions.specs.theorem.SerialConditions.{Says, Nothing, KeptSerially}
 use Rattle.linear.specs.declared.form.RegisterId.{RegisterId}
 use Rattle.program.specs.declared.function.Function.{Function}
 use Rattle.program.specs.declared.function.Program.{Program}
 use Rattle.program.specs.declared.instruction.Instruction.TheVariants as instruction
 use Rattle.program.specs.Calls.{parameters_in}
-use Rattle.laws_phases.specs.conditions.rules.InProofs.{Moves, is_next, is_along}
-use Rattle.laws_phases.specs.conditions.rules.Moves.{Calls}
-use Rattle.laws_phases.proofs.conditions.rules.Moves.{moves, syncs_along, calls_here}
+use Rattle.laws_conditions.specs.rules.InProofs.{Moves, is_next, is_along}
+use Rattle.laws_conditions.specs.rules.Moves.{Calls}
+use Rattle.laws_conditions.proofs.rules.Moves.{moves, syncs_along, calls_here}
 use Rattle.laws_phases.specs.defined.Placed.{NoFinds}
 use Rattle.laws_phases.specs.facts.Owing.{IsTyped}
 use Rattle.laws_schedule.specs.typing.Kinds.{IsResult, HasKinds}

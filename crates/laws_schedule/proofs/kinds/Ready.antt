@@ -49,7 +49,7 @@ use Rattle.laws_schedule.specs.kinds.Uses.{address_in}
 use Rattle.laws_schedule.specs.kinds.Ready.{IsReadByRules, HoldsAll, FramesAreReady}
 use Rattle.laws_schedule.proofs.kinds.Registers.{entry_kinded}
 use Rattle.laws_schedule.proofs.kinds.Needed.{entry_there, end_at, end_defined, value_defined, edge_at}
-use Rattle.laws_phases.proofs.conditions.rules.Moves.{case_to}
+use Rattle.laws_conditions.proofs.rules.Moves.{case_to}
 
 -- ---- values of their kinds
 

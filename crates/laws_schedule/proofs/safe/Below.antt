@@ -16,7 +16,7 @@ use Rattle.program.specs.declared.function.RegisterKind.{RegisterKind}
 use Rattle.program.specs.declared.instruction.Instruction.{Instruction}
 use Rattle.program.specs.declared.instruction.Instruction.TheVariants as instruction
 use Rattle.program.specs.declared.instruction.Phi.{Phi}
-use Rattle.laws_phases.specs.conditions.rules.Moves.{dest_of, number_of}
+use Rattle.laws_conditions.specs.rules.Moves.{dest_of, number_of}
 use Rattle.laws_phases.specs.facts.Owing.{AreApart}
 use Rattle.laws_schedule.specs.typing.Kinds.{IsOfKind, IsResult, IsKinded, HasKinds}
 

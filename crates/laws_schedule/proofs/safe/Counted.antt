@@ -5,8 +5,8 @@ use Rattle.semantics.specs.Frames.{Frame}
 use Rattle.semantics.specs.State.{State, Change, apply}
 use Rattle.semantics.proofs.Steps.{Does}
 use Rattle.program.specs.declared.function.Program.{Program}
-use Rattle.laws_phases.specs.conditions.rules.InProofs.{Moves, is_next, is_along}
-use Rattle.laws_phases.proofs.conditions.rules.Moves.{moves}
+use Rattle.laws_conditions.specs.rules.InProofs.{Moves, is_next, is_along}
+use Rattle.laws_conditions.proofs.rules.Moves.{moves}
 use Rattle.laws_schedule.specs.safe.Kept.{OfAll, IsWithin, FramesAreCounted}
 use Rattle.laws_schedule.proofs.safe.Everywhere.{of_first}
 use Rattle.laws_schedule.proofs.safe.Made.{PassesOn, all_after}

@@ -4,8 +4,8 @@ use Rattle.semantics.specs.Paths.{Path}
 use Rattle.semantics.specs.Frames.{Value, Registers, OnCall, Frame}
 use Rattle.semantics.specs.Effect.{Effect, Plain, Detach, Sync, Call, action_of}
 use Rattle.semantics.specs.State.{State, Change, apply, override, went, detached, continued, synced, called, waiting, resumed, only, both}
-use Rattle.laws_phases.specs.conditions.theorem.Conditions.{Going}
-use Rattle.laws_phases.proofs.conditions.theorem.Feet.{going_now}
+use Rattle.laws_conditions.specs.theorem.Conditions.{Going}
+use Rattle.laws_conditions.proofs.theorem.Feet.{going_now}
 use Rattle.semantics.proofs.Places.{only_at, both_at}
 use Rattle.semantics.proofs.Steps.{Does, plain, detach, reattach, sync, call, ret, end}
 use Rattle.linear.specs.declared.form.RegisterId.{RegisterId}

@@ -21,10 +21,10 @@ use Rattle.program.specs.declared.instruction.Instruction.{Instruction}
 use Rattle.program.specs.declared.instruction.Instruction.TheVariants as instruction
 use Rattle.program.specs.declared.instruction.Operand.{Operand}
 use Rattle.laws_phases.specs.cfg.declared.structure.Way.TheVariants as way
-use Rattle.laws_phases.specs.conditions.rules.Costs.{parameters_of}
-use Rattle.laws_phases.specs.conditions.rules.Moves.{number_of, dest_of, Calls}
-use Rattle.laws_phases.specs.conditions.rules.InProofs.{Moves, is_next, is_along}
-use Rattle.laws_phases.proofs.conditions.rules.Moves.{moves, syncs_along, sync_here, calls_here}
+use Rattle.laws_conditions.specs.rules.Costs.{parameters_of}
+use Rattle.laws_conditions.specs.rules.Moves.{number_of, dest_of, Calls}
+use Rattle.laws_conditions.specs.rules.InProofs.{Moves, is_next, is_along}
+use Rattle.laws_conditions.proofs.rules.Moves.{moves, syncs_along, sync_here, calls_here}
 use Rattle.laws_phases.specs.defined.Names.{IsNamed}
 use Rattle.laws_phases.specs.defined.Values.{NamesObjects}
 use Rattle.laws_phases.proofs.defined.Items.{stands}

@@ -14,7 +14,7 @@ use Rattle.program.specs.declared.instruction.Instruction.TheVariants as instruc
 use Rattle.program.specs.declared.instruction.Terminator.{Terminator}
 use Rattle.program.specs.declared.instruction.Terminator.TheVariants as terminator
 use Rattle.laws_phases.specs.facts.Traps.{IsThere, IsFull, FindsAll, MayEnd, IsReady}
-use Rattle.laws_phases.proofs.conditions.rules.Moves.{no_trap}
+use Rattle.laws_conditions.proofs.rules.Moves.{no_trap}
 
 abbrev pub NoTrap : Action → Type 0
 NoTrap (Plain e) = e.trap ≡ None

@@ -9,7 +9,7 @@ use Rattle.semantics.specs.Events.{Machine, Event, Step, Steal, Status, Ready, R
 use Rattle.semantics.specs.Replay.{or_unchanged, replay, NeverTraps}
 use Rattle.semantics.proofs.Steps.{Does, does}
 use Rattle.program.specs.declared.function.Program.{Program}
-use Rattle.laws_phases.proofs.conditions.theorem.Theorem.{not_trapped}
+use Rattle.laws_conditions.proofs.theorem.Theorem.{not_trapped}
 
 module _ (prog : Program) (workers : ℕ) where
   -- what is so of all machines from here on is so from each later one on

@@ -2,20 +2,20 @@
 use Rattle.std.proofs.Common.{◌≡◌, ◌∙◌, ℕ, suc, ◌<◌, ◌≤◌, List, [], ◌∷◌, Option, Some, None, Bool, true, false, is_some, sym, ap, subst, arith, le_trans, ℤ}
 use Rattle.semantics.specs.Paths.{Path}
 use Rattle.semantics.specs.Cells.{Memory}
-use Rattle.laws_phases.specs.conditions.theorem.Conditions.{ClosesRegions}
+use Rattle.laws_conditions.specs.theorem.Conditions.{ClosesRegions}
 use Rattle.semantics.specs.Effect.{Return, action_of}
 use Rattle.semantics.specs.Frames.{Frame, Ends, item_at}
 use Rattle.semantics.specs.State.{State}
 use Rattle.semantics.specs.Events.{Machine, Event, Step, start}
 use Rattle.semantics.specs.Replay.{or_unchanged, replay, NeverTraps}
-use Rattle.laws_phases.specs.conditions.theorem.Schedules.{KeepsSchedule}
+use Rattle.laws_conditions.specs.theorem.Schedules.{KeepsSchedule}
 use Rattle.program.specs.declared.function.Program.{Program}
 use Rattle.program.specs.declared.instruction.Terminator.{Terminator}
 use Rattle.program.specs.declared.instruction.Terminator.TheVariants as terminator
 use Rattle.verifier.specs.Accepted.{IsProgramOf}
 use Rattle.verifier.specs.Budgets.{budget_of}
-use Rattle.laws_phases.specs.conditions.rules.Registers.{returns_number}
-use Rattle.laws_phases.proofs.conditions.rules.Moves.{GivenBack, returns_here}
+use Rattle.laws_conditions.specs.rules.Registers.{returns_number}
+use Rattle.laws_conditions.proofs.rules.Moves.{GivenBack, returns_here}
 use Rattle.laws_phases.specs.defined.Names.{IsNamed}
 use Rattle.laws_phases.specs.defined.Placed.{IsPlaced}
 use Rattle.laws_phases.proofs.defined.Placed.{places_have_items}

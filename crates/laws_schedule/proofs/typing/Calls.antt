@@ -23,9 +23,9 @@ use Rattle.types.proofs.names.Inversion.{made_ok, same_ok}
 use Rattle.types.specs.Call.{fits_result, argument_of, expected, parameter_of}
 use Rattle.types.specs.Instruction.{defined_of, call_register_of}
 use Rattle.types.specs.Meaning.{Means}
-use Rattle.laws_phases.specs.conditions.rules.Costs.{parameters_of}
+use Rattle.laws_conditions.specs.rules.Costs.{parameters_of}
 use Rattle.program.specs.Calls.{parameters_in}
-use Rattle.laws_phases.specs.conditions.rules.Registers.{is_number, gives_number, returns_number}
+use Rattle.laws_conditions.specs.rules.Registers.{is_number, gives_number, returns_number}
 use Rattle.laws_phases.specs.defined.Leads.{IsBlock}
 use Rattle.laws_phases.proofs.defined.Items.{stands, step_there}
 use Rattle.laws_schedule.proofs.typing.Parts.{FunctionOf, FunctionFrom, BlockFrom, function_to, function_from, block_from, step_from}

@@ -42,7 +42,7 @@ use Rattle.types.proofs.names.Inversion.{made_ok, both_ok}
 use Rattle.types.specs.Call.{Named}
 use Rattle.types.specs.Instruction.{instruction_of}
 use Rattle.types.specs.Meaning.{Means}
-use Rattle.laws_phases.specs.conditions.rules.Moves.{dest_of}
+use Rattle.laws_conditions.specs.rules.Moves.{dest_of}
 use Rattle.laws_phases.specs.defined.Names.{StepDefines}
 use Rattle.laws_phases.specs.defined.Stable.{IsStable}
 use Rattle.laws_phases.specs.defined.Values.{Reads, IsElement, NamesObjects}

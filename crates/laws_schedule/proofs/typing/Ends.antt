@@ -32,7 +32,7 @@ use Rattle.types.specs.names.Table.{look_up}
 use Rattle.types.proofs.names.Inversion.{made_ok, then_ok, both_ok, same_ok, err_not_ok, all_at}
 use Rattle.types.specs.Meaning.{Means}
 use Rattle.types.specs.Terminator.{case_of, cases_of, return_of, terminator_of}
-use Rattle.laws_phases.specs.conditions.rules.Registers.{is_number, returns_number}
+use Rattle.laws_conditions.specs.rules.Registers.{is_number, returns_number}
 use Rattle.laws_phases.specs.defined.Leads.{LeadsTo}
 use Rattle.laws_phases.proofs.defined.Items.{stands, end_there}
 use Rattle.laws_phases.proofs.defined.Lists.{within_at}

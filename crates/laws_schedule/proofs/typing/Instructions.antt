@@ -31,7 +31,7 @@ use Rattle.types.specs.Call.{Named, fits_result, arguments_of, fitting_arguments
 use Rattle.types.specs.Definitions.{defined_name}
 use Rattle.types.specs.Instruction.{defined_of, phi_of, alloca_id_of, call_register_of, instruction_of}
 use Rattle.types.proofs.Scopes.{register_found}
-use Rattle.laws_phases.specs.conditions.rules.Moves.{dest_of}
+use Rattle.laws_conditions.specs.rules.Moves.{dest_of}
 
 le_of : (a b : ℕ) → nat_le a b ≡ true → a ≤ b
 le_of a b h = grind (arith, nat_tests)

@@ -19,7 +19,7 @@ use Rattle.types.specs.names.Item.{items_of}
 use Rattle.types.specs.names.Table.{look_up}
 use Rattle.types.proofs.names.Inversion.{made_ok, both_ok, unless_ok, err_not_ok}
 use Rattle.types.specs.Meaning.{main_form, as_main, found_main, Means, is_number as takes_number}
-use Rattle.laws_phases.specs.conditions.rules.Registers.{is_number, gives_number, returns_number}
+use Rattle.laws_conditions.specs.rules.Registers.{is_number, gives_number, returns_number}
 use Rattle.laws_schedule.proofs.typing.Parts.{function_to}
 use Rattle.verifier.proofs.Lists.{all_count}
 use Rattle.laws_schedule.proofs.typing.Lists.{there}

@@ -22,9 +22,9 @@ use Rattle.types.specs.names.Layout.{layout_of}
 use Rattle.types.specs.Call.{parameter_of}
 use Rattle.types.specs.Function.{result_register}
 use Rattle.types.specs.Meaning.{Means}
-use Rattle.laws_phases.specs.conditions.rules.Costs.{parameters_of, measure_in, measure_of}
+use Rattle.laws_conditions.specs.rules.Costs.{parameters_of, measure_in, measure_of}
 use Rattle.program.specs.Calls.{parameters_in}
-use Rattle.laws_phases.specs.conditions.rules.Registers.{is_number, gives_number, returns_number}
+use Rattle.laws_conditions.specs.rules.Registers.{is_number, gives_number, returns_number}
 use Rattle.laws_phases.specs.defined.Names.{NamesOnly}
 use Rattle.laws_phases.specs.defined.Known.{IsPut, NamesParameters}
 use Rattle.laws_phases.specs.facts.Owing.{IsGiven, IsTyped}

@@ -11,7 +11,7 @@ use Rattle.semantics.specs.State.{called, waiting, resumed, with_result}
 use Rattle.semantics.specs.SerialMeaning.{Gave}
 use Rattle.semantics.specs.SerialMeaning.{both_outcomes, at_last}
 use Rattle.semantics.proofs.Outcomes.{gave_same}
-use Rattle.laws_phases.specs.conditions.theorem.Conditions.{Covers, Clear, Going}
+use Rattle.laws_conditions.specs.theorem.Conditions.{Covers, Clear, Going}
 use Rattle.program.specs.declared.annotation.Zone.{Zone}
 use Rattle.program.specs.declared.function.Block.{Block}
 use Rattle.program.specs.declared.function.Function.{Function}
@@ -28,8 +28,8 @@ use Rattle.laws_phases.specs.region_match.declared.tables.Regions.{Regions}
 use Rattle.laws_phases.specs.region_match.Tasks.{innermost}
 use Rattle.laws_phases.specs.footprints.Rules.{covering_of}
 use Rattle.program.specs.Calls.{parameters_in}
-use Rattle.laws_phases.specs.conditions.rules.Moves.{number_of, Calls}
-use Rattle.laws_phases.proofs.conditions.rules.Moves.{calls_here}
+use Rattle.laws_conditions.specs.rules.Moves.{number_of, Calls}
+use Rattle.laws_conditions.proofs.rules.Moves.{calls_here}
 use Rattle.laws_phases.specs.defined.Placed.{IsPlaced}
 use Rattle.laws_phases.proofs.defined.Regions.{values_length}
 use Rattle.laws_phases.specs.facts.Known.{KnownHold}

@@ -11,7 +11,7 @@ use Rattle.semantics.specs.Effect.{Detach, action_of}
 use Rattle.semantics.specs.State.{detached, continued}
 use Rattle.semantics.specs.SerialMeaning.{Left, Gave, Outcome}
 use Rattle.semantics.specs.SerialMeaning.{at_last}
-use Rattle.laws_phases.specs.conditions.theorem.Conditions.{Covers, Clear, Going}
+use Rattle.laws_conditions.specs.theorem.Conditions.{Covers, Clear, Going}
 use Rattle.program.specs.declared.annotation.Pending.{Pending}
 use Rattle.program.specs.declared.annotation.Zone.{Zone}
 use Rattle.program.specs.declared.function.Block.{Block}
@@ -32,9 +32,9 @@ use Rattle.laws_phases.specs.region_match.declared.task.Task.{Task}
 use Rattle.laws_phases.specs.footprints.Zones.{mode_covers}
 use Rattle.laws_phases.specs.footprints.Footprints.{foot_of, pending_of}
 use Rattle.laws_phases.specs.footprints.Rules.{foot_at_end, covering_of, is_own_block}
-use Rattle.laws_phases.specs.conditions.rules.Costs.{numbers}
-use Rattle.laws_phases.specs.conditions.rules.Moves.{Forks}
-use Rattle.laws_phases.proofs.conditions.rules.Moves.{forks_here}
+use Rattle.laws_conditions.specs.rules.Costs.{numbers}
+use Rattle.laws_conditions.specs.rules.Moves.{Forks}
+use Rattle.laws_conditions.proofs.rules.Moves.{forks_here}
 use Rattle.laws_phases.specs.defined.Leads.{IsBlock}
 use Rattle.laws_phases.proofs.defined.Placed.{ending_is}
 use Rattle.laws_phases.specs.facts.Known.{KnownHold}

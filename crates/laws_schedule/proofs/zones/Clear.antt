@@ -10,7 +10,7 @@ use Rattle.semantics.specs.Paths.{Path, Under, itself}
 use Rattle.semantics.specs.Cells.{Local, Cell}
 use Rattle.semantics.specs.Frames.{Frame, and_then, block_at}
 use Rattle.semantics.specs.Effect.{Effect}
-use Rattle.laws_phases.specs.conditions.theorem.Conditions.{Zone as Cells, Covers, Clear, touched, OwnedBelow}
+use Rattle.laws_conditions.specs.theorem.Conditions.{Zone as Cells, Covers, Clear, touched, OwnedBelow}
 use Rattle.program.specs.declared.annotation.Pending.{Pending}
 use Rattle.program.specs.declared.annotation.Zone.{Zone}
 use Rattle.program.specs.declared.identifier.ObjectName.TheVariants.{Alloca}

@@ -2,10 +2,10 @@
 use Rattle.std.proofs.Common.{◌≡◌, true, refl}
 use Rattle.semantics.specs.Paths.{Path}
 use Rattle.semantics.specs.Frames.{Frame}
-use Rattle.laws_phases.specs.conditions.theorem.Conditions.{StaysInZone, PassesZonesOn}
+use Rattle.laws_conditions.specs.theorem.Conditions.{StaysInZone, PassesZonesOn}
 use Rattle.program.specs.declared.function.Program.{Program}
 use Rattle.laws_phases.specs.region_match.declared.tables.Regions.{Regions}
-use Rattle.laws_phases.proofs.conditions.rules.Moves.{moves}
+use Rattle.laws_conditions.proofs.rules.Moves.{moves}
 use Rattle.laws_phases.proofs.zones.Accesses.{accesses_let}
 use Rattle.laws_schedule.specs.zones.Keeping.{Keeping, kept_cells, pending_at, Fits, Expects}
 use Rattle.laws_schedule.specs.zones.ByPhases.{IsJudged, GivesWidths}

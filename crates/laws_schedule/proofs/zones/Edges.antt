@@ -33,8 +33,8 @@ use Rattle.laws_phases.specs.ranges.Places.{facts_at_end, edges_known}
 use Rattle.laws_phases.specs.ranges.Sums.{facts_of}
 use Rattle.laws_phases.specs.ranges.Truth.{operand_value}
 use Rattle.laws_phases.proofs.ranges.Truth.{facts_true}
-use Rattle.laws_phases.specs.conditions.rules.Costs.{numbers}
-use Rattle.laws_phases.specs.conditions.rules.Moves.{JumpsTo, SyncsTo}
+use Rattle.laws_conditions.specs.rules.Costs.{numbers}
+use Rattle.laws_conditions.specs.rules.Moves.{JumpsTo, SyncsTo}
 use Rattle.laws_phases.specs.defined.Names.{PhiDefines}
 use Rattle.laws_phases.specs.facts.Known.{KnownHold}
 use Rattle.laws_phases.proofs.cfg.Searching.{Contains_map}

@@ -26,9 +26,9 @@ use Rattle.laws_phases.specs.definedness.declared.act.Act.TheVariants.{Needs}
 use Rattle.laws_phases.specs.definedness.RegisterActs.{operand_needs, object_needs, address_needs, instruction_needs}
 use Rattle.laws_phases.specs.ranges.Truth.{operand_value}
 use Rattle.laws_phases.specs.region_match.declared.tables.Regions.{Regions}
-use Rattle.laws_phases.specs.conditions.rules.Costs.{numbers}
-use Rattle.laws_phases.specs.conditions.rules.Moves.{dest_of}
-use Rattle.laws_phases.proofs.conditions.rules.Moves.{given_case}
+use Rattle.laws_conditions.specs.rules.Costs.{numbers}
+use Rattle.laws_conditions.specs.rules.Moves.{dest_of}
+use Rattle.laws_conditions.proofs.rules.Moves.{given_case}
 use Rattle.laws_phases.specs.defined.Leads.{IsBlock}
 use Rattle.laws_phases.specs.defined.Names.{StepDefines}
 use Rattle.laws_phases.specs.defined.Stable.{Names, IsSteady}

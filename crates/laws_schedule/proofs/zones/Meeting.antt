@@ -7,7 +7,7 @@ use Rattle.linear.specs.declared.form.RegisterId.{RegisterId}
 use Rattle.semantics.specs.Paths.{Path}
 use Rattle.semantics.specs.Cells.{Cell}
 use Rattle.semantics.specs.Frames.{Frame, block_at}
-use Rattle.laws_phases.specs.conditions.theorem.Conditions.{Covers, Clear, OwnedBelow}
+use Rattle.laws_conditions.specs.theorem.Conditions.{Covers, Clear, OwnedBelow}
 use Rattle.program.specs.declared.annotation.Pending.{Pending}
 use Rattle.program.specs.declared.annotation.Zone.{Zone}
 use Rattle.program.specs.declared.function.Program.{Program}

@@ -29,7 +29,7 @@ use Rattle.types.specs.Block.{block_with, block_of}
 use Rattle.types.specs.Call.{parameter_of}
 use Rattle.types.specs.Function.{function_with, head_zones_of, function_of, functions_of}
 use Rattle.types.specs.Meaning.{Means}
-use Rattle.laws_phases.specs.conditions.rules.Costs.{parameters_of}
+use Rattle.laws_conditions.specs.rules.Costs.{parameters_of}
 use Rattle.program.specs.Calls.{parameters_in as parameters_there, parameters_in}
 use Rattle.laws_phases.proofs.defined.Items.{block_is, item_there}
 use Rattle.laws_phases.proofs.defined.Lists.{none_within, at_within}

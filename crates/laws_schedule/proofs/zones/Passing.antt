@@ -7,7 +7,7 @@ use Rattle.linear.specs.declared.form.RegisterId.{RegisterId}
 use Rattle.semantics.specs.Paths.{Path}
 use Rattle.semantics.specs.Cells.{Object, Cell}
 use Rattle.semantics.specs.Frames.{OnCall, Frame, and_then, block_at}
-use Rattle.laws_phases.specs.conditions.theorem.Conditions.{Covers, Going}
+use Rattle.laws_conditions.specs.theorem.Conditions.{Covers, Going}
 use Rattle.program.specs.declared.annotation.Pending.{Pending}
 use Rattle.program.specs.declared.annotation.Zone.{Zone}
 use Rattle.program.specs.declared.function.Alloca.{Alloca as AllocaOf}

@@ -4,7 +4,7 @@ use Rattle.std.proofs.lemmas.Bool.{eq-eqb, ne_eqb}
 use Rattle.semantics.specs.Paths.{Path, Under, itself, deeper}
 use Rattle.semantics.specs.Cells.{Object, Shared, Local, Cell}
 use Rattle.semantics.specs.Frames.{Pointer, Frame, object_at}
-use Rattle.laws_phases.specs.conditions.theorem.Conditions.{OwnedBelow}
+use Rattle.laws_conditions.specs.theorem.Conditions.{OwnedBelow}
 use Rattle.program.specs.declared.function.Function.{Function}
 use Rattle.program.specs.declared.identifier.ObjectName.{ObjectName}
 use Rattle.program.specs.declared.identifier.ObjectName.TheVariants.{Global, Alloca, Parameter}

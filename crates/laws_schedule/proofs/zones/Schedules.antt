@@ -2,9 +2,9 @@
 use Rattle.std.proofs.Common.{◌≡◌, ◌∙◌, [], Some, true, sym, subst, slice_get}
 use Rattle.std.specs.List.{All}
 use Rattle.semantics.specs.State.{root_frame}
-use Rattle.laws_phases.proofs.conditions.theorem.EverySchedule.{kept_by_schedules}
+use Rattle.laws_conditions.proofs.theorem.EverySchedule.{kept_by_schedules}
 use Rattle.program.specs.declared.function.Function.{Function}
-use Rattle.laws_phases.specs.conditions.rules.Costs.{numbers}
+use Rattle.laws_conditions.specs.rules.Costs.{numbers}
 use Rattle.laws_phases.specs.facts.Known.{IsMet}
 use Rattle.laws_phases.proofs.facts.Handed.{facts_at_start}
 use Rattle.laws_schedule.specs.zones.Keeping.{Keeping, OfTask, kept_cells, pending_at, Fits, Expects}

@@ -9,11 +9,11 @@ use Rattle.semantics.specs.Frames.{OnCall, Frame, Does, Ends, block_at, item_at,
 use Rattle.semantics.specs.Effect.{Effect, Plain, registers_along, instruction_action, terminator_action, action_of}
 use Rattle.semantics.specs.State.{went}
 use Rattle.semantics.specs.SerialMeaning.{written, Gave, Outcome}
-use Rattle.laws_phases.specs.conditions.theorem.SerialConditions.{Nothing, KeptSerially}
+use Rattle.laws_conditions.specs.theorem.SerialConditions.{Nothing, KeptSerially}
 use Rattle.semantics.specs.SerialMeaning.{one_more, at_last}
 use Rattle.semantics.proofs.Outcomes.{gave_same}
 use Rattle.semantics.proofs.Diamond.{no_call_after}
-use Rattle.laws_phases.specs.conditions.theorem.Conditions.{Covers, Going}
+use Rattle.laws_conditions.specs.theorem.Conditions.{Covers, Going}
 use Rattle.program.specs.declared.annotation.Pending.{Pending}
 use Rattle.program.specs.declared.annotation.Zone.{Zone}
 use Rattle.program.specs.declared.function.Block.{Block}
@@ -36,9 +36,9 @@ use Rattle.laws_phases.specs.region_match.declared.tables.Regions.{Regions}
 use Rattle.laws_phases.specs.region_match.Tasks.{HasTask, innermost, task_along}
 use Rattle.laws_phases.specs.footprints.Footprints.{hands_on, pending_of}
 use Rattle.laws_phases.specs.footprints.Rules.{covering_of}
-use Rattle.laws_phases.specs.conditions.rules.Costs.{numbers}
-use Rattle.laws_phases.specs.conditions.rules.Moves.{dest_of, GoesOn}
-use Rattle.laws_phases.specs.conditions.rules.InProofs.{Moves, is_next, is_along}
+use Rattle.laws_conditions.specs.rules.Costs.{numbers}
+use Rattle.laws_conditions.specs.rules.Moves.{dest_of, GoesOn}
+use Rattle.laws_conditions.specs.rules.InProofs.{Moves, is_next, is_along}
 use Rattle.laws_phases.specs.defined.Leads.{IsBlock, LeadsTo}
 use Rattle.laws_phases.specs.defined.Names.{PhiDefines}
 use Rattle.laws_phases.specs.defined.Placed.{IsPlaced, Placed, NoFinds}

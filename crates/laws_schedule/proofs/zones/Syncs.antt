@@ -9,7 +9,7 @@ use Rattle.semantics.specs.Frames.{Registers, Frame, Ends, item_at}
 use Rattle.semantics.specs.Effect.{Sync, registers_along, action_of}
 use Rattle.semantics.specs.State.{synced}
 use Rattle.semantics.specs.SerialMeaning.{one_more}
-use Rattle.laws_phases.specs.conditions.theorem.Conditions.{Covers, Going}
+use Rattle.laws_conditions.specs.theorem.Conditions.{Covers, Going}
 use Rattle.program.specs.declared.function.Program.{Program}
 use Rattle.program.specs.declared.instruction.Terminator.{Terminator}
 use Rattle.types.specs.Apart.{parameters_at}
@@ -18,9 +18,9 @@ use Rattle.laws_phases.specs.cfg.declared.structure.Way.TheVariants as way
 use Rattle.laws_phases.specs.ranges.Edges.{edges_out}
 use Rattle.laws_phases.specs.region_match.declared.tables.Regions.{Regions}
 use Rattle.laws_phases.specs.footprints.Footprints.{hands_on}
-use Rattle.laws_phases.specs.conditions.rules.Costs.{numbers}
-use Rattle.laws_phases.specs.conditions.rules.Moves.{SyncsTo}
-use Rattle.laws_phases.proofs.conditions.rules.Moves.{sync_here, syncs_along}
+use Rattle.laws_conditions.specs.rules.Costs.{numbers}
+use Rattle.laws_conditions.specs.rules.Moves.{SyncsTo}
+use Rattle.laws_conditions.proofs.rules.Moves.{sync_here, syncs_along}
 use Rattle.laws_phases.specs.defined.Leads.{LeadsTo}
 use Rattle.laws_phases.specs.facts.Known.{KnownHold}
 use Rattle.laws_phases.proofs.facts.Edges.{IsTaken, sync_taken, tests_here}

@@ -18,7 +18,7 @@ use Rattle.laws_phases.specs.definedness.declared.act.Act.{Act}
 use Rattle.laws_phases.specs.definedness.declared.act.Act.TheVariants.{Needs}
 use Rattle.laws_phases.specs.definedness.RegisterActs.{register_needs, form_needs, object_needs, operand_needs, zone_needs}
 use Rattle.laws_phases.specs.ranges.Truth.{operand_value}
-use Rattle.laws_phases.specs.conditions.rules.Costs.{numbers}
+use Rattle.laws_conditions.specs.rules.Costs.{numbers}
 use Rattle.laws_phases.specs.defined.Stable.{Names}
 use Rattle.laws_phases.proofs.defined.Lists.{first_within, flat_within}
 use Rattle.laws_phases.specs.zones.Uses.{HoldsCell}

@@ -1,10 +1,10 @@
 -- The laws: kinds are kept by every step of every frame, from the start on; so numbers of i32 fit.
 use Rattle.std.specs.Prelude.{◌≡◌, List, length, true, ℤ}
 use Rattle.semantics.specs.Frames.{Frame}
-use Rattle.laws_phases.specs.conditions.theorem.SerialConditions.{Nothing, KeptSerially}
+use Rattle.laws_conditions.specs.theorem.SerialConditions.{Nothing, KeptSerially}
 use Rattle.semantics.specs.State.{root_frame}
 use Rattle.program.specs.declared.function.Program.{Program}
-use Rattle.laws_phases.specs.conditions.rules.Costs.{parameters_of}
+use Rattle.laws_conditions.specs.rules.Costs.{parameters_of}
 use Rattle.laws_phases.specs.defined.Placed.{NoFinds}
 use Rattle.laws_phases.specs.facts.Owing.{IsTyped}
 use Rattle.laws_schedule.specs.typing.Kinds.{HasKinds}

@@ -5,7 +5,7 @@ use Rattle.semantics.specs.Frames.{Frame}
 use Rattle.program.specs.declared.function.Program.{Program}
 use Rattle.laws_phases.specs.cfg.Rules.{IsGraphRight}
 use Rattle.laws_phases.specs.region_match.Matched.{AreRegionsRight}
-use Rattle.laws_phases.specs.conditions.rules.Registers.{Registered}
+use Rattle.laws_conditions.specs.rules.Registers.{Registered}
 use Rattle.laws_phases.specs.defined.Defined.{AreUsesDefined, IsAlways}
 use Rattle.laws_phases.specs.defined.Placed.{IsPlaced}
 use Rattle.laws_phases.specs.defined.Regions.{UsesOwnRegions}

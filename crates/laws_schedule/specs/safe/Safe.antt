@@ -13,7 +13,7 @@ use Rattle.program.specs.declared.function.Function.{Function}
 use Rattle.program.specs.declared.function.Program.{Program}
 use Rattle.program.specs.declared.instruction.Instruction.{Instruction}
 use Rattle.program.specs.declared.instruction.Phi.{Phi}
-use Rattle.laws_phases.specs.conditions.rules.Moves.{dest_of}
+use Rattle.laws_conditions.specs.rules.Moves.{dest_of}
 use Rattle.laws_phases.specs.defined.Leads.{IsBlock}
 use Rattle.laws_phases.specs.zones.Uses.{Uses}
 use Rattle.laws_schedule.specs.kinds.Holding.{HasKindedRegisters}

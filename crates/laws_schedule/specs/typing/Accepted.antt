@@ -2,7 +2,7 @@
 use Rattle.std.specs.Prelude.{◌≡◌, ℕ, List, true, is_some}
 use Rattle.semantics.specs.Frames.{block_at}
 use Rattle.program.specs.declared.function.Program.{Program}
-use Rattle.laws_phases.specs.conditions.rules.Registers.{returns_number}
+use Rattle.laws_conditions.specs.rules.Registers.{returns_number}
 use Rattle.laws_phases.specs.costs.Depths.{CallsUpward}
 use Rattle.laws_phases.specs.defined.Defined.{AreUsesDefined}
 use Rattle.laws_phases.specs.defined.Known.{NamesParameters}

@@ -8,7 +8,7 @@ use Rattle.laws_phases.specs.cfg.Rules.{IsGraphRight}
 use Rattle.ir_reader.specs.Kept.{IsKeptModule}
 use Rattle.laws_phases.specs.region_match.Matched.{AreRegionsRight}
 use Rattle.types.specs.Meaning.{Means}
-use Rattle.laws_phases.specs.conditions.rules.Costs.{parameters_of, measure_of}
+use Rattle.laws_conditions.specs.rules.Costs.{parameters_of, measure_of}
 use Rattle.laws_phases.specs.defined.Defined.{AreUsesDefined}
 use Rattle.laws_phases.specs.defined.Known.{NamesParameters}
 use Rattle.laws_phases.specs.defined.Names.{IsNamed}

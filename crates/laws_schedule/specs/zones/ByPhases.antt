@@ -6,7 +6,7 @@ use Rattle.semantics.specs.Cells.{Memory}
 use Rattle.semantics.specs.Frames.{Value, Registers, OnCall, Frame}
 use Rattle.semantics.specs.Effect.{Effect, Plain, Detach, Sync, Call, action_of}
 use Rattle.semantics.specs.State.{went, detached, continued, synced, called, waiting, resumed}
-use Rattle.laws_phases.specs.conditions.theorem.Conditions.{Going}
+use Rattle.laws_conditions.specs.theorem.Conditions.{Going}
 use Rattle.program.specs.declared.annotation.Zone.{Zone}
 use Rattle.program.specs.declared.identifier.ObjectName.TheVariants.{Parameter}
 use Rattle.program.specs.declared.function.Function.{Function}

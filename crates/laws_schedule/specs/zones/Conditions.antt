@@ -6,15 +6,15 @@ use Rattle.semantics.specs.Frames.{Frame}
 use Rattle.semantics.specs.SerialMeaning.{Outcome, IsSerialMeaning}
 use Rattle.semantics.specs.Events.{Event, start}
 use Rattle.semantics.specs.Replay.{replay}
-use Rattle.laws_phases.specs.conditions.theorem.Schedules.{KeepsSchedule}
+use Rattle.laws_conditions.specs.theorem.Schedules.{KeepsSchedule}
 use Rattle.semantics.specs.State.{root_frame}
-use Rattle.laws_phases.specs.conditions.theorem.Conditions.{StaysInZone, PassesZonesOn, ClosesRegions}
+use Rattle.laws_conditions.specs.theorem.Conditions.{StaysInZone, PassesZonesOn, ClosesRegions}
 use Rattle.program.specs.declared.function.Block.{Block}
 use Rattle.program.specs.declared.function.Function.{Function}
 use Rattle.program.specs.declared.function.Program.{Program}
 use Rattle.laws_phases.specs.region_match.declared.tables.Regions.{Regions}
 use Rattle.laws_phases.specs.defined.Leads.{IsBlock}
-use Rattle.laws_phases.specs.conditions.rules.Costs.{numbers}
+use Rattle.laws_conditions.specs.rules.Costs.{numbers}
 use Rattle.laws_phases.specs.facts.Known.{IsMet, KnownHold}
 use Rattle.laws_schedule.specs.zones.Keeping.{Keeping, OfTask, kept_cells, pending_at, Fits, Expects}
 use Rattle.laws_schedule.specs.zones.ByPhases.{IsJudged, GivesWidths, IsByRules}

@@ -7,7 +7,7 @@ use Rattle.semantics.specs.Paths.{Path, Under}
 use Rattle.semantics.specs.Cells.{Object, Cell}
 use Rattle.semantics.specs.Frames.{OnCall, Body, Frame, Does, block_at, item_at, cell_of, object_at}
 use Rattle.semantics.specs.State.{resumed}
-use Rattle.laws_phases.specs.conditions.theorem.Conditions.{Zone as Cells, OwnedBelow, Going}
+use Rattle.laws_conditions.specs.theorem.Conditions.{Zone as Cells, OwnedBelow, Going}
 use Rattle.program.specs.declared.annotation.Pending.{Pending}
 use Rattle.program.specs.declared.annotation.Zone.{Zone}
 use Rattle.program.specs.declared.identifier.FunctionId.{FunctionId}
@@ -21,7 +21,7 @@ use Rattle.laws_phases.specs.ranges.Truth.{operand_value}
 use Rattle.laws_phases.specs.region_match.declared.tables.Regions.{Regions}
 use Rattle.laws_phases.specs.footprints.Footprints.{pending_of}
 use Rattle.laws_phases.specs.footprints.Rules.{covering_of, is_own_block}
-use Rattle.laws_phases.specs.conditions.rules.Costs.{numbers}
+use Rattle.laws_conditions.specs.rules.Costs.{numbers}
 use Rattle.laws_phases.specs.defined.Placed.{IsPlaced}
 use Rattle.laws_phases.specs.facts.Known.{KnownHold}
 use Rattle.laws_phases.specs.facts.Kept.{IsEnsured}

@@ -15,10 +15,10 @@ use Rattle.program.specs.declared.function.Program.{Program}
 use Rattle.program.specs.declared.instruction.Address.{Address}
 use Rattle.program.specs.declared.instruction.Instruction.{Instruction}
 use Rattle.program.specs.declared.instruction.Instruction.TheVariants as instruction
-use Rattle.laws_workers.specs.laws_phases.conditions.theorem.Conditions.{Going, ClosesRegions}
-use Rattle.laws_workers.specs.laws_phases.conditions.theorem.SerialConditions.{Nothing, KeptSerially}
-use Rattle.laws_workers.specs.laws_phases.conditions.rules.Registers.{Registered, GivesNumber}
-use Rattle.laws_workers.proofs.laws_phases.conditions.theorem.Feet.{going_now}
+use Rattle.laws_workers.specs.laws_conditions.theorem.Conditions.{Going, ClosesRegions}
+use Rattle.laws_workers.specs.laws_conditions.theorem.SerialConditions.{Nothing, KeptSerially}
+use Rattle.laws_workers.specs.laws_conditions.rules.Registers.{Registered, GivesNumber}
+use Rattle.laws_workers.proofs.laws_conditions.theorem.Feet.{going_now}
 use Rattle.laws_workers.specs.laws_phases.region_match.declared.tables.Regions.{Regions}
 use Rattle.laws_workers.specs.laws_phases.defined.Defined.{IsAlways}
 use Rattle.laws_workers.specs.laws_phases.defined.Placed.{IsPlaced, Placed, NoFinds}

@@ -9,7 +9,7 @@ use Rattle.semantics.specs.Replay.{NeverTraps, replay}
 use Rattle.semantics.proofs.Steps.{Does}
 use Rattle.program.specs.declared.function.Program.{Program}
 use Rattle.laws_workers.specs.verifier.Accepted.{IsProgramOf}
-use Rattle.laws_workers.specs.laws_phases.conditions.theorem.Conditions.{Going}
+use Rattle.laws_workers.specs.laws_conditions.theorem.Conditions.{Going}
 use Rattle.laws_workers.specs.laws_phases.defined.Placed.{IsPlaced}
 use Rattle.laws_workers.specs.laws_phases.facts.Known.{KnownHold}
 use Rattle.laws_workers.proofs.laws_phases.facts.Handed.{facts_at_start}

@@ -11,9 +11,9 @@ use Rattle.semantics.proofs.Starting.{at_start, start_tree}
 use Rattle.semantics.proofs.Steps.{Does}
 use Rattle.semantics.proofs.TreeKept.{step_keeps_tree}
 use Rattle.program.specs.declared.function.Program.{Program}
-use Rattle.laws_workers.specs.laws_phases.conditions.theorem.Conditions.{Zone, PassesZonesOn}
-use Rattle.laws_workers.proofs.laws_phases.conditions.theorem.Feet.{Footed}
-use Rattle.laws_workers.proofs.laws_phases.conditions.theorem.FeetKept.{step_footed}
+use Rattle.laws_workers.specs.laws_conditions.theorem.Conditions.{Zone, PassesZonesOn}
+use Rattle.laws_workers.proofs.laws_conditions.theorem.Feet.{Footed}
+use Rattle.laws_workers.proofs.laws_conditions.theorem.FeetKept.{step_footed}
 use Rattle.laws_workers.proofs.laws_schedule.safe.Replayed.{replay_good}
 
 module _ (Z : Type 0) (zone : Z → Zone) (prog : Program) (fits : Path → Frame → Z → Type 0) (pending : Path → Frame → ℕ → Z) (expects : Frame → Z → Type 0)

@@ -11,7 +11,7 @@ use Rattle.semantics.proofs.Actions.{same_path_itself}
 use Rattle.semantics.proofs.Steps.{does}
 use Rattle.program.specs.declared.function.Program.{Program}
 use Rattle.laws_workers.specs.verifier.Accepted.{IsProgramOf}
-use Rattle.laws_workers.proofs.laws_phases.conditions.theorem.Feet.{alive_now, going_now}
+use Rattle.laws_workers.proofs.laws_conditions.theorem.Feet.{alive_now, going_now}
 use Rattle.laws_workers.specs.laws_phases.defined.Starting.{IsFirst}
 use Rattle.laws_workers.specs.laws_phases.regions.Closed.{ClosesByPlace}
 use Rattle.laws_workers.proofs.laws_phases.defined.Starting.{starts_well}

@@ -18,7 +18,7 @@ use Rattle.private_stack.specs.serial_stack.Shown.{IsOld}
 use Rattle.laws_workers.specs.schedule_workers.Going.{IsAbove}
 use Rattle.laws_workers.specs.schedule_workers.Layouts.{alloca_cells, living, own_cells}
 use Rattle.laws_workers.proofs.schedule_workers.Calling.{values_up}
-use Rattle.laws_workers.proofs.laws_phases.conditions.rules.Moves.{calls_here}
+use Rattle.laws_workers.proofs.laws_conditions.rules.Moves.{calls_here}
 use Rattle.laws_workers.proofs.laws_schedule.Promise.{accepted_programs_keep_their_promise}
 use Rattle.laws_workers.proofs.laws_schedule.safe.Safe.{schedules_are_safe}
 use Rattle.schedule_commit.specs.frame_strand.Alone.{StaysSafeAlone}

@@ -14,9 +14,9 @@ use Rattle.semantics.proofs.Diamond.{no_call_after}
 use Rattle.semantics.proofs.Outcomes.{gave_same, left_none}
 use Rattle.semantics.proofs.Steps.{Does}
 use Rattle.program.specs.declared.function.Program.{Program}
-use Rattle.laws_workers.specs.laws_phases.conditions.theorem.Conditions.{Zone, Covers, Clear, Going, PassesZonesOn, ClosesRegions}
-use Rattle.laws_workers.specs.laws_phases.conditions.theorem.SerialConditions.{Nothing, KeptSerially}
-use Rattle.laws_workers.specs.laws_phases.conditions.rules.Registers.{returns_number, Registered, GivesNumber}
+use Rattle.laws_workers.specs.laws_conditions.theorem.Conditions.{Zone, Covers, Clear, Going, PassesZonesOn, ClosesRegions}
+use Rattle.laws_workers.specs.laws_conditions.theorem.SerialConditions.{Nothing, KeptSerially}
+use Rattle.laws_workers.specs.laws_conditions.rules.Registers.{returns_number, Registered, GivesNumber}
 use Rattle.laws_workers.specs.laws_phases.region_match.Matched.{AreRegionsRight}
 use Rattle.laws_workers.specs.laws_phases.defined.Defined.{IsAlways}
 use Rattle.laws_workers.specs.laws_phases.defined.Names.{IsNamed}

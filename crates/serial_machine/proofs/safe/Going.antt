@@ -18,7 +18,7 @@ use Rattle.program.specs.declared.instruction.Address.TheVariants as address
 use Rattle.program.specs.declared.instruction.Argument.TheVariants as argument
 use Rattle.program.specs.declared.instruction.Instruction.{Instruction}
 use Rattle.program.specs.declared.instruction.Instruction.TheVariants as instruction
-use Rattle.laws_schedule.proofs.laws_phases.conditions.rules.Moves.{calls_here}
+use Rattle.laws_schedule.proofs.laws_conditions.rules.Moves.{calls_here}
 use Rattle.laws_schedule.specs.types.Apart.{InstructionNames}
 use Rattle.frame_engine.specs.Shows.{Layout, KeepsWithin, NameIsWhole, NamesWhole, ItemWhole, TrapFree}
 use Rattle.laws_schedule.specs.laws_phases.defined.Names.{IsNamed}

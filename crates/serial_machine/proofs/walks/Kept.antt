@@ -7,7 +7,7 @@ use Rattle.semantics.specs.Frames.{Value, Wait, Free, OnRegion, OnCall, Halted, 
 use Rattle.semantics.specs.Effect.{Detach, Call, action_of}
 use Rattle.semantics.specs.State.{went, detached, continued, synced, called, waiting, resumed}
 use Rattle.semantics.specs.SerialMeaning.{Ending, Left, Gave, Outcome, written, cleared}
-use Rattle.laws_schedule.specs.laws_phases.conditions.theorem.SerialConditions.{Says, Finds, Nothing, KeptSerially}
+use Rattle.laws_schedule.specs.laws_conditions.theorem.SerialConditions.{Says, Finds, Nothing, KeptSerially}
 use Rattle.semantics.specs.SerialMeaning.{one_more, both_outcomes, at_last}
 use Rattle.linear.specs.declared.form.RegisterId.{RegisterId}
 use Rattle.program.specs.declared.function.Program.{Program}
