@@ -30,4 +30,5 @@ pub mod Leaving
 pub mod Cleared
 pub mod Returned
 mod Starting
+mod Rooted
 mod Copied
