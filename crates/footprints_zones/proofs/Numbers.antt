@@ -69,6 +69,15 @@ zones_more measured m zones k d within before own =
     ∙ ap (λ (z : Zone). take k zones ++ z ∷ []) own
     ∙ sym (take_more zones k d within)
 
+-- one more pending zone is measured
+pub pending_more : (measured : List MeasuredZone) (m : MeasuredZone) (pending : List Pending) (k : ℕ) (d : Pending) → k < length pending → zones_of measured ≡ map (λ (q : Pending). q.zone) (take k pending) → m.zone.now ≡ (get_or pending k d).zone → zones_of (measured ++ m ∷ []) ≡ map (λ (q : Pending). q.zone) (take (k + 1) pending)
+pending_more measured m pending k d within before own =
+    map-append (λ (x : MeasuredZone). x.zone.now) measured (m ∷ [])
+    ∙ ap (λ (zs : List Zone). zs ++ m.zone.now ∷ []) before
+    ∙ ap (λ (z : Zone). map (λ (q : Pending). q.zone) (take k pending) ++ z ∷ []) own
+    ∙ sym (map-append (λ (q : Pending). q.zone) (take k pending) (get_or pending k d ∷ []))
+    ∙ ap (map (λ (q : Pending). q.zone)) (sym (take_more pending k d within))
+
 pub measured_more : (facts : List Fact) (measured : List MeasuredZone) (m : MeasuredZone) → All (IsMeasured facts) measured → IsMeasured facts m → All (IsMeasured facts) (measured ++ m ∷ [])
 measured_more facts measured m before own = All-append (IsMeasured facts) measured (m ∷ []) before (All-one m own)
   where
