@@ -1,10 +1,10 @@
 -- Zones that are compared by numbers.
-use Rattle.std.proofs.Common.{rules, ◌≡◌, ◌∙◌, ◌<◌, ℕ, ◌+◌, Bool, true, false, refl, sym, ap, List, [], ◌∷◌, ◌++◌, length, get_or, take, map}
-use Rattle.std.proofs.lemmas.List.{map-append, take_more}
+use Rattle.std.proofs.Common.{rules, ◌≡◌, ◌∙◌, ◌<◌, ◌≤◌, ℕ, ◌+◌, Bool, true, false, refl, sym, ap, List, [], ◌∷◌, ◌++◌, length, get_or, take, map}
+use Rattle.std.proofs.lemmas.List.{map-append, take_more, take_all}
 use Rattle.std.specs.Prelude.{not, ◌||◌, All}
 use Rattle.std.proofs.lemmas.List.Elements.{All-append}
 use Rattle.std.specs.List.{list_any}
-use Rattle.std.proofs.lemmas.List.Folds.{list_any_at}
+use Rattle.std.proofs.lemmas.List.Folds.{list_any_at, list_any_more}
 use Rattle.linear.specs.declared.form.Fact.{Fact}
 use Rattle.program.specs.declared.annotation.Pending.{Pending}
 use Rattle.program.specs.declared.annotation.Zone.{Zone}
@@ -83,3 +83,14 @@ measured_more facts measured m before own = All-append (IsMeasured facts) measur
   where
     All-one : (m : MeasuredZone) → IsMeasured facts m → All (IsMeasured facts) (m ∷ [])
     All-one m own = search (rules, own)
+
+-- ---- one zone after another
+
+pub none_next : (p : MeasuredZone → Bool) (zones : List MeasuredZone) (i : ℕ) (z : MeasuredZone) (b : Bool) → i < length zones → z ≡ get_or zones i z → b ≡ p z → b ≡ false → list_any p (take i zones) ≡ false → list_any p (take (i + 1) zones) ≡ false
+none_next p zones i z b within is is_b apart before = list_any_more p zones i z within ∙ rw before (ap p (sym is) ∙ sym is_b ∙ apart)
+
+pub one_found : (p : MeasuredZone → Bool) (zones : List MeasuredZone) (i : ℕ) (z : MeasuredZone) (b : Bool) → i < length zones → z ≡ get_or zones i z → b ≡ p z → b ≡ true → true ≡ list_any p zones
+one_found p zones i z b within is is_b met = sym (list_any_at p zones i z within (ap p (sym is) ∙ sym is_b ∙ met))
+
+pub none_found : (p : MeasuredZone → Bool) (zones : List MeasuredZone) (i : ℕ) → length zones ≤ i → list_any p (take i zones) ≡ false → false ≡ list_any p zones
+none_found p zones i past before = sym before ∙ ap (list_any p) (take_all i zones past)

@@ -121,3 +121,8 @@ runs_shown for_high high for_low low high_terms low_terms start upper number are
     let of_high2 = rw (are.of_high, are.begins) at of_high in
     let of_low2 = rw (are.of_low, small_read upper small) at of_low in
     shown_of_sum for_high high for_low low upper number (subst (λ (z : ℤ). unsigned_abs z < 2 ^ 100) are.begins are.small) of_high2 of_low2
+
+-- the sum that is built of two ends
+pub sum_between : (for_high : List Move) (high : Combination) (for_low : List Move) (low : Combination) (high_terms low_terms : List Term) (start : ℤ) (first parts : List Part) → high_terms ≡ high.terms → low_terms ≡ low.terms → start ≡ high.constant -ℤ low.constant →
+    first ≡ parts_of for_high (pos 1) high_terms → parts ≡ first ++ parts_of for_low (negsuc 0) low_terms → record { constant = start; parts = parts } ≡ between for_high high for_low low
+sum_between for_high high for_low low high_terms low_terms start first parts of_high of_low begins is_first is_parts = rw (is_parts, is_first, of_high, of_low, begins) refl
