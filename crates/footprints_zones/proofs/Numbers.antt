@@ -84,13 +84,13 @@ measured_more facts measured m before own = All-append (IsMeasured facts) measur
     All-one : (m : MeasuredZone) → IsMeasured facts m → All (IsMeasured facts) (m ∷ [])
     All-one m own = search (rules, own)
 
--- ---- one zone after another
+-- ---- one element after another
 
-pub none_next : (p : MeasuredZone → Bool) (zones : List MeasuredZone) (i : ℕ) (z : MeasuredZone) (b : Bool) → i < length zones → z ≡ get_or zones i z → b ≡ p z → b ≡ false → list_any p (take i zones) ≡ false → list_any p (take (i + 1) zones) ≡ false
-none_next p zones i z b within is is_b apart before = list_any_more p zones i z within ∙ rw before (ap p (sym is) ∙ sym is_b ∙ apart)
+pub none_next : {X : Type 0} (p : X → Bool) (xs : List X) (i : ℕ) (x : X) (b : Bool) → i < length xs → x ≡ get_or xs i x → b ≡ p x → b ≡ false → list_any p (take i xs) ≡ false → list_any p (take (i + 1) xs) ≡ false
+none_next p xs i x b within is is_b apart before = list_any_more p xs i x within ∙ rw before (ap p (sym is) ∙ sym is_b ∙ apart)
 
-pub one_found : (p : MeasuredZone → Bool) (zones : List MeasuredZone) (i : ℕ) (z : MeasuredZone) (b : Bool) → i < length zones → z ≡ get_or zones i z → b ≡ p z → b ≡ true → true ≡ list_any p zones
-one_found p zones i z b within is is_b met = sym (list_any_at p zones i z within (ap p (sym is) ∙ sym is_b ∙ met))
+pub one_found : {X : Type 0} (p : X → Bool) (xs : List X) (i : ℕ) (x : X) (b : Bool) → i < length xs → x ≡ get_or xs i x → b ≡ p x → b ≡ true → true ≡ list_any p xs
+one_found p xs i x b within is is_b met = sym (list_any_at p xs i x within (ap p (sym is) ∙ sym is_b ∙ met))
 
-pub none_found : (p : MeasuredZone → Bool) (zones : List MeasuredZone) (i : ℕ) → length zones ≤ i → list_any p (take i zones) ≡ false → false ≡ list_any p zones
-none_found p zones i past before = sym before ∙ ap (list_any p) (take_all i zones past)
+pub none_found : {X : Type 0} (p : X → Bool) (xs : List X) (i : ℕ) → length xs ≤ i → list_any p (take i xs) ≡ false → false ≡ list_any p xs
+none_found p xs i past before = sym before ∙ ap (list_any p) (take_all i xs past)
