@@ -1,3 +1,4 @@
+pub mod Going
 pub mod Placed
 pub mod Bits
 pub mod Cases
