@@ -27,6 +27,7 @@ pub mod Growing
 pub mod Stepping
 pub mod Following
 pub mod Leaving
+pub mod Living
 pub mod Cleared
 pub mod Returned
 mod Starting
