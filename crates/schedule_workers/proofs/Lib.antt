@@ -28,6 +28,7 @@ pub mod Stepping
 pub mod Following
 pub mod Leaving
 pub mod Living
+pub mod Making
 pub mod Cleared
 pub mod Returned
 mod Starting
