@@ -29,6 +29,8 @@ pub mod Following
 pub mod Leaving
 pub mod Living
 pub mod Making
+pub mod Covering
+pub mod Losing
 pub mod Cleared
 pub mod Returned
 mod Starting
