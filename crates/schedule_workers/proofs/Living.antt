@@ -1,5 +1,5 @@
 -- Frames that live, and hands that are as many as before.
-use Rattle.std.proofs.Common.{◌≡◌, ◌≢◌, ℕ, ℤ, ◌+◌, ◌<◌, ◌++◌, List, drop, length, length-append, length-drop, length-set, length-take, take, Vec, Global, Option, Some, None, refl, sym, ap, ◌∙◌, subst, arith}
+use Rattle.std.proofs.Common.{◌≡◌, ◌≢◌, ℕ, ℤ, ◌+◌, ◌<◌, ◌++◌, List, drop, length, length-append, length-drop, length-set, length-take, take, Vec, Global, Option, Some, None, refl, sym, ◌∙◌, subst, arith}
 use Rattle.std.specs.Prelude.{IsSome}
 use Rattle.std.specs.Vec.{vec_len, with_item}
 use Rattle.cactus.specs.declared.node.Node.{Node}

@@ -10,7 +10,6 @@ use Rattle.schedule_workers.specs.declared.run.Run.{Run}
 use Rattle.schedule_workers.specs.Lent.{piece_of}
 use Rattle.schedule_workers.specs.Pieces.{HoldsUsable, IsUsable}
 use Rattle.schedule_workers.specs.Rooms.{IsRoom, IsRoomier, empty_at}
-use Rattle.schedule_workers.proofs.Roomy.{vec_small}
 
 -- ---- room
 

@@ -1,8 +1,5 @@
-use Rattle.std.proofs.Common.{◌≡◌, ◌<◌, length, length-set, Some, inl, inr, refl, sym, ap, ◌∙◌, subst, arith}
-use Rattle.std.specs.Prelude.{slice_get}
+use Rattle.std.proofs.Common.{◌<◌, length, length-set, inl, inr, refl, sym, ◌∙◌, arith}
 use Rattle.std.proofs.lemmas.Option.{slice_get_read}
-use Rattle.sync_join.specs.declared.count.Outcome.{Outcome}
-use Rattle.schedule_workers.specs.Forking.{resumed_by_child}
 use Rattle.schedule_workers.proofs.Losing.{living_now, not_resumed, one_less, resumed_ready, resumed_stalled}
 use Rattle.schedule_workers.proofs.activation.Activation.lose_child.Goals as goal
 

@@ -1,6 +1,6 @@
-use Rattle.std.proofs.Common.{rules, ◌≡◌, ◌+◌, ◌<◌, ◌≤◌, ◌⊎◌, min, max, inl, inr, sym, ap, ◌∙◌, arith}
+use Rattle.std.proofs.Common.{rules, ◌≡◌, ◌<◌, ◌≤◌, ◌⊎◌, inl, inr, arith}
 use Rattle.frame.specs.declared.frame.Role.TheVariants.{Body}
-use Rattle.schedule_workers.specs.Lent.{own_block, place_at}
+use Rattle.schedule_workers.specs.Lent.{place_at}
 use Rattle.schedule_workers.specs.Pieces.{Touches, own_end}
 use Rattle.schedule_workers.proofs.Covering.{beside, untouched, with_own}
 use Rattle.schedule_workers.proofs.pieces.Taken.with_frame.Goals as goal

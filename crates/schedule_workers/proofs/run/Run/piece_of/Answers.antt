@@ -1,4 +1,4 @@
-use Rattle.std.proofs.Common.{◌≡◌, ℕ, ◌*◌, ◌/◌, refl, ap, ◌∙◌, arith}
+use Rattle.std.proofs.Common.{ℕ, ◌*◌, ◌/◌, refl, ap, ◌∙◌, arith}
 use Rattle.schedule_workers.proofs.Making.{holds_usable, share_is, usable}
 use Rattle.schedule_workers.proofs.Roomy.{vec_small}
 use Rattle.schedule_workers.proofs.run.Run.piece_of.Goals as goal
