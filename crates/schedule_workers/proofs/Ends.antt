@@ -1,5 +1,6 @@
 -- What is free at the ends of a worker's piece of what is lent.
 use Rattle.std.proofs.Common.{◌≡◌, ◌⊎◌, ℕ, ◌+◌, ◌-◌, ◌<◌, ◌≤◌, Some, length, inl, inr, sym, ◌∙◌, arith}
+use Rattle.std.specs.Prelude.{slice_get}
 use Rattle.std.proofs.lemmas.Bool.Decides.{leb_tells}
 use Rattle.program.specs.declared.function.Program.{Program}
 use Rattle.frame.specs.declared.frame.Role.TheVariants.{Body}

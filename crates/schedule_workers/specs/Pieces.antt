@@ -1,5 +1,5 @@
 -- For the functions of this crate alone: a worker's piece of what is lent, and where living frames have allocas in it.
-use Rattle.std.specs.Prelude.{◌≡◌, ◌⊎◌, ℕ, ◌+◌, ◌<◌, ◌≤◌, length, Some}
+use Rattle.std.specs.Prelude.{◌≡◌, ◌⊎◌, ℕ, ◌+◌, ◌<◌, ◌≤◌, length, Some, slice_get}
 use Rattle.program.specs.declared.function.Program.{Program}
 use Rattle.frame.specs.declared.frame.Role.TheVariants.{Body}
 use Rattle.cactus.specs.declared.node.Node.{Node}
