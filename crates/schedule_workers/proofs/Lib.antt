@@ -27,7 +27,12 @@ pub mod Growing
 pub mod Stepping
 pub mod Following
 pub mod Leaving
+pub mod Living
+pub mod Making
+pub mod Covering
+pub mod Losing
 pub mod Cleared
 pub mod Returned
 mod Starting
+mod Rooted
 mod Copied

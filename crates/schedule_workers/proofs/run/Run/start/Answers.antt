@@ -6,7 +6,10 @@ use Rattle.cactus.specs.Frames.{Frames}
 use Rattle.schedule_workers.specs.declared.activation.Activation.{Activation}
 use Rattle.schedule_workers.specs.declared.run.Run.{Run}
 use Rattle.schedule_workers.specs.Roots.{HasBlock, IsRoot}
+use Rattle.schedule_workers.specs.Follows.{AreGiven}
 use Rattle.schedule_workers.specs.Shown.{IsShown}
+use Rattle.schedule_workers.specs.Stalls.{StallsAgree, no_blocks}
+use Rattle.schedule_workers.proofs.Rooted.{root_given, root_runs}
 use Rattle.schedule_workers.proofs.Starting.{IsFirst, begin_shown, main_cells}
 use Rattle.schedule_workers.proofs.run.Run.start.Goals as goal
 
@@ -56,3 +59,12 @@ returns-clause-begins c =
     λ places memory at stands.
     subst (λ frames. IsShown prog places (running.start prog arguments memory) (begun frames)) (sym c.cactus.view_is)
     (begin_shown prog arguments numbers.items f c.args.workers slot a (begun c.add_root.new.self) first c.requires.workers c.function_at-main.ensures (c.requires.entry f c.function_at-main.ensures) places memory at stands)
+
+pub returns-clause-given : goal.returns-clause-given
+returns-clause-given c =
+    subst AreGiven (sym c.cactus.view_is) (root_given c.new-cactus.result c.add_root.new.self c.in_ok-root.root c.in_ok-slot.slot c.new-cactus.ensures.none c.in_ok-slot.ensures.ok)
+
+pub returns-clause-stalls : goal.returns-clause-stalls
+returns-clause-stalls c =
+    let runs = ap (λ (x : Activation). x.runner) c.in_ok-root.ensures.is in
+    subst (StallsAgree no_blocks) (sym c.cactus.view_is) (root_runs c.new-cactus.result c.add_root.new.self c.in_ok-root.root c.in_ok-slot.slot c.new-cactus.ensures.none c.in_ok-slot.ensures.ok runs)
