@@ -1,6 +1,7 @@
 pub mod CallLaws
 pub mod Covering
 pub mod Defining
+mod FunctionGiven
 pub mod Heads
 pub mod Judging
 pub mod Scopes
