@@ -4,6 +4,7 @@ pub mod Defining
 mod FunctionGiven
 pub mod Heads
 pub mod Judging
+mod Mains
 pub mod Scopes
 pub mod TextCalls
 pub mod Programs
