@@ -9,6 +9,7 @@ mod Needs
 mod NeverSure
 mod Paths
 mod OnOk
+mod Reading
 mod Settling
 mod Tables
 mod Undefined

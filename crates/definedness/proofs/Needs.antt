@@ -1,5 +1,5 @@
 -- What one element more adds to a list of acts.
-use Rattle.std.proofs.Common.{◌≡◌, ℕ, ◌+◌, ◌<◌, List, ◌++◌, length, take, get_or, subst}
+use Rattle.std.proofs.Common.{◌≡◌, ℕ, ◌+◌, ◌<◌, List, ◌++◌, length, take, get_or, subst, append_assoc}
 use Rattle.std.specs.List.{flat_map}
 use Rattle.std.proofs.lemmas.List.{take_more, flat_map_more}
 
@@ -12,3 +12,6 @@ pub item_more : {X A : Type 0} (f : X → List A) (xs : List X) (i : ℕ) (x : X
 item_more {X} {A} f xs i x before now new l at e is =
     let P : X → Type 0 = λ y. new ≡ now ++ f y in
     one_more f xs i x before now new l e (subst P at is)
+
+pub two_parts : {A : Type 0} (old mid new a b : List A) → mid ≡ old ++ a → new ≡ mid ++ b → new ≡ old ++ (a ++ b)
+two_parts old mid new a b p q = rw (q, p) (append_assoc old a b)

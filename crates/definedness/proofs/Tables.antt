@@ -10,7 +10,8 @@ use Rattle.definedness.specs.declared.act.Act.{Act}
 use Rattle.definedness.specs.declared.act.Act.TheVariants.{Needs, Gives}
 use Rattle.definedness.specs.declared.act.BlockActs.{BlockActs}
 use Rattle.definedness.specs.declared.table.Given.{Given}
-use Rattle.definedness.specs.Needs.{numbers_of, numbers_at, IsNeedBelow, AreNeedsBelow}
+use Rattle.definedness.specs.declared.table.Row.{Row}
+use Rattle.definedness.specs.Needs.{numbers_of, numbers_at, mark_at, IsNeedBelow, AreNeedsBelow}
 use Rattle.refusal.proofs.Places.{read_at}
 
 -- the marks of the first blocks
@@ -64,3 +65,6 @@ pub blocks_next : (table : List BlockActs) (i : ℕ) (block : BlockActs) (m n : 
 blocks_next table i block m n l is le before here =
     let P : ℕ → BlockActs → Type 0 = λ m b. All (IsNeedBelow m) b.acts in
     rw (take_more table i block l, ← is) (All-push (P n) (take i table) block (All-weaker (P m) (P n) (block_weaker m n le) (take i table) before) here)
+
+pub row_seen : (rows : List Row) (n b : ℕ) (row : Row) (mark : Bool) → n < length rows → row ≡ get_or rows n row → mark ≡ get_or row.marks b false → mark ≡ mark_at rows n b
+row_seen rows n b row mark l at is = rw (read_at rows n row l at) is

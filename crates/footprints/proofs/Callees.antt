@@ -1,5 +1,5 @@
 -- A callee's zones, one after another.
-use Rattle.std.proofs.Common.{◌≡◌, ℕ, ◌<◌, ◌+◌, List, length, take, get_or}
+use Rattle.std.proofs.Common.{◌≡◌, ◌∙◌, sym, ap, ℕ, ◌<◌, ◌+◌, List, length, take, get_or}
 use Rattle.std.specs.List.{list_all}
 use Rattle.std.proofs.lemmas.List.Folds.{list_all_more}
 use Rattle.program.specs.declared.annotation.Zone.{Zone}
@@ -23,3 +23,12 @@ zones_use_more p arguments zones i d l =
       list_all_more (λ (z : Zone). is_put_allowed p (put_in arguments z)) zones i d l,
       list_all_more (λ (z : Zone). is_put_clear p (put_in arguments z)) zones i d l,
     )
+
+-- what the loop has after one more zone
+pub zones_use_next : (p : Place) (arguments : List Argument) (zones : List Zone) (i : ℕ) (z : Zone) (all one new : Use) → i < length zones → z ≡ get_or zones i z → all ≡ zones_use p arguments (take i zones) → one ≡ put_use p (put_in arguments z) → new ≡ joined_use all one →
+    new ≡ zones_use p arguments (take (i + 1) zones)
+zones_use_next p arguments zones i z all one new within is is_all is_one is_new =
+    is_new
+    ∙ ap (λ (u : Use). joined_use u one) is_all
+    ∙ ap (joined_use (zones_use p arguments (take i zones))) (is_one ∙ ap (λ (y : Zone). put_use p (put_in arguments y)) is)
+    ∙ sym (zones_use_more p arguments zones i z within)

@@ -43,6 +43,24 @@ product_read a b x y fits_x fits_y is_a is_b =
     fits_small : (z : ℤ) → unsigned_abs z ≤ 2 ^ 126 → FitsSigned w128 z
     fits_small z small = omega (arith, ints, small)
 
+-- that product fits
+pub product_fits : (a b x y : ℤ) → FitsSigned w64 x → FitsSigned w64 y → a ≡ to_z w64 (of_z w64 x) → b ≡ to_z w64 (of_z w64 y) → FitsSigned w128 (read a *ℤ read b)
+product_fits a b x y fits_x fits_y is_a is_b =
+    let wide_x : FitsSigned w128 x = omega (arith, ints, fits_x) in
+    let wide_y : FitsSigned w128 y = omega (arith, ints, fits_y) in
+    rw (is_a, is_b, to_z-of_z w64 x fits_x, to_z-of_z w64 y fits_y, to_z-of_z w128 x wide_x, to_z-of_z w128 y wide_y) (fits_small (x *ℤ y) (product_small x y fits_x fits_y))
+  where
+    fits_small : (z : ℤ) → unsigned_abs z ≤ 2 ^ 126 → FitsSigned w128 z
+    fits_small z small = omega (arith, ints, small)
+
+-- a coefficient times a word, read
+pub multiple_small : (a b x y : ℤ) → unsigned_abs x < 2 ^ 24 → FitsSigned w64 x → FitsSigned w64 y → a ≡ to_z w64 (of_z w64 x) → b ≡ to_z w64 (of_z w64 y) → unsigned_abs (read (read a *ℤ read b)) < 2 ^ 125
+multiple_small a b x y small fits_x fits_y is_a is_b =
+    let small_x : unsigned_abs x ≤ 2 ^ 24 = omega (arith, small) in
+    let small_y : unsigned_abs y ≤ 2 ^ 63 = omega (arith, ints, fits_y) in
+    let most : unsigned_abs x * unsigned_abs y ≤ 2 ^ 24 * 2 ^ 63 = mul-le-mul small_x small_y in
+    rw (product_read a b x y fits_x fits_y is_a is_b) (omega (arith, unsigned_abs-mul x y, most))
+
 -- a sum with a word, read
 sum_read : (m constant offset : ℤ) → unsigned_abs m ≤ 2 ^ 126 → FitsSigned w64 constant → offset ≡ to_z w64 (of_z w64 constant) → read (read m +ℤ read offset) ≡ m +ℤ constant
 sum_read m constant offset small fits is =

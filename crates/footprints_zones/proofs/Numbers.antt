@@ -1,10 +1,10 @@
 -- Zones that are compared by numbers.
-use Rattle.std.proofs.Common.{rules, ◌≡◌, ◌∙◌, ◌<◌, ℕ, ◌+◌, Bool, true, false, refl, sym, ap, List, [], ◌∷◌, ◌++◌, length, get_or, take, map}
-use Rattle.std.proofs.lemmas.List.{map-append, take_more}
+use Rattle.std.proofs.Common.{rules, ◌≡◌, ◌∙◌, ◌<◌, ◌≤◌, ℕ, ◌+◌, Bool, true, false, refl, sym, ap, List, [], ◌∷◌, ◌++◌, length, get_or, take, map}
+use Rattle.std.proofs.lemmas.List.{map-append, take_more, take_all}
 use Rattle.std.specs.Prelude.{not, ◌||◌, All}
 use Rattle.std.proofs.lemmas.List.Elements.{All-append}
 use Rattle.std.specs.List.{list_any}
-use Rattle.std.proofs.lemmas.List.Folds.{list_any_at}
+use Rattle.std.proofs.lemmas.List.Folds.{list_any_at, list_any_more}
 use Rattle.linear.specs.declared.form.Fact.{Fact}
 use Rattle.program.specs.declared.annotation.Pending.{Pending}
 use Rattle.program.specs.declared.annotation.Zone.{Zone}
@@ -69,8 +69,28 @@ zones_more measured m zones k d within before own =
     ∙ ap (λ (z : Zone). take k zones ++ z ∷ []) own
     ∙ sym (take_more zones k d within)
 
+-- one more pending zone is measured
+pub pending_more : (measured : List MeasuredZone) (m : MeasuredZone) (pending : List Pending) (k : ℕ) (d : Pending) → k < length pending → zones_of measured ≡ map (λ (q : Pending). q.zone) (take k pending) → m.zone.now ≡ (get_or pending k d).zone → zones_of (measured ++ m ∷ []) ≡ map (λ (q : Pending). q.zone) (take (k + 1) pending)
+pending_more measured m pending k d within before own =
+    map-append (λ (x : MeasuredZone). x.zone.now) measured (m ∷ [])
+    ∙ ap (λ (zs : List Zone). zs ++ m.zone.now ∷ []) before
+    ∙ ap (λ (z : Zone). map (λ (q : Pending). q.zone) (take k pending) ++ z ∷ []) own
+    ∙ sym (map-append (λ (q : Pending). q.zone) (take k pending) (get_or pending k d ∷ []))
+    ∙ ap (map (λ (q : Pending). q.zone)) (sym (take_more pending k d within))
+
 pub measured_more : (facts : List Fact) (measured : List MeasuredZone) (m : MeasuredZone) → All (IsMeasured facts) measured → IsMeasured facts m → All (IsMeasured facts) (measured ++ m ∷ [])
 measured_more facts measured m before own = All-append (IsMeasured facts) measured (m ∷ []) before (All-one m own)
   where
     All-one : (m : MeasuredZone) → IsMeasured facts m → All (IsMeasured facts) (m ∷ [])
     All-one m own = search (rules, own)
+
+-- ---- one element after another
+
+pub none_next : {X : Type 0} (p : X → Bool) (xs : List X) (i : ℕ) (x : X) (b : Bool) → i < length xs → x ≡ get_or xs i x → b ≡ p x → b ≡ false → list_any p (take i xs) ≡ false → list_any p (take (i + 1) xs) ≡ false
+none_next p xs i x b within is is_b apart before = list_any_more p xs i x within ∙ rw before (ap p (sym is) ∙ sym is_b ∙ apart)
+
+pub one_found : {X : Type 0} (p : X → Bool) (xs : List X) (i : ℕ) (x : X) (b : Bool) → i < length xs → x ≡ get_or xs i x → b ≡ p x → b ≡ true → true ≡ list_any p xs
+one_found p xs i x b within is is_b met = sym (list_any_at p xs i x within (ap p (sym is) ∙ sym is_b ∙ met))
+
+pub none_found : {X : Type 0} (p : X → Bool) (xs : List X) (i : ℕ) → length xs ≤ i → list_any p (take i xs) ≡ false → false ≡ list_any p xs
+none_found p xs i past before = sym before ∙ ap (list_any p) (take_all i xs past)

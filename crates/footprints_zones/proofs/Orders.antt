@@ -1,7 +1,8 @@
 -- What facts show of two numbers' order.
-use Rattle.std.proofs.Common.{◌≡◌, ◌<◌, ℤ, pos, negsuc, ◌-ℤ◌, ◌≤ℤ◌, ◌<ℤ◌, true, false, List, [], ◌∷◌, ◌++◌, Option, Some, None, ◌*ℤ◌, ◌+ℤ◌, ℕ, ◌+◌, length, drop, get_or, inl, refl, sym, ap, subst, arith, unsigned_abs}
+use Rattle.std.proofs.Common.{◌≡◌, ◌<◌, ◌^◌, ℤ, to_z, of_z, FitsSigned, pos, negsuc, ◌-ℤ◌, ◌≤ℤ◌, ◌<ℤ◌, true, false, List, [], ◌∷◌, ◌++◌, Option, Some, None, ◌*ℤ◌, ◌+ℤ◌, ℕ, ◌+◌, length, drop, get_or, inl, refl, sym, ◌∙◌, ap, subst, arith, unsigned_abs}
+use Rattle.std.specs.Int.{w128}
 use Rattle.std.proofs.lemmas.Bool.{lt-ltb}
-use Rattle.std.proofs.lemmas.Int.{ints}
+use Rattle.std.proofs.lemmas.Int.{ints, to_z-of_z}
 use Rattle.std.proofs.lemmas.List.{drop_more}
 use Rattle.linear.specs.declared.form.Fact.{Fact}
 use Rattle.linear.specs.declared.form.Term.{Term}
@@ -14,6 +15,7 @@ use Rattle.ranges.specs.cfg.declared.structure.Move.{Move}
 use Rattle.ranges.specs.ranges_owed.declared.sum.Part.{Part}
 use Rattle.ranges.specs.ranges_owed.Inequalities.{operand_for, parts_of}
 use Rattle.ranges.specs.Sums.{with_operand, with_parts, start_of, sum_form, shows, shows_form}
+use Rattle.footprints_zones.specs.Levels.{IsLevel}
 use Rattle.footprints_zones.specs.Zones.{between}
 
 -- absent facts add up to 0, which is at most the number
@@ -75,3 +77,52 @@ pub shown_of_sum : (for_high : List Move) (high : Combination) (for_low : List M
     (facts : List Fact) → shows facts (between for_high high for_low low) ≡ is_shown facts (constant_form number)
 shown_of_sum for_high high for_low low upper number small of_high of_low facts =
     ap (shows_form facts) (number_of_sum for_high high for_low low upper number small of_high of_low)
+
+-- ---- what the code reads of two ends
+
+-- two constants of forms, and their difference, have 128 bits
+pub difference_fits : (a b : ℤ) → unsigned_abs a < 2 ^ 100 → unsigned_abs b < 2 ^ 100 → FitsSigned w128 (to_z w128 (of_z w128 a) -ℤ to_z w128 (of_z w128 b))
+difference_fits a b small_a small_b =
+    let fits_a : FitsSigned w128 a = omega (arith, ints, small_a) in
+    let fits_b : FitsSigned w128 b = omega (arith, ints, small_b) in
+    let fits : FitsSigned w128 (a -ℤ b) = omega (arith, ints, small_a, small_b) in
+    rw (to_z-of_z w128 a fits_a, to_z-of_z w128 b fits_b) fits
+
+pub difference_read : (a b : ℤ) → unsigned_abs a < 2 ^ 100 → unsigned_abs b < 2 ^ 100 → to_z w128 (of_z w128 (to_z w128 (of_z w128 a) -ℤ to_z w128 (of_z w128 b))) ≡ a -ℤ b
+difference_read a b small_a small_b =
+    let fits_a : FitsSigned w128 a = omega (arith, ints, small_a) in
+    let fits_b : FitsSigned w128 b = omega (arith, ints, small_b) in
+    let fits : FitsSigned w128 (a -ℤ b) = omega (arith, ints, small_a, small_b) in
+    rw (to_z-of_z w128 a fits_a, to_z-of_z w128 b fits_b) (to_z-of_z w128 (a -ℤ b) fits)
+
+pub small_read : (z : ℤ) → unsigned_abs z < 2 ^ 100 → to_z w128 (of_z w128 z) ≡ z
+small_read z small =
+    let fits : FitsSigned w128 z = omega (arith, ints, small) in
+    to_z-of_z w128 z fits
+
+-- the terms and the constants of two ends
+pub record AreEnds (high low : Combination) (high_terms low_terms : List Term) (start : ℤ) : Type 0 where
+  pub of_high : high_terms ≡ high.terms
+  pub of_low : low_terms ≡ low.terms
+  pub begins : start ≡ high.constant -ℤ low.constant
+  pub small : unsigned_abs start < 2 ^ 100
+
+pub level_shown : (for_high : List Move) (high : Combination) (for_low : List Move) (low : Combination) (high_terms low_terms : List Term) (start : ℤ) → AreEnds high low high_terms low_terms start → IsLevel for_high high_terms for_low low_terms →
+    (facts : List Fact) → shows facts (between for_high high for_low low) ≡ is_shown facts (constant_form start)
+level_shown for_high high for_low low high_terms low_terms start are level facts = ap (shows facts) sum_is ∙ level.same facts start are.small
+  where
+    sum_is : between for_high high for_low low ≡ record { constant = start; parts = parts_of for_high (pos 1) high_terms ++ parts_of for_low (negsuc 0) low_terms }
+    sum_is = rw (are.of_high, are.of_low, are.begins) refl
+
+pub runs_shown : (for_high : List Move) (high : Combination) (for_low : List Move) (low : Combination) (high_terms low_terms : List Term) (start upper number : ℤ) → AreEnds high low high_terms low_terms start →
+    with_parts (parts_of for_high (pos 1) high_terms) (Some (constant_form start)) ≡ Some (constant_form upper) → unsigned_abs upper < 2 ^ 100 →
+    with_parts (parts_of for_low (negsuc 0) low_terms) (Some (constant_form (to_z w128 (of_z w128 upper)))) ≡ Some (constant_form number) → (facts : List Fact) → shows facts (between for_high high for_low low) ≡ is_shown facts (constant_form number)
+runs_shown for_high high for_low low high_terms low_terms start upper number are of_high small of_low =
+    let of_high2 = rw (are.of_high, are.begins) at of_high in
+    let of_low2 = rw (are.of_low, small_read upper small) at of_low in
+    shown_of_sum for_high high for_low low upper number (subst (λ (z : ℤ). unsigned_abs z < 2 ^ 100) are.begins are.small) of_high2 of_low2
+
+-- the sum that is built of two ends
+pub sum_between : (for_high : List Move) (high : Combination) (for_low : List Move) (low : Combination) (high_terms low_terms : List Term) (start : ℤ) (first parts : List Part) → high_terms ≡ high.terms → low_terms ≡ low.terms → start ≡ high.constant -ℤ low.constant →
+    first ≡ parts_of for_high (pos 1) high_terms → parts ≡ first ++ parts_of for_low (negsuc 0) low_terms → record { constant = start; parts = parts } ≡ between for_high high for_low low
+sum_between for_high high for_low low high_terms low_terms start first parts of_high of_low begins is_first is_parts = rw (is_parts, is_first, of_high, of_low, begins) refl

@@ -1,3 +1,5 @@
+pub mod Going
+pub mod Placed
 pub mod Bits
 pub mod Cases
 pub mod Shown

@@ -1,3 +1,4 @@
+mod Refilled
 pub mod Chained
 pub mod Kept
 pub mod Keeps

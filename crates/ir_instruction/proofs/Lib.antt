@@ -9,4 +9,5 @@ pub mod Takes
 pub mod InstructionTakes
 pub mod TerminatorTakes
 pub mod Parted
+mod Pushed
 pub mod SymbolsSpelled

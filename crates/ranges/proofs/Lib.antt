@@ -5,3 +5,4 @@ pub mod Blocks
 pub mod Edges
 pub mod Truth
 pub mod Passed
+pub mod Products

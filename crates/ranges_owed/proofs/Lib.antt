@@ -1,1 +1,3 @@
+mod Cells
+mod Differences
 mod Joined

@@ -202,3 +202,6 @@ read_seen labels b x r v l read e t = ap is_seen (read_label labels b x l read) 
 -- the edges of the block that a loop has come to
 pub edges_item : (blocks : List BlockEdges) (i : ℕ) (body : BlockEdges) (edges : List Edge) → i < length blocks → body ≡ get_or blocks i body → edges ≡ body.edges → edges_of blocks i ≡ edges
 edges_item blocks i body edges l is read = edges_of-read blocks i body l ∙ ap (λ (x : BlockEdges). x.edges) (sym is) ∙ sym read
+
+pub less_left : (a b k : ℕ) (work rest : List ℕ) (x : ℕ) → a + b ≡ k + length rest → work ≡ rest ++ x ∷ [] → a + b < k + length work
+less_left a b k work rest x e is = let l = length_push rest x in rw is (omega (arith, e, l))

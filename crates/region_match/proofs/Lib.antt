@@ -1,6 +1,7 @@
 pub mod AllTables
 pub mod Clashes
 pub mod Conversion
+mod Ended
 pub mod Endings
 pub mod FunctionFacts
 pub mod Labelling

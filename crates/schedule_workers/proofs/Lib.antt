@@ -27,6 +27,10 @@ pub mod Growing
 pub mod Stepping
 pub mod Following
 pub mod Leaving
+pub mod Living
+pub mod Making
+pub mod Covering
+pub mod Losing
 pub mod Cleared
 pub mod Returned
 mod Starting

@@ -2,7 +2,7 @@
 use Rattle.std.proofs.Common.{◌≡◌, ◌≢◌, ◌<◌, ◌≤◌, ◌-◌, ◌++◌, ◌⊎◌, ℕ, suc, ℤ, refl, sym, ap, ◌∙◌, arith, Bool, true, false, cond, nat_lt, List, length, take, drop, set, Some, inl, inr, pos}
 use Rattle.std.specs.Prelude.{slice_get}
 use Rattle.std.proofs.lemmas.Bool.Decides.{eqb_tells, leb_tells}
-use Rattle.std.proofs.lemmas.List.{get_or-set_same, get_or-set_other, get_or-append_right, get_or_append_left, get_or-take, length-take-le}
+use Rattle.std.proofs.lemmas.List.{get_or-set_same, get_or-set_other, get_or-append_right, get_or_append_left, get_or-take, length-append, length-take-le}
 use Rattle.std.proofs.lemmas.List.Edits.{get_or-between}
 use Rattle.std.proofs.lemmas.Option.{slice_get-get_or, slice_get_past}
 use Rattle.frame_strand.specs.declared.cells.Change.TheVariants.{Stored, Delta}
@@ -81,6 +81,12 @@ module _ (row ys values : List ℤ) (from end : ℕ) (long : length row ≡ 64) 
       ap (λ (xs : List ℤ). number_at xs (j - from)) is ∙
       get_or-between values from end (j - from) (pos 0) (omega (arith, le, lt)) ∙
       ap (number_at values) (omega (arith, le))
+
+  pub filled_long : length rest ≡ 64 - end → length filled_row ≡ 64
+  filled_long behind =
+      let both = length-append (take from row) (ys ++ rest) in
+      let later = length-append ys rest in
+      omega (arith, front, both, later, few, behind, some, within)
 
   pub near_filled : length values ≡ end → near_by end filled_row ≡ (λ j. first_of (near_by from row j) (slice_get values j))
   near_filled size = λ i j. at j i

@@ -1,4 +1,3 @@
-use Rattle.std.proofs.Common.{◌≡◌, true}
 use Rattle.footprints_zones.specs.Zones.{Span, span, as_written}
 use Rattle.footprints_zones.proofs.Numbers.{covers_around}
 use Rattle.footprints_zones.proofs.measured.covers_by_end.Goals as goal

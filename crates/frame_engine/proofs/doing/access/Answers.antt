@@ -1,9 +1,10 @@
-use Rattle.std.proofs.Common.{rules}
+use Rattle.std.proofs.Common.{length, rules}
 use Rattle.std.proofs.Common.{FitsSigned}
 use Rattle.std.specs.Int.{w64}
 use Rattle.std.proofs.lemmas.Int.{to_z-of_z}
 use mir.Val.{to_z, of_z}
 use Rattle.frame_engine.proofs.Bits.{written}
+use Rattle.frame_engine.proofs.Going.{operand_alone}
 use Rattle.frame_engine.proofs.PlainSteps.{load_stepped, load_reached}
 use Rattle.frame_engine.specs.Words.{bases}
 use Rattle.frame_engine.proofs.Writes.{store_stepped, store_reached, add_stepped, add_reached}
@@ -87,3 +88,30 @@ returns-in-Err-add-clause-refused g c = λ prog l p f m shown safe.
     let n = c.word-in-AtomicAdd in
     let t = add_cell prog l _ p f m _ _ c.args.regs.now shown i.at i.value at.result _ n.result _ (rw i.is at safe) at.ensures (written at.result at.type_inv) n.ensures (written n.result n.type_inv) in
     rw i.is (t.0, t.1, t.2, t.3, t.4, subst (λ (a : ℤ). g.C.Cells.refuses c.args.cells.now (Adds a t.1) c.in-Err-add.stop) t.5 (subst (λ (z : ℤ). g.C.Cells.refuses c.args.cells.now (Adds (to_z w64 (of_z w64 at.result)) z) c.in-Err-add.stop) t.6 c.in-Err-add.ensures.refused))
+
+pub returns-in-Err-clause-unchanged : goal.returns-in-Err-clause-unchanged
+returns-in-Err-clause-unchanged g c = c.in-Err.ensures.unchanged
+
+pub returns-in-Err-store-clause-unchanged : goal.returns-in-Err-store-clause-unchanged
+returns-in-Err-store-clause-unchanged g c = c.in-Err-store.ensures.unchanged
+
+pub returns-in-Err-add-clause-unchanged : goal.returns-in-Err-add-clause-unchanged
+returns-in-Err-add-clause-unchanged g c = c.in-Err-add.ensures.unchanged
+
+pub address-requires : goal.address-requires
+address-requires g c = (rw c.in-Load.is at c.requires.names).1
+
+pub define-requires : goal.define-requires
+define-requires g c = (rw c.in-Load.is at c.requires.names).0
+
+pub address-cell-requires : goal.address-cell-requires
+address-cell-requires g c = (rw c.in-Store.is at c.requires.names).1
+
+pub word-requires : goal.word-requires
+word-requires g c = operand_alone _ (length c.args.globals.now) (length c.args.allocas.now) c.in-Store.value (rw c.in-Store.is at c.requires.names).0
+
+pub address-cell-requires-in-AtomicAdd : goal.address-cell-requires-in-AtomicAdd
+address-cell-requires-in-AtomicAdd g c = (rw c.in-AtomicAdd.is at c.requires.names).0
+
+pub word-requires-in-AtomicAdd : goal.word-requires-in-AtomicAdd
+word-requires-in-AtomicAdd g c = operand_alone _ (length c.args.globals.now) (length c.args.allocas.now) c.in-AtomicAdd.value (rw c.in-AtomicAdd.is at c.requires.names).1

@@ -1,7 +1,9 @@
 use Rattle.std.proofs.Common.{◌≡◌, ◌<◌, length, sym, ◌∙◌, arith, rules}
 use Rattle.std.proofs.lemmas.Bool.{eqb-true, eqb-false}
+use Rattle.std.proofs.lemmas.List.{replicate_more}
+use Rattle.region_match.specs.declared.task.Task.TheVariants.{Unreached}
 use Rattle.region_match.proofs.task.first_tasks.Goals.{then-not-is_empty+in_ok-push-2, else-not-is_empty}
-use Rattle.region_match.proofs.Labelling.{next_within, next_marked, Labelling-start, Labelling-none, Labelling-step, edges_of-read, read_label}
+use Rattle.region_match.proofs.Labelling.{next_within, next_marked, Labelling-start, Labelling-none, Labelling-step, edges_of-read, read_label, less_left, Labelling-end}
 use Rattle.region_match.proofs.task.first_tasks.Goals as goal
 
 pub loop-block-2-init : goal.loop-block-2-init
@@ -39,3 +41,12 @@ loop-block-2-preserved c =
     let within : c.in-Some.block < length c.args.blocks.now = next_within _ _ _ _ _ c.loop-block-2.invariant c.in-Some.ensures.items in
     Labelling-step _ _ _ _ c.in-Some.block _ _ c.loop-block-2.invariant c.in-Some.ensures.items
     (rw (edges_of-read c.args.blocks.now c.in-Some.block c.index-blocks-block.result within, ← c.as_slice.ensures, read_label c.loop-block-2.tasks.items c.in-Some.block c.index-task.result.now (rw c.loop-block-2.invariant.size within) c.index-task.ensures) c.in_ok-label_targets.ensures)
+
+pub loop-block-preserved : goal.loop-block-preserved
+loop-block-preserved c = rw (c.in_ok-push.ensures.items, c.loop-block.invariant) (replicate_more c.loop-block._block Unreached)
+
+pub loop-block-2-smaller : goal.loop-block-2-smaller
+loop-block-2-smaller c = less_left _ _ _ _ _ c.in-Some.block c.in_ok-label_targets.ensures.count c.in-Some.ensures.items
+
+pub returns : goal.returns
+returns c = Labelling-end _ _ c.loop-block-2.work.items c.loop-block-2.invariant (rw c.loop-block-2.work.ok.0 at c.in_default.ensures.cases.0)

@@ -1,6 +1,6 @@
-use Rattle.std.proofs.Common.{rules, true, ◌≡◌, ◌+◌, ◌<◌, ℕ, List, [], max, Option, Some, None, sym, ap, ◌∙◌, subst, arith}
+use Rattle.std.proofs.Common.{rules, true, ◌≡◌, ◌+◌, ◌<◌, ℕ, List, [], length, max, Option, Some, None, sym, ap, ◌∙◌, subst, arith}
 use Rattle.std.specs.Prelude.{map, sum}
-use Rattle.std.specs.Vec.{with_item}
+use Rattle.std.specs.Vec.{vec_len, with_item}
 use Rattle.std.specs.Option.{option_copied, option_copied_mut}
 use Rattle.std.proofs.Math.Logic.{∥∥₁_elim}
 use Rattle.std.proofs.Props.{props}
@@ -22,7 +22,8 @@ use Rattle.schedule_workers.specs.declared.run.Run.{Run}
 use Rattle.schedule_workers.specs.Going.{DoesStep}
 use Rattle.schedule_workers.proofs.Called.{allocas_there, arguments_fit, call_steps, callee_there, caller_kept, is_low}
 use Rattle.schedule_workers.proofs.Callee.{call_names}
-use Rattle.schedule_workers.proofs.Onward.{fits_prop}
+use Rattle.schedule_workers.proofs.Living.{as_many_hands, lives_at, parent_lives, room_small, room_there}
+use Rattle.schedule_workers.proofs.Onward.{fits_prop, not_there}
 use Rattle.schedule_workers.proofs.Stepping.{same_room}
 use Rattle.schedule_workers.proofs.Views.{node_tells}
 use Rattle.schedule_workers.specs.Follows.{Follows}
@@ -252,3 +253,52 @@ pub returns-in_err-push_call_in-clause-follows : goal.returns-in_err-push_call_i
 returns-in_err-push_call_in-clause-follows c =
     let slots = ap (λ (x : Run). x.cactus) c.make_room.ensures.roomier.only in
     subst (λ (x : Frames Activation). Follows c.args.self.now.cactus x) (sym (c.in_err-push_call_in.ensures.err ∙ slots)) (follows_same c.args.self.now.cactus)
+
+pub callee_of-requires-clause-start : goal.callee_of-requires-clause-start
+callee_of-requires-clause-start c = let small = room_small c.make_room.new.self _ _ _ c.in_ok-block.ensures.room in omega (arith, small)
+
+pub push_call_in-requires-clause-lives : goal.push_call_in-requires-clause-lives
+push_call_in-requires-clause-lives c = lives_at c.make_room.new.self.cactus c.args.slot c.in-Some-node.node.now (sym c.node.ensures ∙ ap option_copied c.in-Some-node.is)
+
+pub unreachable-requires-in_default-frame_mut : goal.unreachable-requires-in_default-frame_mut
+unreachable-requires-in_default-frame_mut c =
+    not_there c.push_call_in.new.self c.args.slot (parent_lives c.make_room.new.self.cactus _ c.args.slot _ _ _ c.in_ok-push_call_in.ensures.ok)
+    (sym c.frame_mut.ensures.value ∙ ap option_copied_mut c.in_default-frame_mut.is)
+
+pub give-requires-clause-slot : goal.give-requires-clause-slot
+give-requires-clause-slot c = room_there c.make_room.new.self _ _ _ c.in_ok-block.ensures.room
+
+pub give-requires-clause-end : goal.give-requires-clause-end
+give-requires-clause-end c = let small = room_small c.make_room.new.self _ _ _ c.in_ok-block.ensures.room in omega (arith, small)
+
+pub set_hand-requires : goal.set_hand-requires
+set_hand-requires c =
+    let same = ap (λ (x : Run). x.hands) c.count_call.ensures ∙ (ap (λ (x : Run). x.hands) c.give.ensures ∙ ap (λ (x : Run). x.hands) c.make_room.ensures.roomier.only) in
+    subst (λ hands. c.args.worker < vec_len hands) (sym same) c.requires.worker
+
+pub returns-clause-workers : goal.returns-clause-workers
+returns-clause-workers c =
+    let same = ap (λ (x : Run). length x.hands.items) c.count_call.ensures ∙ (ap (λ (x : Run). length x.hands.items) c.give.ensures ∙ ap (λ (x : Run). length x.hands.items) c.make_room.ensures.roomier.only) in
+    ap (λ (x : Run). length x.hands.items) c.set_hand.ensures ∙ (as_many_hands c.count_call.new.self.hands c.args.worker (Some c.next_slot-child.result) ∙ same)
+
+pub returns-clause-moves : goal.returns-clause-moves
+returns-clause-moves c =
+    ap (λ (x : Run). x.moves) c.set_hand.ensures ∙ (ap (λ (x : Run). x.moves) c.count_call.ensures ∙ (ap (λ (x : Run). x.moves) c.give.ensures ∙ ap (λ (x : Run). x.moves) c.make_room.ensures.roomier.only))
+
+pub returns-in_err-block-clause-workers : goal.returns-in_err-block-clause-workers
+returns-in_err-block-clause-workers c = ap (λ (x : Run). length x.hands.items) c.make_room.ensures.roomier.only
+
+pub returns-in_err-begun-clause-workers : goal.returns-in_err-begun-clause-workers
+returns-in_err-begun-clause-workers c = ap (λ (x : Run). length x.hands.items) c.make_room.ensures.roomier.only
+
+pub returns-in_err-push_call_in-clause-workers : goal.returns-in_err-push_call_in-clause-workers
+returns-in_err-push_call_in-clause-workers c = ap (λ (x : Run). length x.hands.items) c.make_room.ensures.roomier.only
+
+pub returns-in_err-block-clause-moves : goal.returns-in_err-block-clause-moves
+returns-in_err-block-clause-moves c = ap (λ (x : Run). x.moves) c.make_room.ensures.roomier.only
+
+pub returns-in_err-begun-clause-moves : goal.returns-in_err-begun-clause-moves
+returns-in_err-begun-clause-moves c = ap (λ (x : Run). x.moves) c.make_room.ensures.roomier.only
+
+pub returns-in_err-push_call_in-clause-moves : goal.returns-in_err-push_call_in-clause-moves
+returns-in_err-push_call_in-clause-moves c = ap (λ (x : Run). x.moves) c.make_room.ensures.roomier.only

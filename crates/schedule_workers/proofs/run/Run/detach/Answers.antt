@@ -10,6 +10,8 @@ use Rattle.std.specs.Vec.{vec_len}
 use Rattle.frame_engine.specs.declared.activation.Frame.{Frame}
 use Rattle.frame_engine.specs.Activation.{ShowsFrame}
 use Rattle.schedule_workers.specs.Scheduling.{counted_in}
+use Rattle.schedule_workers.proofs.Living.{as_many_hands, lives_at, parent_lives}
+use Rattle.schedule_workers.proofs.Onward.{not_there}
 use Rattle.schedule_workers.proofs.Views.{node_tells}
 use Rattle.schedule_workers.proofs.Detaching.{count_room, counts_region, depth_room, detach_shown, found_again, frames_room, made_room}
 use Rattle.schedule_workers.proofs.Syncing.{LeadsTo}
@@ -138,3 +140,20 @@ returns-in_err-begun_slot-clause-grows c = on_err c.from_residual-in_err-begun_s
 
 pub returns-in_err-begun_slot-clause-follows : goal.returns-in_err-begun_slot-clause-follows
 returns-in_err-begun_slot-clause-follows c = subst (λ (x : Frames Activation). Follows c.args.self.now.cactus x) (sym c.in_err-begun_slot.ensures.err) (follows_same c.args.self.now.cactus)
+
+pub add_child-requires-clause-lives : goal.add_child-requires-clause-lives
+add_child-requires-clause-lives c = lives_at c.args.self.now.cactus c.args.slot c.in-Some.node.now (sym c.node.ensures ∙ ap option_copied c.in-Some.is)
+
+pub unreachable-requires-in_default-frame_mut : goal.unreachable-requires-in_default-frame_mut
+unreachable-requires-in_default-frame_mut c =
+    not_there c.add_child.new.self c.args.slot (parent_lives c.args.self.now.cactus _ c.args.slot _ _ _ c.in_ok-begun_slot.ensures.ok)
+    (sym c.frame_mut.ensures.value ∙ ap option_copied_mut c.in_default-frame_mut.is)
+
+pub set_hand-requires : goal.set_hand-requires
+set_hand-requires c = c.requires.worker
+
+pub returns-clause-workers : goal.returns-clause-workers
+returns-clause-workers c = ap (λ (x : Run). length x.hands.items) c.set_hand.ensures ∙ as_many_hands c.args.self.now.hands c.args.worker (Some c.in_ok-begun_slot.begun_slot)
+
+pub returns-clause-moves : goal.returns-clause-moves
+returns-clause-moves c = ap (λ (x : Run). x.moves) c.set_hand.ensures

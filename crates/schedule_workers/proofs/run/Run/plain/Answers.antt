@@ -1,4 +1,4 @@
-use Rattle.std.proofs.Common.{rules, ◌+◌, ◌<◌, [], Some, refl, sym, ap, ◌∙◌, arith}
+use Rattle.std.proofs.Common.{rules, ℤ, ◌+◌, ◌<◌, List, [], length, Some, refl, sym, ap, ◌∙◌, subst, arith}
 use Rattle.std.proofs.Math.Logic.{∥∥₁_elim, ∥∥₁_map}
 use Rattle.std.proofs.Props.{props}
 use Rattle.std.specs.Option.{option_copied_mut}
@@ -8,6 +8,8 @@ use Rattle.frame_engine.specs.declared.activation.Frame.{Frame}
 use Rattle.schedule_workers.specs.declared.activation.Activation.{Activation}
 use Rattle.schedule_workers.specs.Layouts.{layout_of}
 use Rattle.schedule_workers.specs.Shown.{place_of}
+use Rattle.frame_engine.specs.Activation.{ProgramFits}
+use Rattle.schedule_workers.proofs.Living.{written_long}
 use Rattle.schedule_workers.proofs.Onward.{fits_prop, left_shown, node_of, not_there, safe_standing, seen, stays, step_shown}
 use Rattle.schedule_workers.proofs.Noted.{own_notes, ready_free, written_keeps_one}
 use Rattle.schedule_workers.proofs.Uses.{written_uses}
@@ -85,3 +87,20 @@ returns-clause-uses c = written_uses c.args.self.now.cactus c.args.slot _
 
 pub returns-then-self-before-clause-uses : goal.returns-then-self-before-clause-uses
 returns-then-self-before-clause-uses c = written_uses c.args.self.now.cactus c.args.slot _
+
+pub turn-pause-requires-clause-fits : goal.turn-pause-requires-clause-fits
+turn-pause-requires-clause-fits c = subst (λ (xs : List ℤ). ProgramFits c.args.program.now c.args.places.now (length xs)) (sym c.as_mut_slice.ensures.value) c.requires.text
+
+pub returns-clause-hands : goal.returns-clause-hands
+returns-clause-hands c = refl
+
+pub returns-then-self-before-clause-hands : goal.returns-then-self-before-clause-hands
+returns-then-self-before-clause-hands c = refl
+
+pub returns-clause-moves : goal.returns-clause-moves
+returns-clause-moves c =
+    written_long c.args.self.now.moves c.turn-pause.new.moves (c.turn-pause.ensures.moves ∙ ap (λ (xs : List ℤ). length xs) c.as_mut_slice.ensures.value)
+
+pub returns-then-self-before-clause-moves : goal.returns-then-self-before-clause-moves
+returns-then-self-before-clause-moves c =
+    written_long c.args.self.now.moves c.turn-pause.new.moves (c.turn-pause.ensures.moves ∙ ap (λ (xs : List ℤ). length xs) c.as_mut_slice.ensures.value)

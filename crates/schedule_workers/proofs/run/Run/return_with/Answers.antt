@@ -1,7 +1,8 @@
-use Rattle.std.proofs.Common.{rules, [], ◌≡◌, ℕ, ◌+◌, ◌<◌, length, Option, true, sym, ap, ◌∙◌, subst, arith}
+use Rattle.std.proofs.Common.{rules, Vec, Global, [], ◌≡◌, ℕ, ◌+◌, ◌<◌, length, Option, true, sym, ap, ◌∙◌, subst, arith}
 use Rattle.std.specs.Option.{option_copied_mut}
 use Rattle.std.proofs.Math.Logic.{∥∥₁_elim}
 use Rattle.std.proofs.Props.{props}
+use Rattle.std.specs.Vec.{vec_len}
 use Rattle.semantics.specs.Events.{Step}
 use Rattle.frame_engine.specs.Activation.{FrameFits}
 use Rattle.frame_engine.specs.Names.{HasResult, taker_of}
@@ -10,6 +11,7 @@ use Rattle.schedule_workers.specs.declared.run.Run.{Run}
 use Rattle.schedule_workers.specs.Follows.{Follows}
 use Rattle.schedule_workers.specs.Stalls.{NotesStalls}
 use Rattle.schedule_workers.proofs.Leaving.{found_above, lives_mid}
+use Rattle.schedule_workers.proofs.Living.{as_many_hands}
 use Rattle.schedule_workers.proofs.Onward.{fits_prop, not_there}
 use Rattle.schedule_workers.proofs.Noted.{end_notes, last_notes, run_free}
 use Rattle.schedule_workers.proofs.Returned.{goes_on, has_register, has_result_prop, handed, no_result, number_is, return_names, root_result, run_ends}
@@ -116,3 +118,30 @@ returns-clause-follows c =
       | in_default+then-is_some b ↦ end _ b.self-is none
       | in_default+else-is_some b ↦ end _ b.self-is none
     ]
+
+pub set_hand-requires : goal.set_hand-requires
+set_hand-requires c =
+    let same : c.match-over.self.hands ≡ c.args.self.now.hands = elim c.match-over.branch [
+      | in-Some+in-Some-frame_mut b ↦ ap (λ (x : Run). x.hands) b.self-is
+      | in_default+then-is_some b ↦ ap (λ (x : Run). x.hands) b.self-is
+      | in_default+else-is_some b ↦ ap (λ (x : Run). x.hands) b.self-is
+    ] in
+    subst (λ (hands : Vec (Option ℕ) Global). c.args.worker < vec_len hands) (sym same) c.requires.worker
+
+pub returns-clause-workers : goal.returns-clause-workers
+returns-clause-workers c =
+    let same : c.match-over.self.hands ≡ c.args.self.now.hands = elim c.match-over.branch [
+      | in-Some+in-Some-frame_mut b ↦ ap (λ (x : Run). x.hands) b.self-is
+      | in_default+then-is_some b ↦ ap (λ (x : Run). x.hands) b.self-is
+      | in_default+else-is_some b ↦ ap (λ (x : Run). x.hands) b.self-is
+    ] in
+    ap (λ (x : Run). length x.hands.items) c.set_hand.ensures ∙ (as_many_hands c.match-over.self.hands c.args.worker c.pop_call-over.result.parent ∙ ap (λ (hands : Vec (Option ℕ) Global). length hands.items) same)
+
+pub returns-clause-moves : goal.returns-clause-moves
+returns-clause-moves c =
+    let same : c.match-over.self.moves ≡ c.args.self.now.moves = elim c.match-over.branch [
+      | in-Some+in-Some-frame_mut b ↦ ap (λ (x : Run). x.moves) b.self-is
+      | in_default+then-is_some b ↦ ap (λ (x : Run). x.moves) b.self-is
+      | in_default+else-is_some b ↦ ap (λ (x : Run). x.moves) b.self-is
+    ] in
+    ap (λ (x : Run). x.moves) c.set_hand.ensures ∙ same

@@ -1,4 +1,4 @@
-use Rattle.std.proofs.Common.{rules, ℕ, FitsSigned, ◌≡◌, ◌+◌, ◌-◌, ◌∙◌, ap, arith, pos, List, Some, length, ◌≤◌, ◌++◌, replicate, subst, sym, slice_get}
+use Rattle.std.proofs.Common.{rules, ℕ, FitsSigned, ◌≡◌, ◌+◌, ◌-◌, ◌∙◌, ap, arith, pos, List, Some, length, ◌<◌, ◌≤◌, ◌++◌, replicate, subst, sym, slice_get}
 use Rattle.std.specs.Prelude.{map, sum}
 use Rattle.std.specs.Int.{w64}
 use mir.Val.{to_z, of_z}
@@ -73,3 +73,16 @@ returns-clause-goes c = λ globals s h can.
     (subst (λ (f : Frame). caller ≡ record f { place = record { block = f.place.block; index = f.place.index + 1 }; made = f.made + 1; waits = wait.Call f.made d }) c.deref_mut.ensures.value c.wait_for_call.ensures.is)
     (λ l at p g shown. c.wait_for_call.ensures.shown l at p g (subst (ShowsFrame l at p g) (sym c.deref_mut.ensures.value) shown))
     j n (ap (λ (x : Stack). x.top.value) pushed) (unboxed_push _ _ _ c.in_ok-push.ensures.below) grown missing ends
+
+pub call_into-requires-clause-depth : goal.call_into-requires-clause-depth
+call_into-requires-clause-depth c =
+    let same : c.deref.result.now ≡ c.args.self.now.top.value = c.deref.ensures ∙ ap (λ (x : Stack). x.top.value) c.in_ok-frame.ensures.only in
+    subst (λ (f : Frame). f.depth + 1 < 18446744073709551616) (sym same) c.requires.numbers.depth
+
+pub call_into-requires-clause-there : goal.call_into-requires-clause-there
+call_into-requires-clause-there c =
+    let same : c.deref.result.now ≡ c.args.self.now.top.value = c.deref.ensures ∙ ap (λ (x : Stack). x.top.value) c.in_ok-frame.ensures.only in
+    subst (λ (f : Frame). f.function.0 < length c.args.places.now.allocas) (sym same) (rw c.requires.text.fits.allocas c.requires.stands.there)
+
+pub returns-clause-moves : goal.returns-clause-moves
+returns-clause-moves c = ap (λ (x : Stack). x.moves) c.in_ok-push.ensures.only ∙ ap (λ (x : Stack). x.moves) c.in_ok-frame.ensures.only

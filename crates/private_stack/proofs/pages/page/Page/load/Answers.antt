@@ -1,6 +1,8 @@
-use Rattle.std.proofs.Common.{◌≡◌, ◌∙◌, ℤ, ap, sym, arith, rules, false, w64, Some}
+use Rattle.std.proofs.Common.{◌≡◌, ◌≢◌, ◌<◌, ◌∙◌, ℕ, ℤ, ap, sym, arith, inl, inr, rules, true, false, w64, Some}
 use Rattle.std.specs.Prelude.{FitsSigned}
 use Rattle.std.proofs.lemmas.Bool.{or_parts}
+use Rattle.std.proofs.lemmas.Bool.Decides.{eqb_tells}
+use Rattle.std.proofs.lemmas.List.{length-set}
 use Rattle.std.proofs.lemmas.Int.{to_z-of_z}
 use Rattle.semantics.specs.Arithmetic.{cell_sum}
 use Rattle.private_stack.specs.pages.Bits.{is_set}
@@ -81,3 +83,41 @@ returns-clause-done c =
     loaded_delta x k fresh c.if-place-self.false c.with_bit-self.result c.with_bit-self.ensures.set c.with_bit-self.ensures.others
     (sym c.if-not-is_set.ensures) (omega (arith, long, within)) c.with_bit-self-2.result c.with_bit-self-2.ensures.set c.with_bit-self-2.ensures.others _
     (to_z-of_z w64 c.sum-number.result fit ∙ c.sum-number.ensures ∙ (λ i. cell_sum (to_z-of_z w64 (number_at x.values k) value i) (to_z-of_z w64 (number_at x.changes k) change i)))
+
+-- one more cell that is at hand was read
+near_more : (read after place filled : ℕ) → ((k : ℕ) → k ≢ place → is_set after k ≡ is_set read k) → ((k : ℕ) → is_set read k ≡ true → k < filled) → place < filled → (k : ℕ) → is_set after k ≡ true → k < filled
+near_more read after place filled others near low k on = elim (eqb_tells k place) [
+  | inl q ↦ let same = q.1 in omega (arith, same, low)
+  | inr q ↦ near k (sym (others k q.1) ∙ on)
+]
+
+pub invariant_of-self-clause-rows : goal.invariant_of-self-clause-rows
+invariant_of-self-clause-rows c = (c.args.self.now.rows.0, length-set c.args.self.now.changes c.args.place _ ∙ c.args.self.now.rows.1)
+
+pub invariant_of-self-clause-within : goal.invariant_of-self-clause-within
+invariant_of-self-clause-within c = c.args.self.now.within
+
+pub invariant_of-self-clause-read_near : goal.invariant_of-self-clause-read_near
+invariant_of-self-clause-read_near c =
+    let x = c.args.self.now in
+    near_more x.read c.with_bit-self.result c.args.place x.filled c.with_bit-self.ensures.others x.read_near c.if-place-self.false
+
+pub invariant_of-self-2-clause-rows : goal.invariant_of-self-2-clause-rows
+invariant_of-self-2-clause-rows c = (c.args.self.now.rows.0, length-set c.args.self.now.changes c.args.place _ ∙ c.args.self.now.rows.1)
+
+pub invariant_of-self-2-clause-within : goal.invariant_of-self-2-clause-within
+invariant_of-self-2-clause-within c = c.args.self.now.within
+
+pub invariant_of-self-2-clause-read_near : goal.invariant_of-self-2-clause-read_near
+invariant_of-self-2-clause-read_near c =
+    let x = c.args.self.now in
+    near_more x.read c.with_bit-self.result c.args.place x.filled c.with_bit-self.ensures.others x.read_near c.if-place-self.false
+
+pub bounds-self-place : goal.bounds-self-place
+bounds-self-place c = c.requires
+
+pub bounds-self-place-2 : goal.bounds-self-place-2
+bounds-self-place-2 c = c.requires
+
+pub bounds-self-place-3 : goal.bounds-self-place-3
+bounds-self-place-3 c = c.requires
