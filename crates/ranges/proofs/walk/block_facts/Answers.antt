@@ -1,4 +1,3 @@
-use Rattle.std.proofs.lemmas.Result.{IfOk-from_err}
 use Rattle.std.proofs.Common.{◌∙◌}
 use Rattle.ranges.proofs.Blocks.{walked_is, edges_all, block_table, block_named}
 use Rattle.ranges.proofs.walk.block_facts.Goals as goal
@@ -20,21 +19,3 @@ returns-clause-named c =
     (rw c.as_slice-steps.ensures at c.in_ok-counts.ensures.named)
     c.in_ok-edges.ensures.named
     c.lower.ensures
-
-pub returns-in_err-start-clause-table : goal.returns-in_err-start-clause-table
-returns-in_err-start-clause-table c = IfOk-from_err c.from_residual.result _ c.from_residual.ensures.0
-
-pub returns-in_err-start-clause-named : goal.returns-in_err-start-clause-named
-returns-in_err-start-clause-named c = IfOk-from_err c.from_residual.result _ c.from_residual.ensures.0
-
-pub returns-in_err-counts-clause-table : goal.returns-in_err-counts-clause-table
-returns-in_err-counts-clause-table c = IfOk-from_err c.from_residual-in_err-counts.result _ c.from_residual-in_err-counts.ensures.0
-
-pub returns-in_err-counts-clause-named : goal.returns-in_err-counts-clause-named
-returns-in_err-counts-clause-named c = IfOk-from_err c.from_residual-in_err-counts.result _ c.from_residual-in_err-counts.ensures.0
-
-pub returns-in_err-edges-clause-table : goal.returns-in_err-edges-clause-table
-returns-in_err-edges-clause-table c = IfOk-from_err c.from_residual-in_err-edges.result _ c.from_residual-in_err-edges.ensures.0
-
-pub returns-in_err-edges-clause-named : goal.returns-in_err-edges-clause-named
-returns-in_err-edges-clause-named c = IfOk-from_err c.from_residual-in_err-edges.result _ c.from_residual-in_err-edges.ensures.0

@@ -1,4 +1,3 @@
-use Rattle.std.proofs.lemmas.Result.{IfOk-from_err}
 use Rattle.std.proofs.Common.{◌≡◌, length, arith}
 use Rattle.program.specs.declared.instruction.Step.{Step}
 use Rattle.ranges.specs.Places.{facts_before}
@@ -51,15 +50,3 @@ returns-clause-walked c =
 
 pub returns-clause-named : goal.returns-clause-named
 returns-clause-named c = below_all (λ i (step : Step). IsStepBroken c.args.program.now c.args.function.now (facts_before c.args.program.now.functions c.args.facts.now c.args.steps.now i) step) c.args.steps.now _ _ c.loop-step-test.false c.loop-step.invariant.1
-
-pub returns-in_err-pass_step-clause-walked : goal.returns-in_err-pass_step-clause-walked
-returns-in_err-pass_step-clause-walked c = IfOk-from_err c.from_residual.result _ c.from_residual.ensures.0
-
-pub returns-in_err-pass_step-clause-named : goal.returns-in_err-pass_step-clause-named
-returns-in_err-pass_step-clause-named c = IfOk-from_err c.from_residual.result _ c.from_residual.ensures.0
-
-pub returns-in_err-broken-clause-walked : goal.returns-in_err-broken-clause-walked
-returns-in_err-broken-clause-walked c = IfOk-from_err c.from_residual-in_err-broken.result _ c.from_residual-in_err-broken.ensures.0
-
-pub returns-in_err-broken-clause-named : goal.returns-in_err-broken-clause-named
-returns-in_err-broken-clause-named c = IfOk-from_err c.from_residual-in_err-broken.result _ c.from_residual-in_err-broken.ensures.0
