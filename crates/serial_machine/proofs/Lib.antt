@@ -1,5 +1,6 @@
 pub mod Arguments
 pub mod Globals
+mod Sizes
 pub mod Ends
 pub mod room
 pub mod walks
