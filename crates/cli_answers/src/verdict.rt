@@ -3,9 +3,9 @@
 use crate::annotations::{in_own_lines, judged_text};
 use crate::requests::effort_of;
 use cli_words::{Beside, Request};
-use debugger::{Refused, Unverified, Verified, verify_within};
 use std::alloc::{AllocError, Global};
 use std::hash::RandomState;
+use verifier::{Refused, Unverified, Verified, verify_within};
 
 /// A text as it is judged, and the verdict.
 #[derive(Drop)]

@@ -17,9 +17,10 @@ mod tell;
 mod teller;
 mod telling;
 
+pub use debugger::{Event, Finished, Machine};
 pub use draw::run_drawn;
 pub use figures::{Crew, Effort};
-pub use job::{Job, Question};
+pub use job::Job;
 pub use runs::{debug, prepared, print_run, print_unprepared, run_serial};
 pub use tell::{is_told, tell_course, tell_replay};
 pub use view_run::Course;

@@ -11,6 +11,7 @@ mod manual_page;
 mod names;
 mod options;
 mod parsing;
+mod question;
 mod request;
 mod shells;
 mod table;
@@ -25,6 +26,7 @@ pub use io::{
 pub use manual_page::manual;
 pub use names::is_name;
 pub use parsing::words;
+pub use question::Question;
 pub use request::{
     Annotating, CellWord, DataWord, DataWords, Dialogue, Request, RowWord, Setting, Shell, Telling,
     Verb, WordsFault,

@@ -1,12 +1,14 @@
 //! Runs on threads, and all other answers.
 
+use crate::answers::{answer, answer_verified};
 use crate::clocks::microseconds_since;
 use crate::recorded::run_told;
 use crate::speedup::run_speedup;
 use cli_answers::{
-    Beside, Job, Question, Request, Status, Verb, Verdict, answer, answer_verified, fail, is_told,
-    prepared, print_run, print_unprepared, print_unreadable, print_unverified, verdict_on,
+    Beside, Question, Request, Status, Verb, Verdict, fail, print_unreadable, print_unverified,
+    verdict_on,
 };
+use cli_runs::{Job, is_told, prepared, print_run, print_unprepared};
 use deque_pool::OpenGate;
 use std::io;
 use std::io::{Read, Write};

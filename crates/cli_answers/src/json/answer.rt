@@ -6,14 +6,13 @@ use crate::json::explanation::explanation_json;
 use crate::json::fault::refusal_json;
 use crate::json::known::known_json;
 use crate::json::verdict::{UNDECIDED, accepted_json};
-use cli_runs::Question;
-use cli_words::{Beside, Request, Status, Verb, stop_for_memory};
-use debugger::{Effort, Refused, Unverified, Verified, verify_within};
+use cli_words::{Beside, Question, Request, Status, Verb, stop_for_memory};
 use explain::{Explanation, explain};
 use std::alloc::{AllocError, Global};
 use std::hash::RandomState;
 use std::io;
 use std::io::Write;
+use verifier::{Effort, Refused, Unverified, Verified, verify_within};
 use view_module::show;
 
 /// A module whose answer is JSON.
