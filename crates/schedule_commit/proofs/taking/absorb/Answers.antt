@@ -1,9 +1,11 @@
-use Rattle.std.proofs.Common.{◌≡◌, ◌≢◌, Option, Some, false, true, sym, subst}
+use Rattle.std.proofs.Common.{◌≡◌, ◌≢◌, Option, Some, false, true, refl, sym, subst}
+use Rattle.program.specs.declared.function.Program.{Program}
+use Rattle.frame_engine.specs.declared.activation.Places.{Places}
 use Rattle.frame_strand.specs.declared.standing.Pause.{Pause}
 use Rattle.frame_strand.specs.declared.standing.Pause.TheVariants.{Blank, Border}
 use Rattle.schedule_workers.proofs.Uses.{follows_same, keeps_follows}
-use Rattle.schedule_commit.specs.Absorbing.{DoesSteps, LeavesStallsBy, steps_in}
-use Rattle.schedule_commit.proofs.Goes.{uses_stay}
+use Rattle.schedule_commit.specs.Absorbing.{DoesSteps, LeavesStallsBy, StandsAlone, steps_in}
+use Rattle.schedule_commit.proofs.Goes.{hands_stay, moves_stay, uses_stay}
 use Rattle.schedule_commit.proofs.Taken.{going_of, hand_stays, steps_before, went_does, went_stalls}
 use Rattle.schedule_commit.proofs.taking.absorb.Goals as goal
 
@@ -60,3 +62,30 @@ pub returns-else-is_at-2-clause-follows : goal.returns-else-is_at-2-clause-follo
 returns-else-is_at-2-clause-follows c =
     keeps_follows c.args.run.now.cactus c.go_on.new.run.cactus
     (uses_stay c.args.program.now c.args.places.now c.args.run.now c.go_on.new.run c.args.worker c.in-Some.slot c.args.strand.now c.go_on.ensures.left c.go_on.ensures.put)
+
+pub go_on-requires-clause-fits : goal.go_on-requires-clause-fits
+go_on-requires-clause-fits c = (c.args.worker, c.in-Some.ensures.fits)
+
+pub go_on-requires-clause-going : goal.go_on-requires-clause-going
+go_on-requires-clause-going c = λ b. (let f : false ≡ true = c.if-is_at.ensures.1 b in cc)
+
+pub go_on-requires-clause-safe : goal.go_on-requires-clause-safe
+go_on-requires-clause-safe c =
+    subst (λ (p : Places). ∥ StandsAlone c.args.strand.now.program.now p c.args.run.now ∥₁) (sym c.requires.places)
+    (subst (λ (p : Program). ∥ StandsAlone p c.args.places.now c.args.run.now ∥₁) (sym c.requires.program) c.requires.safe)
+
+pub returns-in_ok-go_over-clause-exactly : goal.returns-in_ok-go_over-clause-exactly
+returns-in_ok-go_over-clause-exactly c =
+    let not_blank : c.args.strand.now.pause ≢ Some Blank = λ b. (let f : false ≡ true = c.if-is_at.ensures.1 b in cc) in
+    (λ e. (not_blank, (c.in-Some.slot, c.in-Some.ensures.fits)), λ h. refl)
+
+pub returns-else-is_at-2-clause-exactly : goal.returns-else-is_at-2-clause-exactly
+returns-else-is_at-2-clause-exactly c =
+    let not_blank : c.args.strand.now.pause ≢ Some Blank = λ b. (let f : false ≡ true = c.if-is_at.ensures.1 b in cc) in
+    (λ e. (not_blank, (c.in-Some.slot, c.in-Some.ensures.fits)), λ h. refl)
+
+pub returns-else-is_at-2-clause-workers : goal.returns-else-is_at-2-clause-workers
+returns-else-is_at-2-clause-workers c = rw (hands_stay c.args.program.now c.args.places.now c.args.run.now c.go_on.new.run c.args.worker c.in-Some.slot c.args.strand.now c.go_on.ensures.left c.go_on.ensures.put)
+
+pub returns-else-is_at-2-clause-moves : goal.returns-else-is_at-2-clause-moves
+returns-else-is_at-2-clause-moves c = rw (moves_stay c.args.program.now c.args.places.now c.args.run.now c.go_on.new.run c.args.worker c.in-Some.slot c.args.strand.now c.go_on.ensures.left c.go_on.ensures.put)

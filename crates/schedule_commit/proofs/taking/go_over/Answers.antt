@@ -1,12 +1,16 @@
-use Rattle.std.proofs.Common.{List, ℤ, length, sym, ap, subst}
+use Rattle.std.proofs.Common.{◌≡◌, ◌∙◌, List, ℤ, Some, length, refl, sym, ap, subst}
+use Rattle.program.specs.declared.function.Program.{Program}
+use Rattle.frame_engine.specs.declared.activation.Places.{Places}
+use Rattle.frame_strand.specs.declared.standing.Pause.TheVariants.{Blank, Border}
 use Rattle.schedule_workers.specs.declared.run.Run.{Run}
 use Rattle.schedule_workers.specs.Follows.{Follows}
 use Rattle.schedule_workers.specs.Rooms.{IsRoomier}
 use Rattle.schedule_workers.proofs.Growing.{on_err}
 use Rattle.schedule_workers.proofs.Stepping.{roomier_leaves, same_room}
 use Rattle.schedule_workers.proofs.Uses.{follows_same, kept_follows}
+use Rattle.schedule_commit.specs.Absorbing.{StandsAlone}
 use Rattle.schedule_commit.specs.TakingBack.{AreNumbersOf}
-use Rattle.schedule_commit.proofs.Goes.{uses_stay}
+use Rattle.schedule_commit.proofs.Goes.{hands_stay, moves_stay, uses_stay}
 use Rattle.schedule_commit.proofs.Taken.{going_at, over_does, over_stalls, put_within, went_border, went_stands}
 use Rattle.schedule_commit.proofs.TakenBack.{was_put}
 use Rattle.schedule_commit.proofs.Undone.{roomier_after}
@@ -87,3 +91,26 @@ returns-clause-workers c = ap (λ (k : Run). length k.hands.items) (after c).onl
 
 pub returns-clause-moves : goal.returns-clause-moves
 returns-clause-moves c = ap (λ (k : Run). length k.moves.items) (after c).only
+
+pub go_on-requires-clause-fits : goal.go_on-requires-clause-fits
+go_on-requires-clause-fits c = (c.args.worker, c.requires.fits)
+
+pub go_on-requires-clause-going : goal.go_on-requires-clause-going
+go_on-requires-clause-going c = λ blank. (let e : Some Border ≡ Some Blank = sym c.requires.border ∙ blank in cc)
+
+pub go_on-requires-clause-safe : goal.go_on-requires-clause-safe
+go_on-requires-clause-safe c =
+    subst (λ (p : Places). ∥ StandsAlone c.args.strand.now.program.now p c.args.run.now ∥₁) (sym c.requires.places)
+    (subst (λ (p : Program). ∥ StandsAlone p c.args.places.now c.args.run.now ∥₁) (sym c.requires.program) c.requires.safe)
+
+pub border-requires-clause-text : goal.border-requires-clause-text
+border-requires-clause-text c = rw (moves_stay c.args.program.now c.args.places.now c.args.run.now c.go_on.new.run c.args.worker c.args.slot c.args.strand.now c.go_on.ensures.left c.go_on.ensures.put) c.requires.text
+
+pub border-requires-clause-hand : goal.border-requires-clause-hand
+border-requires-clause-hand c = rw (hands_stay c.args.program.now c.args.places.now c.args.run.now c.go_on.new.run c.args.worker c.args.slot c.args.strand.now c.go_on.ensures.left c.go_on.ensures.put) c.requires.fits.hand
+
+pub returns-in-Ok-clause-workers : goal.returns-in-Ok-clause-workers
+returns-in-Ok-clause-workers c = c.border.ensures.workers ∙ rw (hands_stay c.args.program.now c.args.places.now c.args.run.now c.go_on.new.run c.args.worker c.args.slot c.args.strand.now c.go_on.ensures.left c.go_on.ensures.put)
+
+pub returns-in-Ok-clause-moves : goal.returns-in-Ok-clause-moves
+returns-in-Ok-clause-moves c = c.border.ensures.moves ∙ rw (moves_stay c.args.program.now c.args.places.now c.args.run.now c.go_on.new.run c.args.worker c.args.slot c.args.strand.now c.go_on.ensures.left c.go_on.ensures.put)
