@@ -1,5 +1,5 @@
 -- The numbers of a path, one after another.
-use Rattle.std.proofs.Common.{◌≡◌, ◌≢◌, ℕ, ◌≤◌, true, false, eqb, List, [], ◌∷◌, ◌++◌, length, drop, refl, sym, ap, ◌∙◌, subst, append_assoc, append-nil, arith}
+use Rattle.std.proofs.Common.{◌≡◌, ◌≢◌, ℕ, suc, ◌+◌, ◌≤◌, ◌<◌, true, false, eqb, List, [], ◌∷◌, ◌++◌, length, drop, refl, sym, ap, ◌∙◌, subst, append_assoc, append-nil, length-append, arith}
 use Rattle.std.specs.List.{prefix_len}
 use Rattle.std.proofs.lemmas.List.Folds.{list_all-append}
 use Rattle.std.proofs.lemmas.Bool.{eqb-true}
@@ -45,6 +45,10 @@ one_more text rest numbers k after so f = record {
         let s = same_child rest f.digits after j more f.is_split (numeral_lacks 46 f.digits k (omega arith) f.is_number) f.starts h in
         let same : j ≡ k = same_number f.digits j k s.0 f.is_number in
         (more, e ∙ ap (λ (n : ℕ). numbers ++ n ∷ more) same ∙ sym (longer numbers k more), s.2)
+
+-- a number takes at least the dot
+pub child_shorter : (text : List ℕ) (k : ℕ) (rest : List ℕ) → IsFirstChild text k rest → length rest < length text
+child_shorter text k rest f = let all : length text ≡ suc (length f.digits + length rest) = ap length f.is_split ∙ ap suc (length-append f.digits rest) in omega (arith, all)
 
 pub nothing_left : (rest : List ℕ) → true ≡ eqb (length rest) 0 → rest ≡ []
 nothing_left [] e = refl

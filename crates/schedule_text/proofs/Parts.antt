@@ -18,6 +18,18 @@ step_words line words front more worker n e cut is =
     let w = first_word words is.first is.second front more worker cut (append_cancel_left (codes "step ") words (is.first ++ 32 ∷ is.second) (sym e ∙ is.is_spelled)) is.is_worker in
     (subst (λ (ds : List ℕ). IsNumeral ds worker) w.0 is.is_worker, is.within, subst (λ (ds : List ℕ). IsNumeral ds n) w.1 is.is_count, is.some)
 
+pub stepping : (line words front more : List ℕ) (worker n : ℕ) {count : ℕ} → line ≡ codes "step " ++ words → CutAt 32 words front more → IsNumeral front worker → worker ≤ 63 → IsNumeral more n → count ≡ min n 18446744073709551615 → count ≢ 0 →
+    IsStepping line worker n
+stepping line words front more worker n e cut is within counted capped some = record {
+  first = front;
+  second = more;
+  is_spelled = e ∙ ap (λ (w : List ℕ). codes "step " ++ w) cut.is_split;
+  is_worker = is;
+  within = within;
+  is_count = counted;
+  some = omega (arith, capped, some);
+}
+
 pub steal_words : (line words front more : List ℕ) (worker : ℕ) (task : Path) → line ≡ codes "steal " ++ words → CutAt 32 words front more → IsStealing line worker task →
     IsNumeral front worker × (worker ≤ 63) × ((rest : List ℕ) × (more ≡ codes "root" ++ rest) × AreChildren rest task.numbers)
 steal_words line words front more worker task e cut is =

@@ -142,3 +142,6 @@ is_schedule text rest before number events so none =
 
 pub few_so_far : (text rest : List ℕ) (before : Option ℕ) (number : ℕ) (events : List Event) → Progress text rest before number events → length events ≤ most
 few_so_far text rest before number events so = rw so.are_events so.are_lines.few_events
+
+pub less_left : (before : Option ℕ) (text : List ℕ) (found : Line) (after : List ℕ) → IsNext before text found after → length after < length text
+less_left before text found after next = let all : length text ≡ length next.line + suc (length after) = ap length next.is_split ∙ length-append next.line (10 ∷ after) in omega (arith, all)

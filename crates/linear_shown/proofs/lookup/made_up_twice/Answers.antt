@@ -4,7 +4,7 @@ use Rattle.std.proofs.lemmas.List.{take_all, length-drop}
 use Rattle.std.proofs.lemmas.List.Sorted.{IsPartitionPoint-from_clause, IsPartitionedBy-leb, IsPartitionedBy-ltb}
 use Rattle.linear_shown.specs.declared.index.Entry.{Entry}
 use Rattle.linear_shown.specs.Index.{IsMadeUpBetween}
-use Rattle.linear_shown.proofs.Slices.{from_front, from_back}
+use Rattle.linear_shown.proofs.Slices.{from_front, from_back, are_taken, are_left}
 use Rattle.linear_shown.proofs.Passing.{between_more, halved}
 use Rattle.linear_shown.proofs.lookup.made_up_twice.Goals as goal
 
@@ -29,3 +29,9 @@ returns c =
       λ made. c.made_up_between.ensures.1 (subst (λ (ys : List Entry). IsMadeUpBetween facts e (take upto es) ys a a) (sym back)
           (halved facts e es c.requires.entries a c.args.search.now.key total upto from c.requires.key c.requires.some c.total_of.ensures c.partition_point-upto.ensures.bound above below made)),
     )
+
+pub made_up_between-requires-clause-firsts : goal.made_up_between-requires-clause-firsts
+made_up_between-requires-clause-firsts c = are_taken c.args.search.now.facts.now _ c.args.entries.now c.requires.entries
+
+pub made_up_between-requires-clause-seconds : goal.made_up_between-requires-clause-seconds
+made_up_between-requires-clause-seconds c = are_taken c.args.search.now.facts.now _ _ (are_left c.args.search.now.facts.now _ c.args.entries.now c.requires.entries)

@@ -1,4 +1,6 @@
-use Rattle.std.proofs.Common.{◌∙◌, ◌<◌, ◌≤◌, ◌-◌, pos, length, sym, arith}
+use Rattle.std.proofs.Common.{◌∙◌, ◌<◌, ◌≤◌, ◌-◌, ◌^◌, pos, length, sym, arith}
+use Rattle.std.specs.Prelude.{unsigned_abs}
+use Rattle.std.proofs.lemmas.List.Elements.{All-get_or}
 use Rattle.std.proofs.lemmas.Bool.{false≢true}
 use Rattle.linear_shown.specs.declared.index.Entry.{Entry}
 use Rattle.linear_shown.specs.Index.{Meet}
@@ -141,3 +143,27 @@ returns-then-is_enough-clause-at c = omega (arith, c.loop-first.invariant.0, c.r
 
 pub returns-then-is_enough-clause-within : goal.returns-then-is_enough-clause-within
 returns-then-is_enough-clause-within c = c.loop-first.invariant.2
+
+pub times-of_second-requires-clause-key : goal.times-of_second-requires-clause-key
+times-of_second-requires-clause-key c = All-get_or (λ (e : Entry). e.key < 2 ^ 101) c.args.pass.now.seconds.now (c.loop-first.count - 1) none (omega (arith, c.loop-first.invariant.2, c.requires.upto, c.if-count-gt0.true)) c.requires.seconds.keys
+
+pub times-of_first-requires-clause-key : goal.times-of_first-requires-clause-key
+times-of_first-requires-clause-key c = All-get_or (λ (e : Entry). e.key < 2 ^ 101) c.args.pass.now.firsts.now c.risen-first.result none (omega (arith, c.if-first-pass.false)) c.requires.firsts.keys
+
+pub is_enough-requires-clause-one : goal.is_enough-requires-clause-one
+is_enough-requires-clause-one c = All-get_or (λ (e : Entry). unsigned_abs e.constant < 2 ^ 100) c.args.pass.now.firsts.now c.risen-first.result none (omega (arith, c.if-first-pass.false)) c.requires.firsts.constants
+
+pub is_enough-requires-clause-other : goal.is_enough-requires-clause-other
+is_enough-requires-clause-other c = All-get_or (λ (e : Entry). unsigned_abs e.constant < 2 ^ 100) c.args.pass.now.seconds.now (c.loop-first.count - 1) none (omega (arith, c.loop-first.invariant.2, c.requires.upto, c.if-count-gt0.true)) c.requires.seconds.constants
+
+pub loop-first-smaller-then-total-of_first : goal.loop-first-smaller-then-total-of_first
+loop-first-smaller-then-total-of_first c = omega (arith, c.risen-first.ensures.from, c.risen-first.ensures.within, c.fallen-count.ensures.within, c.if-count-gt0.true)
+
+pub loop-first-smaller : goal.loop-first-smaller
+loop-first-smaller c = omega (arith, c.risen-first.ensures.from, c.if-first-pass.false, c.left_after-count.ensures.within, c.skipped.ensures.at, c.skipped.ensures.inside, c.skipped.ensures.within)
+
+pub returns-else-count-gt0-clause-passed : goal.returns-else-count-gt0-clause-passed
+returns-else-count-gt0-clause-passed c = c.loop-first.invariant.3
+
+pub returns-after-loop-first-clause-passed : goal.returns-after-loop-first-clause-passed
+returns-after-loop-first-clause-passed c = c.loop-first.invariant.3

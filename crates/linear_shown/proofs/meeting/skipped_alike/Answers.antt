@@ -1,5 +1,7 @@
-use Rattle.std.proofs.Common.{◌∙◌, ◌≤◌, ◌-◌, pos, get_or, length, sym, arith}
+use Rattle.std.proofs.Common.{◌∙◌, ◌<◌, ◌≤◌, ◌-◌, ◌^◌, pos, get_or, length, sym, arith}
+use Rattle.std.specs.Prelude.{unsigned_abs}
 use Rattle.std.proofs.lemmas.Bool.{false≢true}
+use Rattle.std.proofs.lemmas.List.Elements.{All-get_or}
 use Rattle.linear_shown.specs.declared.index.Entry.{Entry}
 use Rattle.linear_shown.specs.Index.{Meet}
 use Rattle.linear_shown.proofs.Passing.{passed_both, they_meet}
@@ -35,3 +37,24 @@ returns-then-is_enough-clause-passed c = rw (c.requires.first, c.requires.second
 
 pub returns-then-not-is_single-clause-passed : goal.returns-then-not-is_single-clause-passed
 returns-then-not-is_single-clause-passed c = rw (c.requires.first, c.requires.second, ← c.requires.same) c.loop-first.invariant.3
+
+pub is_enough-requires-clause-one : goal.is_enough-requires-clause-one
+is_enough-requires-clause-one c = All-get_or (λ (e : Entry). unsigned_abs e.constant < 2 ^ 100) c.args.pass.now.firsts.now c.loop-first.first none (omega (arith, c.loop-first-test.true)) c.requires.firsts.constants
+
+pub is_enough-requires-clause-other : goal.is_enough-requires-clause-other
+is_enough-requires-clause-other c = All-get_or (λ (e : Entry). unsigned_abs e.constant < 2 ^ 100) c.args.pass.now.seconds.now (c.loop-first.count - 1) none (omega (arith, c.loop-first.invariant.2, c.requires.upto, c.if-count-gt1.true)) c.requires.seconds.constants
+
+pub overflow_add-one : goal.overflow_add-one
+overflow_add-one c =
+    let one = All-get_or (λ (e : Entry). e.key < 2 ^ 101) c.args.pass.now.firsts.now c.loop-first.first none (omega (arith, c.loop-first-test.true)) c.requires.firsts.keys in
+    let other = All-get_or (λ (e : Entry). e.key < 2 ^ 101) c.args.pass.now.seconds.now (c.loop-first.count - 1) none (omega (arith, c.loop-first.invariant.2, c.requires.upto, c.if-count-gt1.true)) c.requires.seconds.keys in
+    omega (arith, one, other)
+
+pub returns-then-one-other-clause-passed : goal.returns-then-one-other-clause-passed
+returns-then-one-other-clause-passed c = rw (c.requires.first, c.requires.second, ← c.requires.same) c.loop-first.invariant.3
+
+pub returns-else-count-gt1-clause-passed : goal.returns-else-count-gt1-clause-passed
+returns-else-count-gt1-clause-passed c = rw (c.requires.first, c.requires.second, ← c.requires.same) c.loop-first.invariant.3
+
+pub returns-after-loop-first-clause-passed : goal.returns-after-loop-first-clause-passed
+returns-after-loop-first-clause-passed c = rw (c.requires.first, c.requires.second, ← c.requires.same) c.loop-first.invariant.3

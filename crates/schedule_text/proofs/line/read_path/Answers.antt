@@ -1,4 +1,4 @@
-use Rattle.schedule_text.proofs.Children.{one_more, all_read, some_left, none_left}
+use Rattle.schedule_text.proofs.Children.{child_shorter, one_more, all_read, some_left, none_left}
 use Rattle.schedule_text.proofs.line.read_path.Goals as goal
 
 pub returns-in-None-clause-none : goal.returns-in-None-clause-none
@@ -9,3 +9,6 @@ loop-rest-preserved c = rw c.in_ok-push-in-Some.ensures.items (one_more c.args.t
 
 pub returns-clause-some : goal.returns-clause-some
 returns-clause-some c = rw c.from_vec.ensures (all_read c.args.text.now c.loop-rest.rest.now c.loop-rest.numbers.items c.loop-rest.invariant c.loop-rest-test.ensures)
+
+pub loop-rest-smaller : goal.loop-rest-smaller
+loop-rest-smaller c = child_shorter c.loop-rest.rest.now c.in-Some.number c.in-Some.after.now c.in-Some.ensures.some
