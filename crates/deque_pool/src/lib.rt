@@ -1,5 +1,5 @@
 //! A run on threads: each worker does strands of its own, offers the tickets of tasks that may be stolen, and takes those of other workers when it has none
-//! (Blumofe and Leiserson, "Scheduling multithreaded computations by work stealing"). The lists of tickets are those of `ticket_lists`.
+//! (Blumofe and Leiserson, "Scheduling multithreaded computations by work stealing"). The lists of tickets are those of `deque_pool_tickets`.
 #![tactic(auto)]
 
 mod ahead;
