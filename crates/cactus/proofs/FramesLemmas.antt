@@ -1,11 +1,11 @@
 -- What stands in the slots after a change of one.
-use Rattle.std.proofs.Common.{◌≡◌, ◌≢◌, ℕ, suc, ◌<◌, length, Option, Some, None, refl, arith}
+use Rattle.std.proofs.Common.{◌≡◌, ◌≢◌, ℕ, ◌<◌, length, Option, Some, None, refl, arith}
 use Rattle.std.specs.Prelude.{IsSome, Bool, true, false, ◌==◌, if◌then◌else◌}
 use Rattle.std.proofs.lemmas.Bool.Decides.{nat_tests}
 use Rattle.std.proofs.lemmas.List.{get_or-set_same, get_or-set_other, get_or_past}
 use Rattle.std.specs.Option.{option_map}
 use Rattle.cactus.specs.declared.node.Node.{Node}
-use Rattle.cactus.specs.Frames.{Frames, node_at, node_of_use, of_generation, frame_at, slot_above, Lives}
+use Rattle.cactus.specs.Frames.{Frames, node_at, node_of_use, of_generation, frame_at, Lives}
 use Rattle.cactus.specs.Lending.{with_frame}
 
 module _ {F : Type 0} where
@@ -43,10 +43,6 @@ module _ {F : Type 0} where
       from : (found : Option (Node F)) → node_at frames slot ≡ found → option_map (λ (node : Node F). node.frame) found ≡ Some frame → Lives frames slot
       from None none here = absurd (cc)
       from (Some node) found here = rw found refl
-
-  -- one parent further up
-  pub slot_above-step : (frames : Frames F) (n m slot above : ℕ) (node : Node F) → n ≡ suc m → node_at frames slot ≡ Some node → node.parent ≡ Some above → slot_above frames n slot ≡ slot_above frames m above
-  slot_above-step frames n m slot above node one is parent = rw (one, is, parent) refl
 
   -- a use is its own
   pub node_of_use-own : (frames : Frames F) (slot : ℕ) (node : Node F) → node_at frames slot ≡ Some node → node_of_use frames slot node.generation ≡ Some node

@@ -1,6 +1,6 @@
 -- What a contract sees of a cactus: the frames in their slots, which is a map from paths to frames.
-use Rattle.std.specs.Prelude.{◌≡◌, ◌≢◌, ℕ, zero, suc, ◌+◌, ◌-◌, nat_le, List, [], ◌∷◌, ◌++◌, length, Option, Some, None, IsSome, IsSomeAnd}
-use Rattle.std.specs.Prelude.{option_and_then, slice_index_or, if◌then◌else◌, ◌==◌}
+use Rattle.std.specs.Prelude.{◌≡◌, ◌≢◌, ℕ, ◌+◌, List, [], ◌∷◌, ◌++◌, length, Option, Some, None, IsSome, IsSomeAnd}
+use Rattle.std.specs.Prelude.{slice_index_or, if◌then◌else◌, ◌==◌}
 use Rattle.std.specs.Option.{option_map}
 use Rattle.frame.specs.declared.path.Path.{Path}
 use Rattle.cactus.specs.declared.node.Node.{Node}
@@ -62,15 +62,3 @@ module _ {F : Type 0} where
   -- no frame has this path
   abbrev pub HasNoPath : Frames F → Path → Type 0
   HasNoPath frames path = (slot : ℕ) (node : Node F) → node_at frames slot ≡ Some node → node.path ≢ path
-
-  -- the slot so many parents above a slot
-  abbrev pub slot_above : Frames F → ℕ → ℕ → Option ℕ
-  slot_above frames zero slot = Some slot
-  slot_above frames (suc count) slot = option_and_then (λ (node : Node F). option_and_then (slot_above frames count) node.parent) (node_at frames slot)
-
-  -- the slot of the frame whose path is the first depth numbers of the slot's frame's path
-  abbrev pub owner_at : Frames F → ℕ → ℕ → Option ℕ
-  owner_at frames depth slot =
-      option_and_then
-      (λ (node : Node F). if nat_le depth (length node.path.numbers) then slot_above frames (length node.path.numbers - depth) slot else None)
-      (node_at frames slot)

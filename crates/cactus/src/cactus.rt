@@ -3,7 +3,7 @@ ghost use Rattle.std.specs.Prelude.{IsSome, IfOk, OnOk, OnErr, option_copied};
 ghost use Rattle.std.specs.Option.{option_copied_mut, option_map};
 ghost use Rattle.std.specs.Borrow.{sem};
 ghost use Rattle.slab.specs.Slab.{entries_from};
-ghost use Rattle.cactus.specs.Frames.{node_at, node_of_use, HasPath, HasNoPath, owner_at, slot_above, frame_at, Lives, IsAdded, AddsChild, IsRemoved};
+ghost use Rattle.cactus.specs.Frames.{node_at, node_of_use, HasPath, HasNoPath, frame_at, Lives, IsAdded, AddsChild, IsRemoved};
 ghost use Rattle.cactus.specs.ByPath.{named, IsTree, Binds, GrowsMap, ShrinksMap};
 ghost use Rattle.cactus.specs.Chain.{AddsChain, GrowsChain};
 
@@ -67,13 +67,6 @@ impl<F: Drop> Cactus<F> {
         self.nodes.len() as u64
     }
 
-    /// The number of frames that were made.
-    pub fn frames_made(&self) -> u64
-        ensures { result ≡ self.now.made }
-    {
-        self.made
-    }
-
     /// The slots where frames stand, by rising slot.
     pub fn iter(&self) -> Iter<'_, Node<F>>
         ensures { result ≡ entries_from 0 self.now.nodes }
@@ -121,28 +114,6 @@ impl<F: Drop> Cactus<F> {
             }
         }
         None
-    }
-
-    /// The slot of the frame whose path is the first `depth` numbers of the path of the frame in the slot.
-    pub fn ancestor(&self, slot: usize, depth: usize) -> Option<usize>
-        ensures { result ≡ owner_at self.now depth slot }
-    {
-        let length = self.node(slot)?.path.numbers.len();
-        if length < depth {
-            return None;
-        }
-        self.ascend(slot, length - depth)
-    }
-
-    /// The slot so many parents above a slot.
-    fn ascend(&self, slot: usize, count: usize) -> Option<usize>
-        ensures { result ≡ slot_above self.now count slot }
-    {
-        let mut found = slot;
-        for _ in 0..count {
-            found = self.node(found)?.parent?;
-        }
-        Some(found)
     }
 
     /// A slot's frame for writing; none where no frame stands there.
