@@ -77,6 +77,18 @@ pub fn lines_put_in(alloc: Global, text: &[u8], more: &[u8]) -> Result<NewLines,
     NewLines::between(alloc, text, more)
 }
 
+/// Says which line was put in.
+fn note_put_in(
+    alloc: Global,
+    more: &[u8],
+    line: u32,
+    beside: &mut Beside,
+) -> Result<(), AllocError> {
+    let put_in = line_at(utf8_of(more), line).unwrap_or("").trim();
+    let note = format!(in alloc; "of the line that was put in: {put_in}")?;
+    beside.note(note.as_str())
+}
+
 /// Why a text with lines put in is not verified, by the lines of the text without them; which line was put in is told beside it.
 pub fn in_own_lines(
     alloc: Global,
@@ -90,10 +102,7 @@ pub fn in_own_lines(
     };
     let new = lines_put_in(alloc, text, more)?;
     if new.has(line) {
-        let more = utf8_of(more);
-        let put_in = line_at(more, line).unwrap_or("").trim();
-        let note = format!(in alloc; "of the line that was put in: {put_in}")?;
-        beside.note(note.as_str())?;
+        note_put_in(alloc, more, line, beside)?;
     }
     let line = new.own_line(line);
     Ok(Unverified::Refused(Refused::Fault { number, line }))

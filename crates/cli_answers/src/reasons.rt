@@ -8,13 +8,46 @@ use annotate::NewLines;
 use cli_words::{Beside, Request, Status, stop_for_memory};
 use explain::{Explanation, explain, rule_text, told};
 use lists::OutOfMemory;
-use std::alloc::Global;
+use std::alloc::{AllocError, Global};
 use std::hash::RandomState;
 use std::io;
 use std::io::Write;
 use verifier::{Effort, Refused};
 
-/// The text of an explanation, and the status: 1 where the module is refused, 3 where there is no verdict. Its first fault is told beside it, on the own line
+/// The status of an explanation: 1 where the module is refused, 3 where there is no verdict.
+pub fn status_of(explanation: &Explanation) -> Status {
+    match explanation {
+        Explanation::Accepted { .. } => Status::Done,
+        Explanation::Refused { .. } => Status::Refused,
+        Explanation::Undecided => Status::Stopped,
+    }
+}
+
+/// Tells the first fault, on the own line of the text without those that were put in.
+fn note_first(
+    alloc: Global,
+    file: &str,
+    text: &[u8],
+    new: &NewLines,
+    explanation: &Explanation,
+    beside: &mut Beside,
+) -> Result<(), AllocError> {
+    let Explanation::Refused { first, .. } = explanation else {
+        return Ok(());
+    };
+    let own_line = new.own_line(first.line);
+    note_fault_at(
+        alloc,
+        file,
+        own_line,
+        text,
+        first.number,
+        first.line,
+        beside,
+    )
+}
+
+/// The text of an explanation, and its status. Its first fault is told beside it, on the own line
 /// of the text without those that were put in.
 fn explained(
     alloc: Global,
@@ -26,25 +59,10 @@ fn explained(
     beside: &mut Beside,
 ) -> Result<(String, Status), OutOfMemory> {
     let explanation = explain(alloc, state, text, effort)?;
-    let status = match &explanation {
-        Explanation::Accepted { .. } => Status::Done,
-        Explanation::Refused { first, .. } => {
-            let own_line = new.own_line(first.line);
-            note_fault_at(
-                alloc,
-                file,
-                own_line,
-                text,
-                first.number,
-                first.line,
-                beside,
-            )?;
-            Status::Refused
-        }
-        Explanation::Undecided => Status::Stopped,
-    };
+    note_first(alloc, file, text, new, &explanation, beside)?;
     let told = told(alloc, text, &explanation)?;
-    Ok((with_own_lines(alloc, new, told.as_str())?, status))
+    let own = with_own_lines(alloc, new, told.as_str())?;
+    Ok((own, status_of(&explanation)))
 }
 
 /// The explanation of a text as it is judged; of one that cannot be read as it is.

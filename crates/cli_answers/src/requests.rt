@@ -32,6 +32,38 @@ fn answer_words<W: Write>(
     Ok(Some(Status::Done))
 }
 
+/// Prints a rule, or what is made of the program's own words; none where the request is for a module.
+fn answer_without_module<W: Write>(
+    alloc: Global,
+    request: &Request,
+    output: &mut W,
+) -> io::Result<Option<Status>> {
+    match request.rule {
+        Some(number) => Ok(Some(print_rule(alloc, number, output)?)),
+        None => answer_words(alloc, request, output),
+    }
+}
+
+/// Answers a request for JSON or for a text; none where the module is to be judged.
+fn answer_module<W: Write>(
+    question: &Question<'_>,
+    text: &[u8],
+    output: &mut W,
+    beside: &mut Beside,
+) -> io::Result<Option<Status>> {
+    let effort = effort_of(question.request);
+    if let Some(status) = answer_json(question, text, &effort, output, beside)? {
+        return Ok(Some(status));
+    }
+    let Question {
+        alloc,
+        state,
+        request,
+        ..
+    } = *question;
+    answer_text(alloc, state, request, text, &effort, output, beside)
+}
+
 /// Answers what needs no verdict first: a rule, the program's own words, a module whose file could not be read, and a module as JSON or as text. None where
 /// the module is to be judged.
 pub fn answer_unjudged<W: Write>(
@@ -39,25 +71,12 @@ pub fn answer_unjudged<W: Write>(
     output: &mut W,
     beside: &mut Beside,
 ) -> io::Result<Option<Status>> {
-    let Question {
-        alloc,
-        state,
-        request,
-        module,
-        schedule: _,
-    } = *question;
-    if let Some(number) = request.rule {
-        return Ok(Some(print_rule(alloc, number, output)?));
-    }
-    if let Some(status) = answer_words(alloc, request, output)? {
+    let Question { alloc, request, .. } = *question;
+    if let Some(status) = answer_without_module(alloc, request, output)? {
         return Ok(Some(status));
     }
-    let Some(text) = module else {
-        return Ok(Some(print_unreadable(alloc, request.file.as_str(), output)?));
-    };
-    let effort = effort_of(request);
-    if let Some(status) = answer_json(question, text, &effort, output, beside)? {
-        return Ok(Some(status));
+    match question.module {
+        Some(text) => answer_module(question, text, output, beside),
+        None => Ok(Some(print_unreadable(alloc, request.file.as_str(), output)?)),
     }
-    answer_text(alloc, state, request, text, &effort, output, beside)
 }

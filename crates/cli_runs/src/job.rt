@@ -40,6 +40,14 @@ impl<'a> Job<'a> {
         beside.note(note.as_str())
     }
 
+    /// Says that the arguments do not meet this line.
+    fn note_unmet(&self, line: u32, beside: &mut Beside) -> Result<(), AllocError> {
+        let before = (line as usize).saturating_sub(1);
+        let text = self.source().lines().nth(before).unwrap_or("").trim();
+        let note = format!(in self.alloc; "the arguments do not meet line {line}: {text}")?;
+        beside.note(note.as_str())
+    }
+
     /// Says which requirement of `main` the arguments do not meet, counted from 1; 0 is their number.
     fn note_requirement(&self, requirement: usize, beside: &mut Beside) -> Result<(), AllocError> {
         let program = self.verified.program();
@@ -49,14 +57,21 @@ impl<'a> Job<'a> {
         let Some(place) = requirement.checked_sub(1) else {
             return self.note_count(main.parameters.len(), beside);
         };
-        let Some(unmet) = main.requirements.as_slice().get(place) else {
-            return Ok(());
-        };
-        let line = unmet.line;
-        let before = (line as usize).saturating_sub(1);
-        let text = self.source().lines().nth(before).unwrap_or("").trim();
-        let note = format!(in self.alloc; "the arguments do not meet line {line}: {text}")?;
-        beside.note(note.as_str())
+        match main.requirements.as_slice().get(place) {
+            Some(unmet) => self.note_unmet(unmet.line, beside),
+            None => Ok(()),
+        }
+    }
+
+    /// Says why a run did not start, where there is more to say than its number.
+    fn note_run_fault(&self, fault: &RunFault, beside: &mut Beside) -> Result<(), AllocError> {
+        match fault {
+            RunFault::BadArguments { requirement, .. } => {
+                self.note_requirement(*requirement, beside)
+            }
+            RunFault::BadWorkers { .. } => beside.note("--workers is not from 1 to 64"),
+            RunFault::OutOfMemory | RunFault::Stopped => Ok(()),
+        }
     }
 
     /// Prints why a run did not start or go on.
@@ -66,18 +81,16 @@ impl<'a> Job<'a> {
         output: &mut W,
         beside: &mut Beside,
     ) -> io::Result<Status> {
-        match fault {
+        let printed = match fault {
             RunFault::BadArguments { requirement, .. } => {
-                writeln!(output, "stopped 801 requirement {requirement}")?;
-                self.note_requirement(*requirement, beside)?;
+                writeln!(output, "stopped 801 requirement {requirement}")
             }
-            RunFault::BadWorkers { .. } => {
-                writeln!(output, "stopped 802")?;
-                beside.note("--workers is not from 1 to 64")?;
-            }
-            RunFault::OutOfMemory => writeln!(output, "stopped 803")?,
-            RunFault::Stopped => writeln!(output, "stopped 804")?,
-        }
+            RunFault::BadWorkers { .. } => output.write_all(b"stopped 802\n"),
+            RunFault::OutOfMemory => output.write_all(b"stopped 803\n"),
+            RunFault::Stopped => output.write_all(b"stopped 804\n"),
+        };
+        printed?;
+        self.note_run_fault(fault, beside)?;
         Ok(Status::Stopped)
     }
 }

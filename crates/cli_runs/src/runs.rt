@@ -1,20 +1,16 @@
-//! Runs, replays and debugging of a module that the verifier took.
+//! Runs and replays of a module that the verifier took.
 
 ghost use Rattle.program.specs.declared.function.Program.{Program};
 ghost use Rattle.std.specs.Prelude.{IfOk};
 ghost use Rattle.serial_machine.specs.store.Made.{HasGlobalCells, IsMadeFor};
 
 use crate::data::{has_data, keep_dumps, load_all, print_rows};
-use crate::dialogue::converse;
 use crate::job::{Job, print_schedule_fault};
-use crate::people::guide;
 use cli_words::{Beside, CellWord, Setting, Status, print_unreadable, stop_for_memory};
-use debugger::{
-    Debugger, Event, Finished, Machine, Memory, RunFault, Verified, read_schedule, replay,
-};
+use debugger::{Event, Finished, Machine, Memory, RunFault, read_schedule, replay};
 use serial_machine::serial_run;
 use std::io;
-use std::io::{Read, Write};
+use std::io::Write;
 
 /// Runs the module serially.
 pub fn run_serial<W: Write>(
@@ -51,49 +47,6 @@ pub fn print_no_schedule<W: Write>(job: &Job<'_>, output: &mut W) -> io::Result<
     match &job.request.schedule {
         Some(file) => print_unreadable(job.alloc, file.as_str(), output),
         None => Ok(Status::Unreadable),
-    }
-}
-
-/// Goes through the schedule by the commands of the input.
-pub fn debug<R: Read, W: Write>(
-    job: &Job<'_>,
-    input: &mut R,
-    output: &mut W,
-    beside: &mut Beside,
-) -> io::Result<Status> {
-    let Some(text) = job.schedule else {
-        return print_no_schedule(job, output);
-    };
-    match read_schedule(job.alloc, text) {
-        Ok(events) => debug_events(job, events, input, output, beside),
-        Err(fault) => print_schedule_fault(job, &fault, output, beside),
-    }
-}
-
-fn debug_events<R: Read, W: Write>(
-    job: &Job<'_>,
-    events: Vec<Event>,
-    input: &mut R,
-    output: &mut W,
-    beside: &mut Beside,
-) -> io::Result<Status> {
-    let memory = match prepared(job, beside) {
-        Ok(memory) => memory,
-        Err(status) => return print_unprepared(status, output),
-    };
-    let Job {
-        alloc,
-        request,
-        verified,
-        ..
-    } = *job;
-    let args = request.args.as_slice();
-    match Debugger::new(alloc, verified, args, memory, request.workers, events) {
-        Ok(mut debugger) if request.dialogue.is_for_people => {
-            guide(job, &mut debugger, input, output)
-        }
-        Ok(mut debugger) => converse(alloc, &mut debugger, input, output),
-        Err(fault) => job.print_run_fault(&fault, output, beside),
     }
 }
 

@@ -10,7 +10,7 @@ use cli_words::{Beside, Status, Telling, stop_for_memory};
 use debugger::{Memory, read_schedule};
 use ir_reader::read;
 use program::Program;
-use std::alloc::AllocError;
+use std::alloc::{AllocError, Global};
 use std::io;
 use std::io::Write;
 use syntax::Module;
@@ -46,6 +46,19 @@ fn keep(
     }
 }
 
+/// Says that the schedule of so many events would be too long for its file.
+fn note_too_long(
+    alloc: Global,
+    file: &str,
+    events: u64,
+    beside: &mut Beside,
+) -> Result<(), AllocError> {
+    let note = format!(in alloc;
+        "{file}: the run has {events} events; a schedule has at most 1048576, in as many bytes, so none is saved"
+    )?;
+    beside.note(note.as_str())
+}
+
 /// Keeps the schedule for its file, or says that it would be too long.
 fn keep_script(
     job: &Job<'_>,
@@ -60,10 +73,7 @@ fn keep_script(
         beside.keep_file(file.as_str(), script)?;
         return Ok(Status::Done);
     }
-    let note = format!(in job.alloc;
-        "{file}: the run has {events} events; a schedule has at most 1048576, in as many bytes, so none is saved"
-    )?;
-    beside.note(note.as_str())?;
+    note_too_long(job.alloc, file.as_str(), events, beside)?;
     Ok(Status::Schedule)
 }
 

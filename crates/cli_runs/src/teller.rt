@@ -21,19 +21,79 @@ pub struct Teller {
     events: u64,
 }
 
-/// A page of a run that begins so.
+/// A page of a run that begins so, where one is wanted.
 fn page_of<'a>(
     subject: Subject<'a>,
     words: Words<'a>,
+    wanted: Wanted,
     root: &'a Settings,
-) -> Result<Page, AllocError> {
+) -> Result<Option<Page>, AllocError> {
+    if !wanted.page {
+        return Ok(None);
+    }
     let start = Start {
         title: subject.title,
         source: subject.source,
         workers: subject.workers,
         root,
     };
-    Page::start(subject.alloc, words.names, start)
+    Ok(Some(Page::start(subject.alloc, words.names, start)?))
+}
+
+/// The scene of a picture, where one is wanted.
+fn scene_of(subject: Subject<'_>, wanted: Wanted) -> Result<Option<Scene>, OutOfMemory> {
+    if wanted.picture {
+        Ok(Some(Scene::new(subject.alloc, subject.workers)?))
+    } else {
+        Ok(None)
+    }
+}
+
+/// The picture of a scene, where there is one.
+fn picture_of(alloc: Global, scene: Option<Scene>) -> Result<Option<String>, OutOfMemory> {
+    let Some(mut scene) = scene else {
+        return Ok(None);
+    };
+    scene.close()?;
+    Ok(Some(picture(alloc, &scene)?))
+}
+
+/// The events as a schedule, where it is wanted and not too long.
+fn script_of(script: Option<Script>) -> Result<Option<String>, OutOfMemory> {
+    match script {
+        Some(script) => Ok(script.into_text()?),
+        None => Ok(None),
+    }
+}
+
+/// The page, where one is wanted.
+fn page_text(page: Option<Page>, answer: &str) -> Result<Option<String>, OutOfMemory> {
+    match page {
+        Some(page) => Ok(Some(page.into_text(answer)?)),
+        None => Ok(None),
+    }
+}
+
+/// The lines of JSON, where they are wanted.
+fn json_text(json: Option<TextBuffer>) -> Result<Option<String>, AllocError> {
+    match json {
+        Some(json) => Ok(Some(json.finish()?)),
+        None => Ok(None),
+    }
+}
+
+/// The lines of the figures; none of them where they are not wanted.
+fn stats_of(
+    alloc: Global,
+    figures: &Figures,
+    words: Words<'_>,
+    wanted: Wanted,
+) -> Result<String, AllocError> {
+    let mut stats = TextBuffer::new(alloc);
+    if wanted.stats {
+        figures.push_lines(&mut stats, words.crew);
+    }
+    stats.finish()
 }
 
 impl Teller {
@@ -45,29 +105,24 @@ impl Teller {
         root: &'a Settings,
     ) -> Result<Teller, OutOfMemory> {
         let Subject { alloc, workers, .. } = subject;
-        let mut teller = Teller {
+        Ok(Teller {
             alloc,
             rounds: Rounds::new(alloc, workers)?,
             figures: Figures::new(alloc, workers)?,
-            scene: None,
-            page: None,
-            json: None,
-            script: None,
+            scene: scene_of(subject, wanted)?,
+            page: page_of(subject, words, wanted, root)?,
+            json: if wanted.json {
+                Some(TextBuffer::new(alloc))
+            } else {
+                None
+            },
+            script: if wanted.script {
+                Some(Script::new(alloc))
+            } else {
+                None
+            },
             events: 0,
-        };
-        if wanted.picture {
-            teller.scene = Some(Scene::new(alloc, workers)?);
-        }
-        if wanted.page {
-            teller.page = Some(page_of(subject, words, root)?);
-        }
-        if wanted.json {
-            teller.json = Some(TextBuffer::new(alloc));
-        }
-        if wanted.script {
-            teller.script = Some(Script::new(alloc));
-        }
-        Ok(teller)
+        })
     }
 
     /// Whether registers and cells of the next event are told.
@@ -134,31 +189,13 @@ impl Teller {
             script,
             events,
         } = self;
-        let mut stats = TextBuffer::new(alloc);
-        if wanted.stats {
-            figures.push_lines(&mut stats, words.crew);
-        }
-        let mut told = Told {
-            script: None,
+        Ok(Told {
             events,
-            stats: stats.finish()?,
-            picture: None,
-            json: None,
-            page: None,
-        };
-        if let Some(script) = script {
-            told.script = script.into_text()?;
-        }
-        if let Some(mut scene) = scene {
-            scene.close()?;
-            told.picture = Some(picture(alloc, &scene)?);
-        }
-        if let Some(json) = json {
-            told.json = Some(json.finish()?);
-        }
-        if let Some(page) = page {
-            told.page = Some(page.into_text(answer)?);
-        }
-        Ok(told)
+            stats: stats_of(alloc, &figures, words, wanted)?,
+            script: script_of(script)?,
+            picture: picture_of(alloc, scene)?,
+            json: json_text(json)?,
+            page: page_text(page, answer)?,
+        })
     }
 }

@@ -33,26 +33,36 @@ fn arg_of<'a>(alloc: Global, part: &Part) -> Result<Arg<'a>, AllocError> {
     }
 }
 
-/// The command of a verb.
-fn verb_command<'a>(alloc: Global, verb: Verb) -> Result<Command<'a>, AllocError> {
+/// The command of a verb, without its words and options.
+fn bare_command<'a>(alloc: Global, verb: Verb) -> Command<'a> {
     let row = row_of(verb);
     let name: &'a str = verb.word();
     let about: &'a str = row.about;
     let ending: &'a str = row.calls.ending;
-    let mut command = Command::new(alloc, name).about(about).after_help(ending);
-    for part in row.parts {
+    Command::new(alloc, name).about(about).after_help(ending)
+}
+
+/// The command of a verb.
+fn verb_command<'a>(alloc: Global, verb: Verb) -> Result<Command<'a>, AllocError> {
+    let mut command = bare_command(alloc, verb);
+    for part in row_of(verb).parts {
         command = command.arg(arg_of(alloc, part)?)?;
     }
     Ok(command)
 }
 
-/// The program's command.
-pub(crate) fn command<'a>(alloc: Global) -> Result<Command<'a>, AllocError> {
-    let mut command = Command::new(alloc, "tapirvm")
+/// The program's command, without those of the verbs.
+fn bare_program<'a>(alloc: Global) -> Command<'a> {
+    Command::new(alloc, "tapirvm")
         .about(ABOUT)
         .version(VERSION_LINES)
         .after_help(STATUSES)
-        .subcommand_required(true);
+        .subcommand_required(true)
+}
+
+/// The program's command.
+pub(crate) fn command<'a>(alloc: Global) -> Result<Command<'a>, AllocError> {
+    let mut command = bare_program(alloc);
     for verb in VERBS {
         command = command.subcommand(verb_command(alloc, verb)?)?;
     }

@@ -259,6 +259,34 @@ impl<'m, 'a> Options<'m, 'a> {
         }
     }
 
+    /// The rule that `explain` is asked for by its number.
+    fn explained(&mut self, verb: Verb, word: &str) -> Option<u16> {
+        match verb {
+            Verb::Explain => self.rule(word),
+            _ => None,
+        }
+    }
+
+    fn workers(&mut self) -> usize {
+        self.number("workers", "--workers <N>").unwrap_or(1) as usize
+    }
+
+    /// Whether the dialogue has colours depends on the program's streams, which the words do not name.
+    fn dialogue(&self) -> Dialogue {
+        Dialogue {
+            is_for_people: self.flag("interactive"),
+            has_colours: false,
+        }
+    }
+
+    fn annotating(&self) -> Annotating {
+        Annotating {
+            puts_in: self.flag("annotate"),
+            takes_out: self.flag("prune"),
+            writes: self.flag("write"),
+        }
+    }
+
     /// What the command of a verb asks for. An option that the verb does not have is not given.
     pub(crate) fn request(&mut self, verb: Verb) -> Request
         ensures { result.verb ≡ verb }
@@ -268,11 +296,8 @@ impl<'m, 'a> Options<'m, 'a> {
         Request {
             verb,
             table: self.table(),
-            rule: match verb {
-                Verb::Explain => self.rule(file.as_str()),
-                _ => None,
-            },
-            workers: self.number("workers", "--workers <N>").unwrap_or(1) as usize,
+            rule: self.explained(verb, file.as_str()),
+            workers: self.workers(),
             args: self.list("arg", "--arg <V>"),
             set: self.list("set", "--set <@a:I=V>"),
             show: self.list("show", "--show <@a:I>"),
@@ -282,15 +307,8 @@ impl<'m, 'a> Options<'m, 'a> {
             telling: self.telling(has_events),
             speedup: self.speedup(),
             schedule: self.text("schedule"),
-            dialogue: Dialogue {
-                is_for_people: self.flag("interactive"),
-                has_colours: false,
-            },
-            annotating: Annotating {
-                puts_in: self.flag("annotate"),
-                takes_out: self.flag("prune"),
-                writes: self.flag("write"),
-            },
+            dialogue: self.dialogue(),
+            annotating: self.annotating(),
             shell: self.shell(),
             is_json: !has_events && self.flag("json"),
             file,

@@ -75,21 +75,36 @@ fn zsh_action(part: &Part) -> &'static str {
     }
 }
 
-fn push_zsh_part(out: &mut TextBuffer, part: &Part) {
-    let Part {
-        name,
-        value,
-        help,
-        ..
-    } = part;
-    let action = zsh_action(part);
+/// An option with its help.
+fn push_zsh_option(out: &mut TextBuffer, star: &str, part: &Part, equals: &str) {
+    let Part { name, help, .. } = part;
+    write!(out, "{star}--{name}{equals}[{help}]");
+}
+
+/// What stands behind a part.
+fn push_zsh_values(out: &mut TextBuffer, part: &Part) {
     match part.given {
-        Given::Word => write!(out, " ':{value}:{action}'"),
-        Given::Flag => write!(out, " '--{name}[{help}]'"),
-        Given::Row => write!(out, " '*--{name}[{help}]:@a: :I: :N: '"),
-        Given::Repeated => write!(out, " '*--{name}=[{help}]:{value}:{action}'"),
-        _ => write!(out, " '--{name}=[{help}]:{value}:{action}'"),
+        Given::Flag => {}
+        Given::Row => out.push_str(":@a: :I: :N: "),
+        _ => {
+            let value = part.value;
+            let action = zsh_action(part);
+            write!(out, ":{value}:{action}");
+        }
     }
+}
+
+fn push_zsh_part(out: &mut TextBuffer, part: &Part) {
+    out.push_str(" '");
+    match part.given {
+        Given::Word => {}
+        Given::Flag => push_zsh_option(out, "", part, ""),
+        Given::Row => push_zsh_option(out, "*", part, ""),
+        Given::Repeated => push_zsh_option(out, "*", part, "="),
+        _ => push_zsh_option(out, "", part, "="),
+    }
+    push_zsh_values(out, part);
+    out.push_str("'");
 }
 
 fn push_zsh_case(out: &mut TextBuffer, verb: Verb) {

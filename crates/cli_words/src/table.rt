@@ -311,141 +311,141 @@ const WRITE: Part = Part {
     help: "writes the text into FILE, and does not print it",
 };
 
-/// The words and options of each command, as its help lists them.
-static VERIFY_PARTS: [Part; 5] = [FILE, TABLE, ANNOTATE, EFFORT, JSON];
-
-static EXPLAIN_PARTS: [Part; 4] = [FILE_OR_NUMBER, ANNOTATE, EFFORT, JSON];
-
-static SERIAL_PARTS: [Part; 11] = [
-    FILE, ARG, SET, SHOW, LOAD, DUMP, RAW, CELLS, TIME, ANNOTATE, EFFORT,
-];
-
-static RUN_PARTS: [Part; 20] = [
-    FILE,
-    ARG,
-    SET,
-    SHOW,
-    LOAD,
-    DUMP,
-    RAW,
-    CELLS,
-    WORKERS_OF_ONE,
-    SPEEDUP,
-    SEED,
-    SAVE,
-    TRACE,
-    STATS,
-    PICTURE,
-    EVENTS,
-    PAGE,
-    TIME,
-    ANNOTATE,
-    EFFORT,
-];
-
-static REPLAY_PARTS: [Part; 18] = [
-    FILE, ARG, SET, SHOW, LOAD, DUMP, RAW, CELLS, SCHEDULE, WORKERS, SAVE, TRACE, STATS, PICTURE,
-    EVENTS, PAGE, TIME, EFFORT,
-];
-
-static DEBUG_PARTS: [Part; 10] = [
-    FILE,
-    ARG,
-    SET,
-    SHOW,
-    LOAD,
-    RAW,
-    SCHEDULE,
-    WORKERS,
-    INTERACTIVE,
-    EFFORT,
-];
-
-static PRINT_PARTS: [Part; 1] = [FILE];
-
-static SHOW_PARTS: [Part; 3] = [FILE, EFFORT, JSON];
-
-static ANNOTATE_PARTS: [Part; 4] = [FILE, PRUNE, WRITE, EFFORT];
-
-static COMPLETIONS_PARTS: [Part; 1] = [SHELL];
-
-static MAN_PARTS: [Part; 0] = [];
-
 /// What the help says of a command.
 #[derive(Clone, Copy)]
 pub(crate) struct CommandRow {
     /// What it tells first.
     pub(crate) about: &'static str,
     pub(crate) calls: Calls,
+    /// Its words and options, as its help lists them.
     pub(crate) parts: &'static [Part],
 }
 
+static VERIFY_ROW: CommandRow = CommandRow {
+    about: "verifies a module, and tells its budget and depth",
+    calls: calls!("$ tapirvm verify fib.ll --table @fib"),
+    parts: &[FILE, TABLE, ANNOTATE, EFFORT, JSON],
+};
+
+static EXPLAIN_ROW: CommandRow = CommandRow {
+    about: "says why a module is refused and what was to be shown, or what an accepted one could do without; or prints a rule",
+    calls: calls!("$ tapirvm explain fib.ll", "$ tapirvm explain 602"),
+    parts: &[FILE_OR_NUMBER, ANNOTATE, EFFORT, JSON],
+};
+
+static SERIAL_ROW: CommandRow = CommandRow {
+    about: "runs the serial elision of a module",
+    calls: calls!("$ tapirvm serial pair.ll --arg 7 --show @a:0"),
+    parts: &[
+        FILE, ARG, SET, SHOW, LOAD, DUMP, RAW, CELLS, TIME, ANNOTATE, EFFORT,
+    ],
+};
+
+static RUN_ROW: CommandRow = CommandRow {
+    about: "runs a module on workers",
+    calls: calls!(
+        "$ tapirvm run fib.ll --workers 4 --arg 10",
+        "$ tapirvm run fib.ll --workers 4 --arg 6 --seed 1 --save s.txt"
+    ),
+    parts: &[
+        FILE,
+        ARG,
+        SET,
+        SHOW,
+        LOAD,
+        DUMP,
+        RAW,
+        CELLS,
+        WORKERS_OF_ONE,
+        SPEEDUP,
+        SEED,
+        SAVE,
+        TRACE,
+        STATS,
+        PICTURE,
+        EVENTS,
+        PAGE,
+        TIME,
+        ANNOTATE,
+        EFFORT,
+    ],
+};
+
+static REPLAY_ROW: CommandRow = CommandRow {
+    about: "runs a module by a schedule",
+    calls: calls!("$ tapirvm replay pair.ll s.txt --workers 2 --arg 7 --trace"),
+    parts: &[
+        FILE, ARG, SET, SHOW, LOAD, DUMP, RAW, CELLS, SCHEDULE, WORKERS, SAVE, TRACE, STATS,
+        PICTURE, EVENTS, PAGE, TIME, EFFORT,
+    ],
+};
+
+static DEBUG_ROW: CommandRow = CommandRow {
+    about: "goes forwards and backwards through a schedule, by commands from standard input",
+    calls: Calls {
+        lines: "$ tapirvm debug pair.ll s.txt --workers 2 --arg 7\n",
+        ending: DIALOGUE,
+    },
+    parts: &[
+        FILE,
+        ARG,
+        SET,
+        SHOW,
+        LOAD,
+        RAW,
+        SCHEDULE,
+        WORKERS,
+        INTERACTIVE,
+        EFFORT,
+    ],
+};
+
+static PRINT_ROW: CommandRow = CommandRow {
+    about: "prints the canonical text of a module",
+    calls: calls!("$ tapirvm print fib.ll"),
+    parts: &[FILE],
+};
+
+static SHOW_ROW: CommandRow = CommandRow {
+    about: "tells what the verifier knows of each block of a module",
+    calls: calls!("$ tapirvm show fib.ll"),
+    parts: &[FILE, EFFORT, JSON],
+};
+
+static ANNOTATE_ROW: CommandRow = CommandRow {
+    about: "prints a module with annotations put in that follow from others, or without those that it does not need",
+    calls: calls!(
+        "$ tapirvm annotate fib.ll > annotated.ll",
+        "$ tapirvm annotate --prune --write annotated.ll"
+    ),
+    parts: &[FILE, PRUNE, WRITE, EFFORT],
+};
+
+static COMPLETIONS_ROW: CommandRow = CommandRow {
+    about: "prints a script that completes the words of this program in a shell",
+    calls: calls!("$ source <(tapirvm completions bash)"),
+    parts: &[SHELL],
+};
+
+static MAN_ROW: CommandRow = CommandRow {
+    about: "prints the manual page",
+    calls: calls!("$ tapirvm man > tapirvm.1 && man ./tapirvm.1"),
+    parts: &[],
+};
+
 /// The command of a verb.
-pub(crate) fn row_of(verb: Verb) -> CommandRow {
+pub(crate) fn row_of(verb: Verb) -> &'static CommandRow {
     match verb {
-        Verb::Verify => CommandRow {
-            about: "verifies a module, and tells its budget and depth",
-            calls: calls!("$ tapirvm verify fib.ll --table @fib"),
-            parts: &VERIFY_PARTS,
-        },
-        Verb::Explain => CommandRow {
-            about: "says why a module is refused and what was to be shown, or what an accepted one could do without; or prints a rule",
-            calls: calls!("$ tapirvm explain fib.ll", "$ tapirvm explain 602"),
-            parts: &EXPLAIN_PARTS,
-        },
-        Verb::Serial => CommandRow {
-            about: "runs the serial elision of a module",
-            calls: calls!("$ tapirvm serial pair.ll --arg 7 --show @a:0"),
-            parts: &SERIAL_PARTS,
-        },
-        Verb::Run => CommandRow {
-            about: "runs a module on workers",
-            calls: calls!(
-                "$ tapirvm run fib.ll --workers 4 --arg 10",
-                "$ tapirvm run fib.ll --workers 4 --arg 6 --seed 1 --save s.txt"
-            ),
-            parts: &RUN_PARTS,
-        },
-        Verb::Replay => CommandRow {
-            about: "runs a module by a schedule",
-            calls: calls!("$ tapirvm replay pair.ll s.txt --workers 2 --arg 7 --trace"),
-            parts: &REPLAY_PARTS,
-        },
-        Verb::Debug => CommandRow {
-            about: "goes forwards and backwards through a schedule, by commands from standard input",
-            calls: Calls {
-                lines: "$ tapirvm debug pair.ll s.txt --workers 2 --arg 7\n",
-                ending: DIALOGUE,
-            },
-            parts: &DEBUG_PARTS,
-        },
-        Verb::Print => CommandRow {
-            about: "prints the canonical text of a module",
-            calls: calls!("$ tapirvm print fib.ll"),
-            parts: &PRINT_PARTS,
-        },
-        Verb::Show => CommandRow {
-            about: "tells what the verifier knows of each block of a module",
-            calls: calls!("$ tapirvm show fib.ll"),
-            parts: &SHOW_PARTS,
-        },
-        Verb::Annotate => CommandRow {
-            about: "prints a module with annotations put in that follow from others, or without those that it does not need",
-            calls: calls!(
-                "$ tapirvm annotate fib.ll > annotated.ll",
-                "$ tapirvm annotate --prune --write annotated.ll"
-            ),
-            parts: &ANNOTATE_PARTS,
-        },
-        Verb::Completions => CommandRow {
-            about: "prints a script that completes the words of this program in a shell",
-            calls: calls!("$ source <(tapirvm completions bash)"),
-            parts: &COMPLETIONS_PARTS,
-        },
-        Verb::Man => CommandRow {
-            about: "prints the manual page",
-            calls: calls!("$ tapirvm man > tapirvm.1 && man ./tapirvm.1"),
-            parts: &MAN_PARTS,
-        },
+        Verb::Verify => &VERIFY_ROW,
+        Verb::Explain => &EXPLAIN_ROW,
+        Verb::Serial => &SERIAL_ROW,
+        Verb::Run => &RUN_ROW,
+        Verb::Replay => &REPLAY_ROW,
+        Verb::Debug => &DEBUG_ROW,
+        Verb::Print => &PRINT_ROW,
+        Verb::Show => &SHOW_ROW,
+        Verb::Annotate => &ANNOTATE_ROW,
+        Verb::Completions => &COMPLETIONS_ROW,
+        Verb::Man => &MAN_ROW,
     }
 }

@@ -36,19 +36,31 @@ struct Texts {
     schedule: Option<io::Result<Vec<u8>>>,
 }
 
+/// A word of the command line by its place; none behind the last.
+fn read_argument<R: AllocGlobal + Env>(
+    rt: &R,
+    place: usize,
+    room: &mut [u8],
+) -> io::Result<Option<String>> {
+    match rt.arg(place, room) {
+        Ok(length) => {
+            let word = room.get(..length).unwrap_or(b"");
+            Ok(Some(text_of(rt.alloc(), word)?))
+        }
+        Err(FillError::NotPresent) => Ok(None),
+        Err(FillError::TooLong) => Err(io::Error::from(ErrorKind::InvalidInput)),
+    }
+}
+
 /// The texts of the command line's words, the program's own name first.
 fn read_words<R: AllocGlobal + Env>(rt: &R) -> io::Result<Vec<String>> {
     let alloc = rt.alloc();
     let mut room = vec![in alloc; 0u8; WORD_ROOM]?;
     let mut texts = Vec::new(alloc);
     for i in 0..usize::MAX {
-        match rt.arg(i, room.as_mut_slice()) {
-            Ok(length) => {
-                let word = room.as_slice().get(..length).unwrap_or(b"");
-                texts.push(text_of(alloc, word)?)?;
-            }
-            Err(FillError::NotPresent) => break,
-            Err(FillError::TooLong) => return Err(io::Error::from(ErrorKind::InvalidInput)),
+        match read_argument(rt, i, room.as_mut_slice())? {
+            Some(text) => texts.push(text)?,
+            None => break,
         }
     }
     Ok(texts)

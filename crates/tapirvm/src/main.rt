@@ -8,6 +8,7 @@
 mod answers;
 mod clocks;
 mod data;
+mod debugging;
 mod host;
 mod recorded;
 mod requests;

@@ -6,6 +6,7 @@ use crate::json::explanation::explanation_json;
 use crate::json::fault::refusal_json;
 use crate::json::known::known_json;
 use crate::json::verdict::{UNDECIDED, accepted_json};
+use crate::reasons::status_of;
 use cli_words::{Beside, Question, Request, Status, Verb, stop_for_memory};
 use explain::{Explanation, explain};
 use std::alloc::{AllocError, Global};
@@ -98,6 +99,29 @@ impl Asked<'_> {
         }
     }
 
+    /// Tells the first fault beside the answer, or that there is no verdict.
+    fn note_explained(
+        self,
+        explanation: &Explanation,
+        beside: &mut Beside,
+    ) -> Result<(), AllocError> {
+        match explanation {
+            Explanation::Accepted { .. } => Ok(()),
+            Explanation::Refused { first, .. } => {
+                let file = self.request.file.as_str();
+                note_fault(
+                    self.alloc,
+                    file,
+                    self.text,
+                    first.number,
+                    first.line,
+                    beside,
+                )
+            }
+            Explanation::Undecided => note_effort(beside),
+        }
+    }
+
     /// Why the module is refused, or what it could do without.
     fn answer_explained<W: Write>(
         self,
@@ -105,27 +129,12 @@ impl Asked<'_> {
         output: &mut W,
         beside: &mut Beside,
     ) -> io::Result<Status> {
-        let Asked {
-            alloc,
-            state,
-            request,
-            text,
-        } = self;
-        let explanation = explain(alloc, state, text, effort).map_err(refused_memory)?;
-        let status = match &explanation {
-            Explanation::Accepted { .. } => Status::Done,
-            Explanation::Refused { first, .. } => {
-                let file = request.file.as_str();
-                note_fault(alloc, file, text, first.number, first.line, beside)?;
-                Status::Refused
-            }
-            Explanation::Undecided => {
-                note_effort(beside)?;
-                Status::Stopped
-            }
-        };
-        let made = explanation_json(alloc, text, &explanation).map_err(refused_memory)?;
-        write_made(made.as_str(), status, output)
+        let explanation = explain(self.alloc, self.state, self.text, effort).map_err(
+            refused_memory,
+        )?;
+        self.note_explained(&explanation, beside)?;
+        let made = explanation_json(self.alloc, self.text, &explanation).map_err(refused_memory)?;
+        write_made(made.as_str(), status_of(&explanation), output)
     }
 }
 

@@ -1,13 +1,13 @@
 //! An explanation: each fault with what was to be shown, what is known and what would mend it.
 
-use crate::json::fault::{push_place, words_of};
+use crate::json::fault::push_broken;
 use crate::json::list::{push_member, push_separator, push_text};
 use crate::json::verdict::UNDECIDED;
 use explain::{Explanation, Finding};
 use explain_findings::line_at;
 use lists::{OutOfMemory, TextBuffer};
 use refusal::push_mends;
-use std::alloc::{AllocError, Global};
+use std::alloc::Global;
 
 /// What a line of a fault's notes is.
 #[derive(Clone, Copy, PartialEq, Eq)]
@@ -38,22 +38,15 @@ fn parted(line: &str) -> (Kind, &str) {
 }
 
 /// The lines of this kind, as a list.
-fn push_kind(
-    alloc: Global,
-    out: &mut TextBuffer,
-    key: &str,
-    notes: &str,
-    kind: Kind,
-) -> Result<(), AllocError> {
+fn push_kind(alloc: Global, out: &mut TextBuffer, key: &str, notes: &str, kind: Kind) {
     write!(out, ",\"{key}\":[");
     for line in notes.lines() {
         let (its, text) = parted(line);
         if its == kind {
-            push_text(alloc, out, text)?;
+            push_text(alloc, out, text);
         }
     }
     out.push(']');
-    Ok(())
 }
 
 /// What there is to say of a fault, with the mends of its rule behind its own.
@@ -64,6 +57,21 @@ fn notes_of(alloc: Global, text: &str, finding: &Finding) -> Result<String, OutO
     Ok(notes)
 }
 
+/// The cause of a fault, where its rule has several.
+fn push_cause(alloc: Global, out: &mut TextBuffer, finding: &Finding) {
+    if let Some(cause) = finding.cause {
+        push_member(alloc, out, "cause", cause);
+    }
+}
+
+/// The notes of a fault, each kind as a list.
+fn push_notes(alloc: Global, out: &mut TextBuffer, notes: &str) {
+    push_kind(alloc, out, "forms", notes, Kind::Form);
+    push_kind(alloc, out, "facts", notes, Kind::Fact);
+    push_kind(alloc, out, "mends", notes, Kind::Mend);
+    push_kind(alloc, out, "notes", notes, Kind::Note);
+}
+
 fn push_fault(
     alloc: Global,
     out: &mut TextBuffer,
@@ -72,17 +80,10 @@ fn push_fault(
 ) -> Result<(), OutOfMemory> {
     push_separator(out);
     out.push('{');
-    push_place(alloc, out, text, finding.number, finding.line)?;
-    let words = words_of(alloc, text, finding.number, finding.line)?;
-    push_member(alloc, out, "words", words.as_str())?;
-    if let Some(cause) = finding.cause {
-        push_member(alloc, out, "cause", cause)?;
-    }
+    push_broken(alloc, out, text, finding.number, finding.line)?;
+    push_cause(alloc, out, finding);
     let notes = notes_of(alloc, text, finding)?;
-    push_kind(alloc, out, "forms", notes.as_str(), Kind::Form)?;
-    push_kind(alloc, out, "facts", notes.as_str(), Kind::Fact)?;
-    push_kind(alloc, out, "mends", notes.as_str(), Kind::Mend)?;
-    push_kind(alloc, out, "notes", notes.as_str(), Kind::Note)?;
+    push_notes(alloc, out, notes.as_str());
     out.push('}');
     Ok(())
 }
@@ -103,13 +104,12 @@ fn push_faults(
     Ok(())
 }
 
-fn push_remarks(alloc: Global, out: &mut TextBuffer, remarks: &str) -> Result<(), AllocError> {
+fn push_remarks(alloc: Global, out: &mut TextBuffer, remarks: &str) {
     out.push_str("{\"verdict\":\"accepted\",\"remarks\":[");
     for remark in remarks.lines() {
-        push_text(alloc, out, remark.trim())?;
+        push_text(alloc, out, remark.trim());
     }
     out.push_str("]}\n");
-    Ok(())
 }
 
 /// An explanation of a text.
@@ -125,7 +125,7 @@ pub fn explanation_json(
     let mut out = TextBuffer::new(alloc);
     let text = str::from_utf8(text).unwrap_or("");
     match explanation {
-        Explanation::Accepted { remarks } => push_remarks(alloc, &mut out, remarks.as_str())?,
+        Explanation::Accepted { remarks } => push_remarks(alloc, &mut out, remarks.as_str()),
         Explanation::Refused { first, others } => {
             push_faults(alloc, &mut out, text, first, others.as_slice())?
         }

@@ -49,18 +49,35 @@ impl Lists {
     }
 }
 
+/// A list under its key, closed.
+fn push_list(out: &mut TextBuffer, key: &str, list: TextBuffer) -> Result<(), AllocError> {
+    let members = list.finish()?;
+    write!(out, ",\"{key}\":{members}]");
+    Ok(())
+}
+
+impl Lists {
+    /// Closes the lists.
+    fn push_closed(self, out: &mut TextBuffer) -> Result<(), AllocError> {
+        let Lists {
+            opened,
+            pending,
+            foot,
+            knows,
+        } = self;
+        push_list(out, "open", opened)?;
+        push_list(out, "pending", pending)?;
+        push_list(out, "foot", foot)?;
+        push_list(out, "knows", knows)
+    }
+}
+
 impl Reading {
     /// Closes the block, with its lists, and opens these for the next one.
     fn close_block(&mut self) -> Result<(), AllocError> {
         let lists = mem::replace(&mut self.lists, Lists::open(self.alloc));
-        let opened = lists.opened.finish()?;
-        let pending = lists.pending.finish()?;
-        let foot = lists.foot.finish()?;
-        let knows = lists.knows.finish()?;
-        write!(
-            self.out,
-            ",\"open\":{opened}],\"pending\":{pending}],\"foot\":{foot}],\"knows\":{knows}]}}"
-        );
+        lists.push_closed(&mut self.out)?;
+        self.out.push('}');
         Ok(())
     }
 
@@ -102,7 +119,7 @@ impl Reading {
     }
 
     /// A line of a block.
-    fn member(&mut self, word: &str, rest: &str) -> Result<(), AllocError> {
+    fn member(&mut self, word: &str, rest: &str) {
         match word {
             "open" => push_text(self.alloc, &mut self.lists.opened, rest),
             "pending" => push_text(self.alloc, &mut self.lists.pending, rest),
@@ -115,11 +132,12 @@ impl Reading {
     /// A line behind those of the module, which begins with this word.
     fn worded(&mut self, word: &str, rest: &str) -> Result<(), AllocError> {
         match word {
-            "function" => self.function(rest),
-            "block" => self.block(rest),
-            "budget" | "depth" | "cells" | "global" | "argument" => Ok(()),
+            "function" => return self.function(rest),
+            "block" => return self.block(rest),
+            "budget" | "depth" | "cells" | "global" | "argument" => {}
             _ => self.member(word, rest),
         }
+        Ok(())
     }
 
     /// All functions.

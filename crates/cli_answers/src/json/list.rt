@@ -2,7 +2,24 @@
 
 use lists::TextBuffer;
 use std::alloc::{AllocError, Global};
+use std::fmt;
 use view_events::quoted;
+
+/// A text, printed as JSON spells it. Where memory is refused for that, nothing is printed, and the print says so.
+#[derive(Clone, Copy)]
+struct Quoted<'a> {
+    alloc: Global,
+    text: &'a str,
+}
+
+impl fmt::Display for Quoted<'_> {
+    fn fmt<W: fmt::Write>(&self, f: &mut fmt::Formatter<W>) -> fmt::Result {
+        match quoted(self.alloc, self.text) {
+            Ok(spelled) => f.write_str(spelled.as_str()),
+            Err(AllocError) => Err(fmt::Error),
+        }
+    }
+}
 
 /// The separator before an item of a list, where another one stands before it.
 pub fn push_separator(out: &mut TextBuffer) {
@@ -12,20 +29,13 @@ pub fn push_separator(out: &mut TextBuffer) {
 }
 
 /// An item of a list of texts.
-pub fn push_text(alloc: Global, out: &mut TextBuffer, text: &str) -> Result<(), AllocError> {
+pub fn push_text(alloc: Global, out: &mut TextBuffer, text: &str) {
     push_separator(out);
-    out.push_str(quoted(alloc, text)?.as_str());
-    Ok(())
+    out.write_fmt(Quoted { alloc, text });
 }
 
 /// A member of an object that is a text, behind others.
-pub fn push_member(
-    alloc: Global,
-    out: &mut TextBuffer,
-    key: &str,
-    text: &str,
-) -> Result<(), AllocError> {
-    let text = quoted(alloc, text)?;
+pub fn push_member(alloc: Global, out: &mut TextBuffer, key: &str, text: &str) {
+    let text = Quoted { alloc, text };
     write!(out, ",\"{key}\":{text}");
-    Ok(())
 }

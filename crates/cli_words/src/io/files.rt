@@ -43,15 +43,20 @@ pub fn read_file<R: AllocGlobal + Files>(rt: &R, word: &str) -> io::Result<Vec<u
     read_text(rt.alloc(), File::open(rt, path_of(word)?)?)
 }
 
-/// Reads the data of the file that a word names; an error where it holds too much.
-pub fn read_data<R: AllocGlobal + Files>(rt: &R, word: &str) -> io::Result<Vec<u8>> {
-    let mut reader = BufReader::new(rt.alloc(), File::open(rt, path_of(word)?)?)?;
-    let mut bytes = Vec::new(rt.alloc());
+/// Reads data; an error where it is too much.
+fn read_data_of<R: Read + Drop>(alloc: Global, reader: R) -> io::Result<Vec<u8>> {
+    let mut reader = BufReader::new(alloc, reader)?;
+    let mut bytes = Vec::new(alloc);
     reader.by_ref().take(MOST_DATA + 1).read_to_end(&mut bytes)?;
     if bytes.len() as u64 > MOST_DATA {
         return Err(io::Error::from(ErrorKind::FileTooLarge));
     }
     Ok(bytes)
+}
+
+/// Reads the data of the file that a word names; an error where it holds too much.
+pub fn read_data<R: AllocGlobal + Files>(rt: &R, word: &str) -> io::Result<Vec<u8>> {
+    read_data_of(rt.alloc(), File::open(rt, path_of(word)?)?)
 }
 
 /// Writes bytes to the file that a word names.

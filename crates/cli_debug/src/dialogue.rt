@@ -96,30 +96,47 @@ fn push_cell(out: &mut TextBuffer, name: &str, index: u64, value: Option<i64>) {
     }
 }
 
+/// Goes where a command asks to; false where it does not ask to go.
+fn go(debugger: &mut Debugger<'_>, command: &Command<'_>) -> Result<bool, OutOfMemory> {
+    let gone = match command {
+        Command::To(position) => debugger.to(*position as usize),
+        Command::Forward => debugger.forward(),
+        Command::Back => debugger.back(),
+        Command::Break(line) => debugger.break_at(*line),
+        _ => return Ok(false),
+    };
+    gone?;
+    Ok(true)
+}
+
+fn push_position(out: &mut TextBuffer, debugger: &Debugger<'_>) {
+    let position = debugger.position();
+    let length = debugger.len();
+    writeln!(out, "at {position} of {length}");
+}
+
+/// Adds the line that shows what a command asks for.
+fn show(debugger: &Debugger<'_>, command: &Command<'_>, out: &mut TextBuffer) {
+    match command {
+        Command::Task { name, path } => push_task(out, name, debugger.show_task(path)),
+        Command::Cell { name, index } => {
+            push_cell(out, name, *index, debugger.show_cell(name, *index))
+        }
+        _ => {}
+    }
+}
+
 /// Obeys a command that does not end the dialogue, and adds the line that answers it.
 fn obey_command(
     debugger: &mut Debugger<'_>,
     command: &Command<'_>,
     out: &mut TextBuffer,
 ) -> Result<(), OutOfMemory> {
-    match command {
-        Command::To(position) => debugger.to(*position as usize)?,
-        Command::Forward => debugger.forward()?,
-        Command::Back => debugger.back()?,
-        Command::Break(line) => debugger.break_at(*line)?,
-        Command::Task { name, path } => {
-            push_task(out, name, debugger.show_task(path));
-            return Ok(());
-        }
-        Command::Cell { name, index } => {
-            push_cell(out, name, *index, debugger.show_cell(name, *index));
-            return Ok(());
-        }
-        Command::Quit => {}
+    if go(debugger, command)? {
+        push_position(out, debugger);
+    } else {
+        show(debugger, command, out);
     }
-    let position = debugger.position();
-    let length = debugger.len();
-    writeln!(out, "at {position} of {length}");
     Ok(())
 }
 

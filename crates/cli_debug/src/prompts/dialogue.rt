@@ -16,6 +16,16 @@ enum Goes {
     Away,
 }
 
+/// What is said where a command does not find what it looks for.
+fn note_of(command: &Command<'_>) -> &'static str {
+    match command {
+        Command::Next(_) => "that worker has no further event",
+        Command::Over(_) => "that worker has no further event, or the call does not end",
+        Command::Until(_) => "it does not end before the schedule does",
+        _ => "no worker comes to that line any more: this is the end",
+    }
+}
+
 impl Session<'_, '_> {
     /// Where the session stands now, and a note where what was looked for was not found.
     fn push_arrival(&self, out: &mut TextBuffer, is_found: bool, note: &str) {
@@ -27,41 +37,40 @@ impl Session<'_, '_> {
         self.push_workers(out);
     }
 
-    /// Goes where a command asks to; false where it does not ask to go.
-    fn go(&mut self, out: &mut TextBuffer, command: &Command<'_>) -> Result<bool, OutOfMemory> {
-        let mut note = "";
-        let is_found = match command {
-            Command::To(position) => {
-                self.debugger.to(*position as usize)?;
-                true
-            }
-            Command::Forward => {
-                self.debugger.forward()?;
-                true
-            }
-            Command::Back => {
-                self.debugger.back()?;
-                true
-            }
-            Command::Next(worker) => {
-                note = "that worker has no further event";
-                self.go_next(*worker)?
-            }
-            Command::Over(worker) => {
-                note = "that worker has no further event, or the call does not end";
-                self.go_over(*worker)?
-            }
-            Command::Until(path) => {
-                note = "it does not end before the schedule does";
-                self.go_to_end(path)?
-            }
-            Command::Break(line) => {
-                note = "no worker comes to that line any more: this is the end";
-                self.go_to_line(*line)?
-            }
+    /// Goes to the position that a command names; false where it names none.
+    fn step(&mut self, command: &Command<'_>) -> Result<bool, OutOfMemory> {
+        let gone = match command {
+            Command::To(position) => self.debugger.to(*position as usize),
+            Command::Forward => self.debugger.forward(),
+            Command::Back => self.debugger.back(),
             _ => return Ok(false),
         };
-        self.push_arrival(out, is_found, note);
+        gone?;
+        Ok(true)
+    }
+
+    /// Goes on to what a command looks for, and says whether it is found; none where the command looks for nothing.
+    fn seek(&mut self, command: &Command<'_>) -> Result<Option<bool>, OutOfMemory> {
+        let found = match command {
+            Command::Next(worker) => self.go_next(*worker),
+            Command::Over(worker) => self.go_over(*worker),
+            Command::Until(path) => self.go_to_end(path),
+            Command::Break(line) => self.go_to_line(*line),
+            _ => return Ok(None),
+        };
+        Ok(Some(found?))
+    }
+
+    /// Goes where a command asks to; false where it does not ask to go.
+    fn go(&mut self, out: &mut TextBuffer, command: &Command<'_>) -> Result<bool, OutOfMemory> {
+        if self.step(command)? {
+            self.push_arrival(out, true, "");
+            return Ok(true);
+        }
+        let Some(is_found) = self.seek(command)? else {
+            return Ok(false);
+        };
+        self.push_arrival(out, is_found, note_of(command));
         Ok(true)
     }
 
@@ -104,6 +113,16 @@ impl Session<'_, '_> {
         output.flush()
     }
 
+    /// Obeys a line, and writes the answer.
+    fn answer_text<W: Write>(&mut self, line: &str, output: &mut W) -> io::Result<Goes> {
+        let mut out = TextBuffer::new(self.alloc);
+        let Ok(goes) = self.obey(&mut out, line) else {
+            return Err(io::Error::from(AllocError));
+        };
+        output.write_all(out.finish()?.as_bytes())?;
+        Ok(goes)
+    }
+
     /// Answers a line; an empty one asks for the last again.
     fn answer<W: Write>(
         &mut self,
@@ -119,12 +138,7 @@ impl Session<'_, '_> {
         if last.is_empty() {
             return Ok(Goes::On);
         }
-        let mut out = TextBuffer::new(self.alloc);
-        let Ok(goes) = self.obey(&mut out, last.as_str()) else {
-            return Err(io::Error::from(AllocError));
-        };
-        output.write_all(out.finish()?.as_bytes())?;
-        Ok(goes)
+        self.answer_text(last.as_str(), output)
     }
 
     /// Reads the next line and answers it.
