@@ -18,13 +18,21 @@ fn place_cause(row: &Row<'_>) -> Option<&'static str> {
 
 /// Whether the function makes the register by `getelementptr`.
 fn is_element(function: &[Row<'_>], name: &str) -> bool {
-    function
-        .iter()
-        .any(|row| row.word(2) == "getelementptr" && row.defines(name))
+    for row in function {
+        if row.word(2) == "getelementptr" && row.defines(name) {
+            return true;
+        }
+    }
+    false
 }
 
 fn has_element(function: &[Row<'_>], pointers: &[&str]) -> bool {
-    pointers.iter().any(|name| is_element(function, name))
+    for name in pointers {
+        if is_element(function, name) {
+            return true;
+        }
+    }
+    false
 }
 
 /// Whether a name stands twice among these.
@@ -37,24 +45,47 @@ fn has_twice(pointers: &[&str]) -> bool {
     false
 }
 
-/// Whether one of these names stands in a line.
-fn has_any(row: &Row<'_>, names: &[&str]) -> bool {
-    names
-        .iter()
-        .any(|name| name.starts_with('@') && row.has(name))
+/// Whether one of these names is that of a global.
+fn has_global(pointers: &[&str]) -> bool {
+    for name in pointers {
+        if name.starts_with('@') {
+            return true;
+        }
+    }
+    false
 }
 
-/// Whether the function that a line calls names one of these itself.
-fn is_named_by_callee(rows: &[Row<'_>], call: &Row<'_>, pointers: &[&str]) -> bool {
-    let head = rows
-        .iter()
-        .find(|row| row.word(0) == "define" && call.has(row.word(2)));
-    match head {
-        Some(head) => function_of(rows, head.number)
-            .iter()
-            .any(|row| has_any(row, pointers)),
-        None => false,
+/// Whether one of these globals stands in a line.
+fn has_any(row: &Row<'_>, names: &[&str]) -> bool {
+    for name in names {
+        if name.starts_with('@') && row.has(name) {
+            return true;
+        }
     }
+    false
+}
+
+/// The line in which the function begins that a line calls.
+fn callee_line(rows: &[Row<'_>], call: &Row<'_>) -> Option<u32> {
+    for row in rows {
+        if row.word(0) == "define" && call.has(row.word(2)) {
+            return Some(row.number);
+        }
+    }
+    None
+}
+
+/// Whether the function that a line calls names one of these globals itself.
+fn is_named_by_callee(rows: &[Row<'_>], call: &Row<'_>, pointers: &[&str]) -> bool {
+    let Some(line) = callee_line(rows, call) else {
+        return false;
+    };
+    for row in function_of(rows, line) {
+        if has_any(row, pointers) {
+            return true;
+        }
+    }
+    false
 }
 
 /// What of a call breaks 204.
@@ -71,7 +102,7 @@ fn call_cause(
         "one object is passed twice"
     } else if is_named_by_callee(rows, row, pointers) {
         "a global is passed to a function that names it"
-    } else if pointers.iter().any(|name| name.starts_with('@')) {
+    } else if has_global(pointers) {
         "an object is smaller than its parameter asks, or what the callee calls names a global that is passed"
     } else {
         "an object is smaller than its parameter asks"
@@ -88,6 +119,19 @@ fn array_cause(function: &[Row<'_>], row: &Row<'_>) -> Result<&'static str, Allo
     })
 }
 
+/// What breaks 204 of a line that neither calls nor stores an array, by its first word and its third.
+fn element_cause(first: &str, third: &str) -> Option<&'static str> {
+    match (first, third) {
+        (";!", _) => Some("a zone names an element, and not its object"),
+        ("store" | "atomicrmw", _) | (_, "load") => {
+            Some("an element of another block; take it again in this one")
+        }
+        (_, "alloca") => Some("an `alloca` outside the entry block"),
+        (_, "getelementptr") => Some("an element of an element; take it of the object"),
+        _ => None,
+    }
+}
+
 /// What of a line breaks 204.
 fn pointer_cause(
     rows: &[Row<'_>],
@@ -95,15 +139,9 @@ fn pointer_cause(
     row: &Row<'_>,
 ) -> Result<Option<&'static str>, AllocError> {
     Ok(match (row.word(0), row.word(1), row.word(2)) {
-        (";!", _, _) => Some("a zone names an element, and not its object"),
         ("call", _, _) | (_, _, "call") => Some(call_cause(rows, function, row)?),
         ("store", "[", _) => Some(array_cause(function, row)?),
-        ("store" | "atomicrmw", _, _) | (_, _, "load") => {
-            Some("an element of another block; take it again in this one")
-        }
-        (_, _, "alloca") => Some("an `alloca` outside the entry block"),
-        (_, _, "getelementptr") => Some("an element of an element; take it of the object"),
-        _ => None,
+        (first, _, third) => element_cause(first, third),
     })
 }
 

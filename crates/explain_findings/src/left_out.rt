@@ -126,7 +126,7 @@ tapir | `detach`, `reattach` and `sync` are its words
 
 /// Says of a word of LLVM that the language leaves it out.
 pub fn push_left_out(word: &str, out: &mut TextBuffer) {
-    for row in LEFT_OUT.lines() {
+    for row in LEFT_OUT.split('\n') {
         if let Some((left_out, instead)) = row.split_once(" | ") {
             if left_out == word {
                 writeln!(

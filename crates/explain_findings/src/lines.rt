@@ -35,6 +35,15 @@ pub fn lines_before(text: &str, number: u32) -> &str {
     parted(text, number).0
 }
 
+/// These pieces as one text.
+pub fn joined(alloc: Global, pieces: &[&str]) -> Result<String, AllocError> {
+    let mut text = TextBuffer::new(alloc);
+    for piece in pieces {
+        text.push_str(piece);
+    }
+    text.finish()
+}
+
 /// The text with a line more, which stands before the line of this number.
 ///
 /// # Errors
@@ -47,8 +56,8 @@ pub fn with_line_before(
     new: &str,
 ) -> Result<String, AllocError> {
     match parted(text, number) {
-        (before, Some(rest)) => format!(in alloc; "{before}{new}\n{rest}\n"),
-        (text, None) => format!(in alloc; "{text}\n"),
+        (before, Some(rest)) => joined(alloc, &[before, new, "\n", rest, "\n"]),
+        (text, None) => joined(alloc, &[text, "\n"]),
     }
 }
 
@@ -65,9 +74,9 @@ pub fn with_line_at(
 ) -> Result<String, AllocError> {
     match parted(text, number) {
         (before, Some(rest)) => match rest.split_once('\n') {
-            Some((_, after)) => format!(in alloc; "{before}{new}\n{after}\n"),
-            None => format!(in alloc; "{before}{new}\n"),
+            Some((_, after)) => joined(alloc, &[before, new, "\n", after, "\n"]),
+            None => joined(alloc, &[before, new, "\n"]),
         },
-        (text, None) => format!(in alloc; "{text}\n"),
+        (text, None) => joined(alloc, &[text, "\n"]),
     }
 }

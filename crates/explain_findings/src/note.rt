@@ -2,7 +2,7 @@
 
 use crate::cause::cause_of;
 use crate::finding::{Finding, Source};
-use crate::row::{Row, function_of, rows_of};
+use crate::row::{Row, function_of, is_among, rows_of};
 use lists::{OutOfMemory, TextBuffer};
 use std::alloc::{AllocError, Global};
 
@@ -13,6 +13,16 @@ struct Site<'r, 'a> {
     function: &'r [Row<'a>],
     line: u32,
     row: Option<&'r Row<'a>>,
+}
+
+/// The line of this number, if it has tokens.
+fn row_at<'r, 'a>(rows: &'r [Row<'a>], line: u32) -> Option<&'r Row<'a>> {
+    for row in rows {
+        if row.number == line {
+            return Some(row);
+        }
+    }
+    None
 }
 
 /// The label of the block in which a line of a function stands.
@@ -72,7 +82,7 @@ fn push_names(out: &mut TextBuffer, site: Site<'_, '_>) -> Result<(), AllocError
 
 /// Whether a line ends a block and goes on to others.
 fn is_ending(row: &Row<'_>) -> bool {
-    matches!(row.word(0), "br" | "switch" | "detach" | "sync")
+    is_among(&["br", "switch", "detach", "sync"], row.word(0))
 }
 
 /// What leads to the block of the line.
@@ -95,26 +105,34 @@ fn push_ways(out: &mut TextBuffer, site: Site<'_, '_>) {
 fn push_regions(out: &mut TextBuffer, site: Site<'_, '_>) {
     out.push_str("    regions of this function:\n");
     for row in site.function {
-        if matches!(row.word(0), "detach" | "reattach" | "sync") {
+        if is_among(&["detach", "reattach", "sync"], row.word(0)) {
             out.push_str("      ");
             push_row(out, row, site.function);
         }
     }
 }
 
-/// Adds what there is to say of a line that breaks the rule of this number.
-fn push_notes(out: &mut TextBuffer, site: Site<'_, '_>, number: u16) -> Result<(), AllocError> {
-    match number {
-        201..=206 | 401 => return push_names(out, site),
-        211 | 212 | 307 => push_ways(out, site),
-        301..=305 => push_regions(out, site),
-        306 => {
-            push_ways(out, site);
-            push_regions(out, site);
-        }
-        _ => {}
+/// What there is to say of a line that breaks the rule of this number.
+fn notes_of(alloc: Global, site: Site<'_, '_>, number: u16) -> Result<String, AllocError> {
+    let mut notes = TextBuffer::new(alloc);
+    if matches!(number, 201..=206 | 401) {
+        push_names(&mut notes, site)?;
     }
-    Ok(())
+    if matches!(number, 211 | 212 | 306 | 307) {
+        push_ways(&mut notes, site);
+    }
+    if matches!(number, 301..=306) {
+        push_regions(&mut notes, site);
+    }
+    notes.finish()
+}
+
+/// Which of the rule's causes the line of a site is, where it says which.
+fn site_cause(site: Site<'_, '_>, number: u16) -> Result<Option<&'static str>, AllocError> {
+    match site.row {
+        Some(row) => cause_of(site.rows, site.function, row, number),
+        None => Ok(None),
+    }
 }
 
 /// What there is to say of a line that breaks this rule: from 201 to 206 and at 401 where its names are defined, of the graph what leads to its
@@ -131,19 +149,13 @@ pub fn name_finding(
         rows,
         function: function_of(rows, line),
         line,
-        row: rows.iter().find(|row| row.number == line),
+        row: row_at(rows, line),
     };
-    let cause = match site.row {
-        Some(row) => cause_of(rows, site.function, row, number)?,
-        None => None,
-    };
-    let mut notes = TextBuffer::new(alloc);
-    push_notes(&mut notes, site, number)?;
     Ok(Finding {
         number,
         line,
-        cause,
+        cause: site_cause(site, number)?,
         follows: false,
-        notes: notes.finish()?,
+        notes: notes_of(alloc, site, number)?,
     })
 }

@@ -1,7 +1,7 @@
 //! The lines of a text that can be read, as their tokens.
 
 use ir_lex::{Kind, Token, lex};
-use lists::OutOfMemory;
+use lists::{ListBuffer, OutOfMemory};
 use refusal::Refused;
 use std::alloc::{AllocError, Global};
 
@@ -48,13 +48,23 @@ impl<'a> Row<'a> {
 
     /// Whether the name stands in the line, as a token of its own.
     pub fn has(&self, name: &str) -> bool {
-        self.tokens.iter().any(|token| token.kind == Kind::Name && self.part(*token) == name)
+        for token in &self.tokens {
+            if token.kind == Kind::Name && self.part(*token) == name {
+                return true;
+            }
+        }
+        false
     }
 
     /// Whether the name of a register or a block stands in the line, given without its `%`.
     pub fn has_local(&self, name: &str) -> bool {
-        self.tokens.iter().any(|token| token.kind == Kind::Name
-            && self.part(*token).strip_prefix('%') == Some(name))
+        for token in &self.tokens {
+            let part = self.part(*token);
+            if token.kind == Kind::Name && part.strip_prefix('%') == Some(name) {
+                return true;
+            }
+        }
+        false
     }
 
     /// Whether the line defines the name: by `=`, as a label, or as a function or one of its parameters.
@@ -70,49 +80,52 @@ impl<'a> Row<'a> {
 
     /// What stands behind each word `ptr` of the line.
     pub fn pointers(&self) -> Result<Vec<&'a str>, AllocError> {
-        let mut pointers = Vec::new(self.alloc);
+        let mut pointers = ListBuffer::new(self.alloc);
         for index in 1..self.tokens.len() {
             if self.word(index - 1) == "ptr" {
-                pointers.push(self.word(index))?;
+                pointers.push(self.word(index));
             }
         }
-        Ok(pointers)
+        pointers.finish()
     }
 
     /// The names of the line, each once. Forms of annotations are taken apart.
     pub fn names(&self) -> Result<Vec<&'a str>, AllocError> {
-        let mut names = Vec::new(self.alloc);
+        let mut names = ListBuffer::new(self.alloc);
         for token in &self.tokens {
             match token.kind {
-                Kind::Name => push_name(&mut names, self.part(*token))?,
-                Kind::Word => push_form_names(&mut names, self.part(*token))?,
+                Kind::Name => push_name(&mut names, self.part(*token)),
+                Kind::Word => push_form_names(&mut names, self.part(*token)),
                 Kind::Number | Kind::Mark | Kind::Note => {}
             }
         }
-        Ok(names)
+        names.finish()
     }
 }
 
 /// Whether a name is one of these.
 pub fn is_among(names: &[&str], wanted: &str) -> bool {
-    names.iter().any(|name| *name == wanted)
+    for name in names {
+        if *name == wanted {
+            return true;
+        }
+    }
+    false
 }
 
 /// Adds a name, if it is one and is not there.
-fn push_name<'a>(names: &mut Vec<&'a str>, word: &'a str) -> Result<(), AllocError> {
+fn push_name<'a>(names: &mut ListBuffer<&'a str>, word: &'a str) {
     let is_name = word.starts_with('%') || word.starts_with('@');
     if is_name && !is_among(names.as_slice(), word) {
-        names.push(word)?;
+        names.push(word);
     }
-    Ok(())
 }
 
 /// Adds the names of a form.
-fn push_form_names<'a>(names: &mut Vec<&'a str>, form: &'a str) -> Result<(), AllocError> {
+fn push_form_names<'a>(names: &mut ListBuffer<&'a str>, form: &'a str) {
     for word in form.split(['+', '-', '*']) {
-        push_name(names, word)?;
+        push_name(names, word);
     }
-    Ok(())
 }
 
 /// The number of a line that is read by itself.
@@ -129,7 +142,7 @@ pub fn tokens_of(alloc: Global, line: &str) -> Result<Option<Vec<Token>>, OutOfM
 
 /// The lines of a text that say something. A line that has no tokens by itself is left out.
 pub fn rows_of<'a>(alloc: Global, text: &'a str) -> Result<Vec<Row<'a>>, OutOfMemory> {
-    let mut rows: Vec<Row<'a>> = Vec::new(alloc);
+    let mut rows: ListBuffer<Row<'a>> = ListBuffer::new(alloc);
     let mut number: u32 = 0;
     for line in text.split('\n') {
         number = number.saturating_add(1);
@@ -140,11 +153,21 @@ pub fn rows_of<'a>(alloc: Global, text: &'a str) -> Result<Vec<Row<'a>>, OutOfMe
                     number,
                     text: line,
                     tokens,
-                })?;
+                });
             }
         }
     }
-    Ok(rows)
+    Ok(rows.finish()?)
+}
+
+/// How many of these lines stand before the first `}`.
+fn count_before_end(rows: &[Row<'_>]) -> usize {
+    for index in 0..rows.len() {
+        if rows[index].word(0) == "}" {
+            return index;
+        }
+    }
+    rows.len()
 }
 
 /// The lines of the function in which a line stands, from its `define` to its `}`; none outside functions.
@@ -156,6 +179,5 @@ pub fn function_of<'r, 'a>(rows: &'r [Row<'a>], line: u32) -> &'r [Row<'a>] {
         }
     }
     let function = rows.get(from..).unwrap_or(&[]);
-    let end = function.iter().position(|row| row.word(0) == "}");
-    function.get(..end.unwrap_or(function.len())).unwrap_or(&[])
+    function.get(..count_before_end(function)).unwrap_or(&[])
 }

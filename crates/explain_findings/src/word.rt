@@ -2,7 +2,7 @@
 
 use crate::finding::{Finding, Source, push_finding};
 use crate::left_out::push_left_out;
-use crate::lines::lines_before;
+use crate::lines::{joined, lines_before};
 use crate::row::{ALONE, tokens_of};
 use ir_lex::{Kind, Token};
 use ir_reader::{read, read_line};
@@ -78,7 +78,7 @@ fn is_right_with(
 ) -> Result<bool, OutOfMemory> {
     let before = line.get(..from).unwrap_or("");
     let after = line.get(to..).unwrap_or("");
-    let changed = format!(in alloc; "{before} {word} {after}")?;
+    let changed = joined(alloc, &[before, " ", word, " ", after])?;
     Ok(fault_of(alloc, changed.as_str())?.is_none())
 }
 
@@ -89,9 +89,22 @@ fn is_bad(alloc: Global, word: &str) -> Result<bool, OutOfMemory> {
 
 /// Whether a word begins with the type of a pointer that says to what it points.
 fn is_typed_pointer(word: &str) -> bool {
-    TYPED_POINTERS
-        .split(' ')
-        .any(|pointer| word.starts_with(pointer))
+    for pointer in TYPED_POINTERS.split(' ') {
+        if word.starts_with(pointer) {
+            return true;
+        }
+    }
+    false
+}
+
+/// Whether a word has the type of such a pointer at its start or behind a `(`.
+fn has_typed_pointer(word: &str) -> bool {
+    for part in word.split('(') {
+        if is_typed_pointer(part) {
+            return true;
+        }
+    }
+    false
 }
 
 /// Whether the text before a line may go on with another one.
@@ -102,7 +115,7 @@ fn may_stand(
     line: &str,
     number: u32,
 ) -> Result<bool, OutOfMemory> {
-    let text = format!(in alloc; "{before}{line}\n")?;
+    let text = joined(alloc, &[before, line, "\n"])?;
     match read(alloc, source.state, text.as_bytes()) {
         Ok(whole) => {
             drop(whole);
@@ -239,7 +252,7 @@ impl<'a> Told<'a> {
         }
         let found = word.escape_debug();
         writeln!(self.notes, "  found: `{found}`");
-        if word.split('(').any(is_typed_pointer) {
+        if has_typed_pointer(word) {
             self.notes
                 .push_str("    a pointer's type is `ptr`, whatever it points to\n");
         }
@@ -263,7 +276,7 @@ impl<'a> Told<'a> {
         self.notes.push_str(
             "  the line is right by itself, and may not stand here; here could stand:\n",
         );
-        for row in KINDS.lines() {
+        for row in KINDS.split('\n') {
             if let Some((kind, line)) = row.split_once(" | ") {
                 if self.kept(may_stand(self.alloc, self.source, before, line, self.number)) {
                     writeln!(self.notes, "    {kind}");
