@@ -124,16 +124,24 @@ syncscope | leave it out
 tapir | `detach`, `reattach` and `sync` are its words
 ";
 
-/// Says of a word of LLVM that the language leaves it out.
-pub fn push_left_out(word: &str, out: &mut TextBuffer) {
+/// What to write in place of a word of LLVM that the language leaves out.
+fn instead_of(word: &str) -> Option<&'static str> {
     for row in LEFT_OUT.split('\n') {
         if let Some((left_out, instead)) = row.split_once(" | ") {
             if left_out == word {
-                writeln!(
-                    out,
-                    "  `{word}` is a word of LLVM that the language leaves out: {instead}"
-                );
+                return Some(instead);
             }
         }
+    }
+    None
+}
+
+/// Says of a word of LLVM that the language leaves it out.
+pub fn push_left_out(word: &str, out: &mut TextBuffer) {
+    if let Some(instead) = instead_of(word) {
+        writeln!(
+            out,
+            "  `{word}` is a word of LLVM that the language leaves out: {instead}"
+        );
     }
 }

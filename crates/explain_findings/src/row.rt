@@ -140,21 +140,27 @@ pub fn tokens_of(alloc: Global, line: &str) -> Result<Option<Vec<Token>>, OutOfM
     }
 }
 
+/// A line of a text, if it says something and has tokens by itself.
+fn row_of<'a>(alloc: Global, number: u32, text: &'a str) -> Result<Option<Row<'a>>, OutOfMemory> {
+    match tokens_of(alloc, text)? {
+        Some(tokens) if !tokens.is_empty() => Ok(Some(Row {
+            alloc,
+            number,
+            text,
+            tokens,
+        })),
+        _ => Ok(None),
+    }
+}
+
 /// The lines of a text that say something. A line that has no tokens by itself is left out.
 pub fn rows_of<'a>(alloc: Global, text: &'a str) -> Result<Vec<Row<'a>>, OutOfMemory> {
     let mut rows: ListBuffer<Row<'a>> = ListBuffer::new(alloc);
     let mut number: u32 = 0;
     for line in text.split('\n') {
         number = number.saturating_add(1);
-        if let Some(tokens) = tokens_of(alloc, line)? {
-            if !tokens.is_empty() {
-                rows.push(Row {
-                    alloc,
-                    number,
-                    text: line,
-                    tokens,
-                });
-            }
+        if let Some(row) = row_of(alloc, number, line)? {
+            rows.push(row);
         }
     }
     Ok(rows.finish()?)

@@ -188,10 +188,11 @@ impl<'a> Told<'a> {
     }
 
     fn push_place(&mut self, place: &str, found: Option<&str>) {
-        match found {
-            Some(found) => write!(self.notes, "    {place} `{found}` could stand:"),
-            None => write!(self.notes, "    {place} could stand:"),
+        write!(self.notes, "    {place}");
+        if let Some(found) = found {
+            write!(self.notes, " `{found}`");
         }
+        self.notes.push_str(" could stand:");
     }
 
     /// What could stand in place of a token, or before it, and whether the line is right without it.
