@@ -10,7 +10,7 @@ use crate::tries::Trying;
 use crate::unmet::{Unmet, all_unmet};
 use explain_findings::{Finding, Source, line_at, push_found};
 use lists::TextBuffer;
-use program::{Block, BlockId, Instruction, Width};
+use program::{Block, BlockId, Instruction, Step, Width};
 use ranges::{BlockFacts, EdgeFacts, Effort, Sum, Unanswered, block_facts};
 use std::alloc::Global;
 
@@ -78,11 +78,20 @@ fn push_range(scene: &Scene<'_>, instruction: &Instruction, notes: &mut TextBuff
     }
 }
 
+/// The step of a block that stands in this line.
+fn step_at(block: &Block, line: u32) -> Option<&Step> {
+    for step in block.steps.as_slice() {
+        if step.line == line {
+            return Some(step);
+        }
+    }
+    None
+}
+
 /// The range that a line of the block asks for, where the rule is one of ranges.
 fn push_asked_range(scene: &Scene<'_>, block: &Block, unmet: &Unmet, notes: &mut TextBuffer) {
     let is_of_range = matches!(unmet.number, 501 | 503) && !unmet.choices.is_empty();
-    let mut steps = block.steps.as_slice().iter();
-    match steps.find(|step| step.line == unmet.site.line) {
+    match step_at(block, unmet.site.line) {
         Some(step) if is_of_range => push_range(scene, &step.instruction, notes),
         _ => {}
     }
@@ -199,6 +208,30 @@ fn is_of_last(findings: &[Finding], unmet: &Unmet) -> bool {
     }
 }
 
+/// A fault with what there is to say of it, as far as that is not said where there is more of the same line.
+fn finding_of(
+    alloc: Global,
+    source: Source<'_>,
+    matched: &Matched,
+    unmet: &Unmet,
+    old: &[Unmet],
+    effort: &Effort,
+    is_more: bool,
+    missing: &mut Missing,
+) -> Result<Finding, Unanswered> {
+    let mut notes = TextBuffer::new(alloc);
+    let follows = push_notes(
+        alloc, source, matched, unmet, old, effort, is_more, missing, &mut notes,
+    )?;
+    Ok(Finding {
+        number: unmet.number,
+        line: unmet.site.line,
+        cause: None,
+        follows,
+        notes: notes.finish()?,
+    })
+}
+
 /// All faults of numbers of a text, as far as the effort reaches.
 pub fn number_findings(
     alloc: Global,
@@ -212,8 +245,7 @@ pub fn number_findings(
     for unmet in &all {
         let old = all.as_slice();
         let is_more = is_of_last(findings.as_slice(), unmet);
-        let mut notes = TextBuffer::new(alloc);
-        let follows = push_notes(
+        let found = finding_of(
             alloc,
             source,
             matched,
@@ -222,15 +254,7 @@ pub fn number_findings(
             effort,
             is_more,
             &mut missing,
-            &mut notes,
         )?;
-        let found = Finding {
-            number: unmet.number,
-            line: unmet.site.line,
-            cause: None,
-            follows,
-            notes: notes.finish()?,
-        };
         push_found(&mut findings, found)?;
     }
     Ok(findings)

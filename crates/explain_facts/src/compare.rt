@@ -2,7 +2,9 @@
 
 use crate::scene::Scene;
 use lists::TextBuffer;
-use program::{Block, BlockId, Function, Instruction, Operand, RegisterId, Terminator, Width};
+use program::{
+    Block, BlockId, Case, Function, Instruction, Operand, RegisterId, Terminator, Width,
+};
 use syntax::Predicate;
 
 /// A test that bounds a register from above by a number where it is true.
@@ -13,6 +15,16 @@ struct Test {
     register: RegisterId,
     width: Width,
     most: i64,
+}
+
+/// Whether a case of a switch leads to a block.
+fn has_case_to(cases: &[Case], to: BlockId) -> bool {
+    for case in cases {
+        if case.target == to {
+            return true;
+        }
+    }
+    false
 }
 
 /// Whether a terminator leads to a block.
@@ -29,8 +41,9 @@ fn leads_to(terminator: &Terminator, to: BlockId) -> bool {
             continuation,
             ..
         } => *body == to || *continuation == to,
-        Terminator::Switch { default, cases, .. } => *default == to
-            || cases.as_slice().iter().any(|case| case.target == to),
+        Terminator::Switch { default, cases, .. } => {
+            *default == to || has_case_to(cases.as_slice(), to)
+        }
         Terminator::Return { .. } | Terminator::Reattach { .. } => false,
     }
 }

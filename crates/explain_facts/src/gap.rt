@@ -113,11 +113,13 @@ fn least_amount(alloc: Global, known: &Known<'_>, form: &Form) -> Result<Option<
 
 /// How many registers stand in a form and do not fall out of it.
 pub fn number_of_registers(form: &Form) -> usize {
-    form.terms
-        .as_slice()
-        .iter()
-        .filter(|term| term.coefficient != 0)
-        .count()
+    let mut count: usize = 0;
+    for term in form.terms.as_slice() {
+        if term.coefficient != 0 {
+            count = count.saturating_add(1);
+        }
+    }
+    count
 }
 
 /// The term of a form of one register.
@@ -125,11 +127,12 @@ pub fn only_term(form: &Form) -> Option<Term> {
     if number_of_registers(form) != 1 {
         return None;
     }
-    form.terms
-        .as_slice()
-        .iter()
-        .find(|term| term.coefficient != 0)
-        .copied()
+    for term in form.terms.as_slice() {
+        if term.coefficient != 0 {
+            return Some(*term);
+        }
+    }
+    None
 }
 
 /// The first facts, so many of them.

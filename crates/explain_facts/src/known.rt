@@ -87,18 +87,22 @@ pub fn fact_lines(
 }
 
 fn has_register(form: &Form, register: RegisterId) -> bool {
-    form.terms
-        .as_slice()
-        .iter()
-        .any(|term| term.register.0 == register.0)
+    for term in form.terms.as_slice() {
+        if term.register.0 == register.0 {
+            return true;
+        }
+    }
+    false
 }
 
 /// Whether two forms name a register both.
 fn share_register(left: &Form, right: &Form) -> bool {
-    left.terms
-        .as_slice()
-        .iter()
-        .any(|term| has_register(right, term.register))
+    for term in left.terms.as_slice() {
+        if has_register(right, term.register) {
+            return true;
+        }
+    }
+    false
 }
 
 impl Known<'_> {
@@ -153,14 +157,16 @@ impl Known<'_> {
     /// What one register may be, where it is to be bounded by a number, and the test that lets it.
     fn push_may_be(&self, term: Term, form: &Form, short: i128, out: &mut TextBuffer) {
         let name = self.scene.register(term.register);
-        let bound = form.constant;
-        if term.coefficient == 1 {
-            let least = 0i128.saturating_sub(bound);
-            let may = least.saturating_sub(short);
-            writeln!(out, "%{name} may be {may}, and has to be at least {least}");
+        let is_low = term.coefficient == 1;
+        let (may, side, bound) = if is_low {
+            let least = 0i128.saturating_sub(form.constant);
+            (least.saturating_sub(short), "least", least)
         } else {
-            let may = bound.saturating_add(short);
-            writeln!(out, "%{name} may be {may}, and has to be at most {bound}");
+            let most = form.constant;
+            (most.saturating_add(short), "most", most)
+        };
+        writeln!(out, "%{name} may be {may}, and has to be at {side} {bound}");
+        if !is_low {
             push_test(self.scene, self.block, term.register, bound, out);
         }
     }

@@ -41,25 +41,37 @@ fn is_compare(step: &Step, outcome: RegisterId) -> bool {
     }
 }
 
+/// The compare of a block that has this result.
+fn compare_in(block: &Block, outcome: RegisterId) -> Option<&Step> {
+    for step in block.steps.as_slice() {
+        if is_compare(step, outcome) {
+            return Some(step);
+        }
+    }
+    None
+}
+
 /// Whether a sum names the operand, if that is a register.
 fn is_named(sum: &Sum, operand: Operand) -> bool {
-    match operand {
-        Operand::Register(_) => sum
-            .parts
-            .as_slice()
-            .iter()
-            .any(|part| part.operand == operand),
-        Operand::Number(_) => false,
+    if matches!(operand, Operand::Number(_)) {
+        return false;
     }
+    for part in sum.parts.as_slice() {
+        if part.operand == operand {
+            return true;
+        }
+    }
+    false
 }
 
 /// Whether what is not shown is about one of these operands.
 fn is_about(unmet: &Unmet, left: Operand, right: Operand) -> bool {
-    unmet
-        .choices
-        .as_slice()
-        .iter()
-        .any(|sum| is_named(sum, left) || is_named(sum, right))
+    for sum in unmet.choices.as_slice() {
+        if is_named(sum, left) || is_named(sum, right) {
+            return true;
+        }
+    }
+    false
 }
 
 /// The signed predicate to write for a compare that gives no facts where it comes out so, if it tests what is not shown.
@@ -80,8 +92,7 @@ fn push_compare(block: &Block, to: BlockId, unmet: &Unmet, out: &mut TextBuffer)
     let Some((condition, outcome)) = condition_to(block, to) else {
         return;
     };
-    let mut steps = block.steps.as_slice().iter();
-    let Some(step) = steps.find(|step| is_compare(step, condition)) else {
+    let Some(step) = compare_in(block, condition) else {
         return;
     };
     if let Some(word) = signed_in_place_of(step, outcome, unmet) {

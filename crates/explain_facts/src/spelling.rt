@@ -56,9 +56,12 @@ impl<'a> Spelled<'a> {
     }
 
     fn has_no_terms(self) -> bool {
-        self.terms
-            .iter()
-            .all(|term| self.part.of_coefficient(term.coefficient) == 0)
+        for term in self.terms {
+            if self.part.of_coefficient(term.coefficient) != 0 {
+                return false;
+            }
+        }
+        true
     }
 
     /// The term that comes behind this name in the order of the registers' names.

@@ -11,7 +11,7 @@ use linear::{Form, RegisterId};
 use lists::{OutOfMemory, TextBuffer};
 use program::BlockId;
 use ranges::{Effort, Sum, Unanswered, sum_form};
-use std::alloc::Global;
+use std::alloc::{AllocError, Global};
 
 /// The steps that a byte of a text counts for that is judged as far as its numbers.
 const STEPS_A_BYTE: usize = 30;
@@ -31,6 +31,27 @@ struct Try {
     words: String,
 }
 
+/// Whether a line is there and names fewer registers than the other.
+fn is_shorter(one: &Option<Try>, other: &Option<Try>) -> bool {
+    match (one, other) {
+        (Some(one), Some(other)) => one.registers < other.registers,
+        _ => false,
+    }
+}
+
+/// An annotation that says a form.
+fn annotation(
+    alloc: Global,
+    scene: &Scene<'_>,
+    word: &str,
+    form: &Form,
+) -> Result<String, AllocError> {
+    let mut line = TextBuffer::new(alloc);
+    write!(line, ";! {word} ");
+    push_inequality(scene, form, &mut line);
+    line.finish()
+}
+
 fn push_try(tried: &Option<Try>, out: &mut TextBuffer) {
     if let Some(tried) = tried {
         let words = tried.words.as_str();
@@ -45,7 +66,22 @@ fn is_old(unmet: &Unmet, old: &[Unmet], added: u32) -> bool {
     } else {
         unmet.site.line
     };
-    old.iter().any(|other| other.site.line == line && other.number == unmet.number)
+    for other in old {
+        if other.site.line == line && other.number == unmet.number {
+            return true;
+        }
+    }
+    false
+}
+
+/// Whether all faults of a text with one line more, from this one on, stand among those that it had, and are fewer if it had any.
+fn is_less(new: &[Unmet], old: &[Unmet], added: u32) -> bool {
+    for unmet in new {
+        if !is_old(unmet, old, added) {
+            return false;
+        }
+    }
+    old.is_empty() || new.len() < old.len()
 }
 
 /// What another text owes of its numbers, where the phases before take it.
@@ -191,10 +227,7 @@ impl Trying<'_, '_> {
         };
         let changed = with_line_before(alloc, source.text, before, line)?;
         match unmet_of(alloc, source, changed.as_str(), self.known.effort)? {
-            Some(new) => {
-                let is_less = self.old.is_empty() || new.len() < self.old.len();
-                Ok(is_less && new.iter().all(|unmet| is_old(unmet, self.old, before)))
-            }
+            Some(new) => Ok(is_less(new.as_slice(), self.old, before)),
             None => Ok(false),
         }
     }
@@ -217,10 +250,7 @@ impl Trying<'_, '_> {
             return Ok(None);
         }
         let (word, after) = start_of(self.known.scene, self.known.block);
-        let mut line = TextBuffer::new(alloc);
-        write!(line, ";! {word} ");
-        push_inequality(self.known.scene, form, &mut line);
-        let line = line.finish()?;
+        let line = annotation(alloc, self.known.scene, word, form)?;
         if !self.is_better(alloc, line.as_str(), after.saturating_add(1))? {
             return Ok(None);
         }
@@ -246,6 +276,14 @@ impl Trying<'_, '_> {
         }))
     }
 
+    /// The line at the start that says what a reader would write in place of a form.
+    fn plain_start_line(&self, alloc: Global, form: &Form) -> Result<Option<Try>, Unanswered> {
+        match plainer(alloc, form)? {
+            Some(plain) => self.start_line(alloc, &plain),
+            None => Ok(None),
+        }
+    }
+
     /// Adds lines each of which is enough to show the sum at the place, where there are any.
     pub fn push_tries(
         &self,
@@ -257,20 +295,14 @@ impl Trying<'_, '_> {
             return Ok(());
         };
         let step = self.step_line(alloc, &form)?;
-        let start = match plainer(alloc, &form)? {
-            Some(plain) => self.start_line(alloc, &plain)?,
-            None => None,
+        let start = self.plain_start_line(alloc, &form)?;
+        let (first, second) = if is_shorter(&start, &step) {
+            (&start, &step)
+        } else {
+            (&step, &start)
         };
-        match (&step, &start) {
-            (Some(first), Some(other)) if other.registers < first.registers => {
-                push_try(&start, out);
-                push_try(&step, out);
-            }
-            _ => {
-                push_try(&step, out);
-                push_try(&start, out);
-            }
-        }
+        push_try(first, out);
+        push_try(second, out);
         Ok(())
     }
 

@@ -3,7 +3,7 @@
 use crate::scene::Scene;
 use linear::{Fact, Term};
 use lists::TextBuffer;
-use program::{BlockId, Function, FunctionId, Instruction, Program, RegisterId, Step};
+use program::{Block, BlockId, Function, FunctionId, Instruction, Program, RegisterId, Step};
 use syntax::BinaryOperator;
 
 /// Whether two coefficients bound a register from the same side.
@@ -13,22 +13,42 @@ fn is_same_side(a: i64, b: i64) -> bool {
 
 /// Whether a fact bounds the register of a term from the side from which the term does.
 fn is_bounded_by(fact: &Fact, term: Term) -> bool {
-    fact.form.terms.as_slice().iter().any(|other| other.register == term.register
-        && is_same_side(other.coefficient, term.coefficient))
+    for other in fact.form.terms.as_slice() {
+        if other.register == term.register && is_same_side(other.coefficient, term.coefficient) {
+            return true;
+        }
+    }
+    false
 }
 
 /// Whether one of the facts bounds the register of a term from the side from which the term does. Where none does, no facts add up to a form with it.
 pub fn is_bounded(facts: &[Fact], term: Term) -> bool {
-    term.coefficient == 0 || facts.iter().any(|fact| is_bounded_by(fact, term))
+    for fact in facts {
+        if is_bounded_by(fact, term) {
+            return true;
+        }
+    }
+    term.coefficient == 0
 }
 
 /// Whether a fact names the register.
 fn is_named_by(fact: &Fact, register: RegisterId) -> bool {
-    fact.form
-        .terms
-        .as_slice()
-        .iter()
-        .any(|term| term.register == register && term.coefficient != 0)
+    for term in fact.form.terms.as_slice() {
+        if term.register == register && term.coefficient != 0 {
+            return true;
+        }
+    }
+    false
+}
+
+/// Whether one of the facts names the register.
+fn is_known(facts: &[Fact], register: RegisterId) -> bool {
+    for fact in facts {
+        if is_named_by(fact, register) {
+            return true;
+        }
+    }
+    false
 }
 
 /// Whether an instruction makes a number in this register.
@@ -42,11 +62,20 @@ fn makes(step: &Step, made: RegisterId) -> bool {
     }
 }
 
+/// The instruction of a block that makes a number in this register.
+fn maker_in(block: &Block, made: RegisterId) -> Option<&Step> {
+    for step in block.steps.as_slice() {
+        if makes(step, made) {
+            return Some(step);
+        }
+    }
+    None
+}
+
 /// The instruction that makes a number in this register, and its block.
 fn maker_of(function: &Function, made: RegisterId) -> Option<(BlockId, &Step)> {
     for (index, block) in function.blocks.as_slice().iter().enumerate() {
-        let mut steps = block.steps.as_slice().iter();
-        if let Some(step) = steps.find(|step| makes(step, made)) {
+        if let Some(step) = maker_in(block, made) {
             return Some((BlockId(index), step));
         }
     }
@@ -110,7 +139,7 @@ fn maker_words(scene: &Scene<'_>, block: BlockId, register: RegisterId) -> Optio
 /// That nothing bounds the register of a term from its side.
 fn push_what(scene: &Scene<'_>, facts: &[Fact], term: Term, out: &mut TextBuffer) {
     let name = scene.register(term.register);
-    if facts.iter().any(|fact| is_named_by(fact, term.register)) {
+    if is_known(facts, term.register) {
         let side = if term.coefficient > 0 {
             "below"
         } else {

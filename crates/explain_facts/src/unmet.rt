@@ -95,6 +95,20 @@ fn owed_by_line(alloc: Global, line: &Inequality) -> Result<Obligation, OutOfMem
     })
 }
 
+/// Adds a `shows` line, if it is not shown by the facts at the site.
+fn push_shown(
+    alloc: Global,
+    site: Site,
+    cursor: &mut FactCursor<'_>,
+    line: &Inequality,
+    unmet: &mut ListBuffer<Unmet>,
+) -> Result<(), Unanswered> {
+    cursor.seek(site.count);
+    cursor.index()?;
+    let owed = owed_by_line(alloc, line)?;
+    push_if_unmet(alloc, site, &cursor.known(), owed, None, unmet)
+}
+
 /// Adds the `shows` lines that are not shown; each is a fact for those after it. `count` facts are known at the last of them.
 fn push_shows(
     alloc: Global,
@@ -105,16 +119,12 @@ fn push_shows(
 ) -> Result<(), Unanswered> {
     let before = site.count.saturating_sub(shows.len());
     for (place, line) in shows.iter().enumerate() {
-        let count = before.saturating_add(place);
         let at = Site {
             line: line.line,
-            count,
+            count: before.saturating_add(place),
             ..site
         };
-        cursor.seek(count);
-        cursor.index()?;
-        let owed = owed_by_line(alloc, line)?;
-        push_if_unmet(alloc, at, &cursor.known(), owed, None, unmet)?;
+        push_shown(alloc, at, cursor, line, unmet)?;
     }
     cursor.seek(site.count);
     Ok(cursor.index()?)
