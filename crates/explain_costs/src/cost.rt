@@ -137,16 +137,17 @@ impl Doing<'_, '_> {
         &self,
         alloc: Global,
         needs: &[Need<'_>],
-        notes: String,
+        notes: TextBuffer,
         findings: &mut Vec<Finding>,
     ) -> Result<(), Unanswered> {
+        let notes = notes.finish()?;
         let has_left = self.block.left.line != self.block.line;
         let notes = if notes.is_empty() || has_left || !self.trying.is_told() {
             notes
         } else {
             missing_left(alloc, self.trying, self.block, self.work, needs)?
         };
-        Ok(push_if_any(findings, 702, self.trying.known.line, notes)?)
+        push_if_any(findings, 702, self.trying.known.line, notes)
     }
 }
 
@@ -201,8 +202,7 @@ fn push_edges(
             });
         }
     }
-    let needs = needs.finish()?;
-    doing.push_fault(alloc, needs.as_slice(), notes.finish()?, findings)
+    doing.push_fault(alloc, needs.finish()?.as_slice(), notes, findings)
 }
 
 /// 702 where all of this comes next.
@@ -215,7 +215,7 @@ fn push_all(
 ) -> Result<(), Unanswered> {
     let mut notes = TextBuffer::new(alloc);
     doing.push_lack(alloc, shares, &mut notes)?;
-    doing.push_fault(alloc, &[need], notes.finish()?, findings)
+    doing.push_fault(alloc, &[need], notes, findings)
 }
 
 /// 702 at a terminator.
@@ -276,15 +276,16 @@ fn push_sum(
     trying.push_detail(alloc, sum, "  ", notes)
 }
 
-/// A form that is to be at least 0, where it is not shown to be.
+/// A form with the moves put in that is to be at least 0, where it is not shown to be.
 fn push_low(
     alloc: Global,
     trying: Trying<'_, '_>,
     what: &str,
+    moves: &[Move],
     form: &Form,
     notes: &mut TextBuffer,
 ) -> Result<(), Unanswered> {
-    let sum = plus_form(number_sum(alloc, 0), &[], form)?;
+    let sum = plus_form(number_sum(alloc, 0), moves, form)?;
     push_sum(alloc, trying, what, &sum, notes)
 }
 
@@ -301,16 +302,27 @@ fn push_high(
     push_sum(alloc, trying, what, &sum, notes)
 }
 
+/// A fault with these notes, if there are any.
 fn push_if_any(
     findings: &mut Vec<Finding>,
     number: u16,
     line: u32,
     notes: String,
-) -> Result<(), OutOfMemory> {
+) -> Result<(), Unanswered> {
     if notes.is_empty() {
         return Ok(());
     }
-    push_finding(findings, number, line, notes)
+    Ok(push_finding(findings, number, line, notes)?)
+}
+
+/// A fault with what was written of it, if anything was.
+fn push_if_written(
+    findings: &mut Vec<Finding>,
+    number: u16,
+    line: u32,
+    notes: TextBuffer,
+) -> Result<(), Unanswered> {
+    push_if_any(findings, number, line, notes.finish()?)
 }
 
 /// 701 of a block.
@@ -322,10 +334,10 @@ fn push_start(
 ) -> Result<(), Unanswered> {
     let mut notes = TextBuffer::new(alloc);
     let what = "the self calls left are at least 0";
-    push_low(alloc, trying, what, &left.self_calls, &mut notes)?;
+    push_low(alloc, trying, what, &[], &left.self_calls, &mut notes)?;
     let what = "the instructions left are at least 0";
-    push_low(alloc, trying, what, &left.instructions, &mut notes)?;
-    Ok(push_if_any(findings, 701, left.line, notes.finish()?)?)
+    push_low(alloc, trying, what, &[], &left.instructions, &mut notes)?;
+    push_if_written(findings, 701, left.line, notes)
 }
 
 /// 703 of a self call.
@@ -347,7 +359,7 @@ fn push_call(
         return Ok(());
     }
     let notes = call_notes(alloc, trying, arguments.as_slice())?;
-    Ok(push_if_any(findings, 703, step.line, notes)?)
+    push_if_any(findings, 703, step.line, notes)
 }
 
 /// Whether the function has a `measure` line: where it has none, the measure stands on the function's own.
@@ -390,11 +402,11 @@ fn push_call_notes(
 ) -> Result<(), Unanswered> {
     let form = &trying.known.scene.function.measure.form;
     let moves = argument_moves(alloc, arguments)?;
-    let next = plus_form(number_sum(alloc, 0), moves.as_slice(), form)?;
+    let moves = moves.as_slice();
     let what = "the call's measure is at least 0";
-    push_sum(alloc, trying, what, &next, notes)?;
+    push_low(alloc, trying, what, moves, form, notes)?;
     let below = plus_form(number_sum(alloc, -1), &[], form)?;
-    let falls = less_form(below, moves.as_slice(), form)?;
+    let falls = less_form(below, moves, form)?;
     let what = "the call's measure is below the one here";
     push_sum(alloc, trying, what, &falls, notes)
 }
@@ -435,10 +447,10 @@ fn push_measure(
     let form = &measure.form;
     let mut notes = TextBuffer::new(alloc);
     let what = "the measure is at least 0";
-    push_low(alloc, trying, what, form, &mut notes)?;
+    push_low(alloc, trying, what, &[], form, &mut notes)?;
     let what = "the measure is at most its bound";
     push_high(alloc, trying, what, measure.bound, form, &mut notes)?;
-    Ok(push_if_any(findings, 703, measure.line, notes.finish()?)?)
+    push_if_written(findings, 703, measure.line, notes)
 }
 
 fn push_budget(
@@ -462,7 +474,7 @@ fn push_budget(
         &left.instructions,
         &mut notes,
     )?;
-    Ok(push_if_any(findings, 704, budget.line, notes.finish()?)?)
+    push_if_written(findings, 704, budget.line, notes)
 }
 
 /// 705 of a function.

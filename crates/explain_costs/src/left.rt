@@ -6,8 +6,8 @@ use explain_facts::{Scene, Trying, push_form, within_bounds};
 use linear::{Fact, Form, RegisterId};
 use lists::{OutOfMemory, TextBuffer};
 use program::{Block, Function, Instruction, Step};
-use ranges::{Unanswered, sum_form};
-use std::alloc::Global;
+use ranges::{Sum, Unanswered, sum_form};
+use std::alloc::{AllocError, Global};
 
 /// A number that no coefficient of a form reaches: 2^24.
 const FACTOR_LIMIT: u64 = 16_777_216;
@@ -83,11 +83,12 @@ fn by_fact(
 
 /// The coefficient that a register has in a form.
 fn coefficient(form: &Form, register: RegisterId) -> i64 {
-    let terms = form.terms.as_slice();
-    match terms.iter().find(|term| term.register == register) {
-        Some(term) => term.coefficient,
-        None => 0,
+    for term in form.terms.as_slice() {
+        if term.register == register {
+            return term.coefficient;
+        }
     }
+    0
 }
 
 /// A form that is at least this one and does not name the register, by the first fact that lets it.
@@ -107,11 +108,22 @@ fn without_register(
 
 /// The register that a step defines, where a form names it.
 fn named_by(step: &Step, form: &Form) -> Option<RegisterId> {
-    let mut terms = form.terms.as_slice().iter();
-    match terms.find(|term| term.coefficient != 0 && defines(step, term.register)) {
-        Some(term) => Some(term.register),
-        None => None,
+    for term in form.terms.as_slice() {
+        if term.coefficient != 0 && defines(step, term.register) {
+            return Some(term.register);
+        }
     }
+    None
+}
+
+/// The `left` line that says what is wanted.
+fn left_line(alloc: Global, scene: &Scene<'_>, wanted: &Wanted) -> Result<String, AllocError> {
+    let mut line = TextBuffer::new(alloc);
+    line.push_str(";! left ");
+    push_form(scene, &wanted.self_calls, &mut line);
+    line.push_str(" ");
+    push_form(scene, &wanted.instructions, &mut line);
+    line.finish()
 }
 
 /// Whether a block has a `left` line: where it has none, what is left stands on the label's own.
@@ -119,6 +131,14 @@ fn has_left(function: &Function, share: &Share<'_>) -> bool {
     match function.blocks.as_slice().get(share.to.0) {
         Some(block) => block.left.line != block.line,
         None => false,
+    }
+}
+
+/// A sum, and what is left at a place, if there is one.
+fn plus_share(sum: Sum, counted: Counted, share: Option<Share<'_>>) -> Result<Sum, OutOfMemory> {
+    match share {
+        Some(share) => plus_form(sum, share.moves, counted.of_left(share.left)),
+        None => Ok(sum),
     }
 }
 
@@ -134,14 +154,10 @@ impl Bare<'_, '_> {
         counted: Counted,
         need: Need<'_>,
     ) -> Result<Option<Form>, OutOfMemory> {
-        let mut sum = number_sum(alloc, amount(counted.of_work(self.work)));
-        if let Some(share) = need.first {
-            sum = plus_form(sum, share.moves, counted.of_left(share.left))?;
-        }
-        if let Some(share) = need.second {
-            sum = plus_form(sum, share.moves, counted.of_left(share.left))?;
-        }
-        sum_form(alloc, &sum)
+        let done = number_sum(alloc, amount(counted.of_work(self.work)));
+        let with_first = plus_share(done, counted, need.first)?;
+        let with_both = plus_share(with_first, counted, need.second)?;
+        sum_form(alloc, &with_both)
     }
 
     /// A form at the block's start that is at least this one at its end: without the registers that the block defines.
@@ -224,12 +240,7 @@ impl Bare<'_, '_> {
         wanted: &Wanted,
         out: &mut TextBuffer,
     ) -> Result<(), Unanswered> {
-        let mut line = TextBuffer::new(alloc);
-        line.push_str(";! left ");
-        push_form(self.scene(), &wanted.self_calls, &mut line);
-        line.push_str(" ");
-        push_form(self.scene(), &wanted.instructions, &mut line);
-        let line = line.finish()?;
+        let line = left_line(alloc, self.scene(), wanted)?;
         let after = self.block.line;
         if self.trying.is_line(alloc, line.as_str(), after)? {
             writeln!(out, "    try: {line}, after line {after}");
