@@ -64,6 +64,23 @@ fn push_unneeded(
     Ok(())
 }
 
+/// What each function's budget has left over; none where the text cannot be read.
+fn budget_remarks(
+    alloc: Global,
+    source: Source<'_>,
+    program: &Program,
+) -> Result<Option<TextBuffer>, OutOfMemory> {
+    match read(alloc, source.state, source.text.as_bytes()) {
+        Ok(whole) => {
+            let mut out = TextBuffer::new(alloc);
+            push_budgets(alloc, program, &whole, &mut out)?;
+            Ok(Some(out))
+        }
+        Err(Refused::Fault { .. }) => Ok(None),
+        Err(Refused::Memory) => Err(OutOfMemory),
+    }
+}
+
 /// What each function's budget has left over, and the annotations that are not needed, as far as the effort reaches.
 pub fn remarks(
     alloc: Global,
@@ -71,12 +88,9 @@ pub fn remarks(
     program: &Program,
     effort: &Effort,
 ) -> Result<String, OutOfMemory> {
-    let mut out = TextBuffer::new(alloc);
-    match read(alloc, source.state, source.text.as_bytes()) {
-        Ok(whole) => push_budgets(alloc, program, &whole, &mut out)?,
-        Err(Refused::Fault { .. }) => return Ok(String::new(alloc)),
-        Err(Refused::Memory) => return Err(OutOfMemory),
-    }
+    let Some(mut out) = budget_remarks(alloc, source, program)? else {
+        return Ok(String::new(alloc));
+    };
     match push_unneeded(alloc, source, effort, &mut out) {
         Ok(()) => {}
         Err(Unanswered::OutOfMemory) => return Err(OutOfMemory),
