@@ -22,7 +22,7 @@ pub struct Trial<'a> {
 
 /// What is refused of blocks.
 #[derive(Clone, Copy)]
-pub enum Part {
+enum Part {
     /// The `keeps` lines that an edge does not show, and the `shows` lines that their places do not.
     Facts,
     /// The `keeps` lines that say no more than another one of their block.
@@ -95,7 +95,7 @@ impl Trial<'_> {
     }
 
     /// Refuses lines of all blocks.
-    pub fn try_blocks(&mut self, program: &Program, part: Part) -> Result<(), Unanswered> {
+    fn try_blocks(&mut self, program: &Program, part: Part) -> Result<(), Unanswered> {
         for function in program.functions.as_slice() {
             self.try_function(program, function, part)?;
         }
@@ -251,9 +251,23 @@ impl Trial<'_> {
     }
 
     /// Refuses the `left` and `budget` lines that do not cover what is used.
-    pub fn try_costs(&mut self, matched: &Matched) -> Result<(), Unanswered> {
+    fn try_costs(&mut self, matched: &Matched) -> Result<(), Unanswered> {
         for finding in cost_findings(self.alloc, matched, self.effort)? {
             self.try_costs_at(&matched.graph.program, finding.line);
+        }
+        Ok(())
+    }
+
+    /// Refuses lines of facts; where there is none, those that say no more than others; where there is none of these either, those of zones and costs.
+    pub fn try_all(&mut self, matched: &Matched) -> Result<(), Unanswered> {
+        let program = &matched.graph.program;
+        self.try_blocks(program, Part::Facts)?;
+        if self.refused.is_empty() {
+            self.try_blocks(program, Part::Plain)?;
+        }
+        if self.refused.is_empty() {
+            self.try_blocks(program, Part::Zones)?;
+            self.try_costs(matched)?;
         }
         Ok(())
     }

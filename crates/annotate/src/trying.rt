@@ -2,9 +2,9 @@ ghost use Rattle.std.specs.Prelude.{◌≡◌, IfOk};
 ghost use Rattle.annotate.specs.Kept.{StaysAccepted};
 
 use crate::new_lines::{NewLines, without};
-use crate::trial::{Part, Trial};
+use crate::trial::Trial;
 use annotate_lines::{Kind, proposed};
-use explain_facts::{match_text, spend};
+use explain_facts::{Matched, match_text, spend};
 use ir_reader::read;
 use lists::ListBuffer;
 use ranges::{Effort, Unanswered};
@@ -61,8 +61,25 @@ fn judged(
     }
 }
 
-/// Lines of the text that were put in and do not stay: those that are refused; where there is none, those that say no more than others, if they are asked for.
-/// None where a phase before that of numbers refuses the text.
+/// Lines that were put into a text and that the phases refuse; where there is none, those that say no more than others; and where there is none of these
+/// either, those of zones and costs.
+fn refused_in(
+    alloc: Global,
+    matched: &Matched,
+    new: &NewLines,
+    effort: &Effort,
+) -> Result<Vec<u32>, Unanswered> {
+    let mut trial = Trial {
+        alloc,
+        new,
+        effort,
+        refused: ListBuffer::new(alloc),
+    };
+    trial.try_all(matched)?;
+    Ok(trial.refused.finish()?)
+}
+
+/// Lines of the text that were put in and do not stay, as [`refused_in`] finds them. None where a phase before that of numbers refuses the text.
 fn refused_of(
     alloc: Global,
     state: RandomState,
@@ -71,25 +88,30 @@ fn refused_of(
     effort: &Effort,
 ) -> Result<Option<Vec<u32>>, Unanswered> {
     spend(effort, text.len().saturating_mul(STEPS_A_BYTE))?;
-    let Some(matched) = match_text(alloc, state, text.as_bytes(), true)? else {
-        return Ok(None);
-    };
-    let program = &matched.graph.program;
-    let mut trial = Trial {
-        alloc,
-        new,
-        effort,
-        refused: ListBuffer::new(alloc),
-    };
-    trial.try_blocks(program, Part::Facts)?;
-    if trial.refused.is_empty() {
-        trial.try_blocks(program, Part::Plain)?;
+    match match_text(alloc, state, text.as_bytes(), true)? {
+        Some(matched) => Ok(Some(refused_in(alloc, &matched, new, effort)?)),
+        None => Ok(None),
     }
-    if trial.refused.is_empty() {
-        trial.try_blocks(program, Part::Zones)?;
-        trial.try_costs(&matched)?;
+}
+
+/// A text as it was, where nothing can be put into it.
+fn unchanged(alloc: Global, text: &str) -> Result<String, Unanswered> {
+    Ok(String::from_str(alloc, text)?)
+}
+
+/// The same of a text with more lines than another one, where it has any.
+fn refused_beside(
+    alloc: Global,
+    state: RandomState,
+    text: &str,
+    more: &str,
+    effort: &Effort,
+) -> Result<Option<Vec<u32>>, Unanswered> {
+    let new = NewLines::between(alloc, text, more)?;
+    if new.count() == 0 {
+        return Ok(Some(Vec::new(alloc)));
     }
-    Ok(Some(trial.refused.finish()?))
+    refused_of(alloc, state, more, &new, effort)
 }
 
 /// A text with those of the proposed lines put in that stand their trial; the text as it was, where that cannot be tried.
@@ -102,19 +124,15 @@ fn tried(
 ) -> Result<String, Unanswered> {
     let mut more = proposal;
     for _round in 0..MOST_ROUNDS {
-        let new = NewLines::between(alloc, text, more.as_str())?;
-        if new.count() == 0 {
-            return Ok(more);
-        }
-        let Some(refused) = refused_of(alloc, state, more.as_str(), &new, effort)? else {
-            return Ok(String::from_str(alloc, text)?);
+        let Some(refused) = refused_beside(alloc, state, text, more.as_str(), effort)? else {
+            return unchanged(alloc, text);
         };
         if refused.is_empty() {
             return Ok(more);
         }
         more = without(alloc, more.as_str(), refused.as_slice())?;
     }
-    Ok(String::from_str(alloc, text)?)
+    unchanged(alloc, text)
 }
 
 /// A text with lines of a kind put in that may follow from others; as it was, where it cannot be read.
@@ -126,7 +144,7 @@ fn proposed_over(
 ) -> Result<String, Unanswered> {
     match proposed(alloc, state, text.as_bytes(), kind) {
         Ok(proposal) => Ok(proposal),
-        Err(Refused::Fault { .. }) => Ok(String::from_str(alloc, text)?),
+        Err(Refused::Fault { .. }) => unchanged(alloc, text),
         Err(Refused::Memory) => Err(Unanswered::OutOfMemory),
     }
 }
@@ -135,12 +153,12 @@ fn proposed_over(
 fn with_kind(
     alloc: Global,
     state: RandomState,
-    text: String,
+    text: &str,
     kind: Kind,
     effort: &Effort,
 ) -> Result<String, Unanswered> {
-    let proposal = proposed_over(alloc, state, text.as_str(), kind)?;
-    tried(alloc, state, text.as_str(), proposal, effort)
+    let proposal = proposed_over(alloc, state, text, kind)?;
+    tried(alloc, state, text, proposal, effort)
 }
 
 /// The lines of a text, by numbers of one with more lines; the numbers of lines that it has not are left out.
@@ -154,30 +172,59 @@ fn own_lines(alloc: Global, more: &NewLines, numbers: &[u32]) -> Result<Vec<u32>
     own.finish()
 }
 
+/// The guesses of a text that do not stay, where `more` has `shows` lines beside them. None where a phase before that of numbers refuses the text.
+fn refused_guesses(
+    alloc: Global,
+    state: RandomState,
+    text: &str,
+    guessed: &str,
+    more: &str,
+    effort: &Effort,
+) -> Result<Option<Vec<u32>>, Unanswered> {
+    let new = NewLines::between(alloc, text, more)?;
+    let Some(refused) = refused_of(alloc, state, more, &new, effort)? else {
+        return Ok(None);
+    };
+    let steps = NewLines::between(alloc, guessed, more)?;
+    Ok(Some(own_lines(alloc, &steps, refused.as_slice())?))
+}
+
 /// A text with guesses put in that stand their trial beside the `shows` lines by which edges show them. As long as a guess is refused, what is shown without
 /// it is found anew.
 fn with_guesses(
     alloc: Global,
     state: RandomState,
-    text: String,
+    text: &str,
     effort: &Effort,
 ) -> Result<String, Unanswered> {
-    let mut guessed = proposed_over(alloc, state, text.as_str(), Kind::Guesses)?;
+    let mut guessed = proposed_over(alloc, state, text, Kind::Guesses)?;
     let mut more = proposed_over(alloc, state, guessed.as_str(), Kind::Steps)?;
     for _round in 0..MOST_GUESSES {
-        let new = NewLines::between(alloc, text.as_str(), more.as_str())?;
-        let Some(refused) = refused_of(alloc, state, more.as_str(), &new, effort)? else {
-            return Ok(text);
+        let guesses = refused_guesses(alloc, state, text, guessed.as_str(), more.as_str(), effort)?;
+        let Some(guesses) = guesses else {
+            return unchanged(alloc, text);
         };
-        let steps = NewLines::between(alloc, guessed.as_str(), more.as_str())?;
-        let guesses = own_lines(alloc, &steps, refused.as_slice())?;
         if guesses.is_empty() {
-            return tried(alloc, state, text.as_str(), more, effort);
+            break;
         }
         guessed = without(alloc, guessed.as_str(), guesses.as_slice())?;
         more = proposed_over(alloc, state, guessed.as_str(), Kind::Steps)?;
     }
-    tried(alloc, state, text.as_str(), more, effort)
+    tried(alloc, state, text, more, effort)
+}
+
+/// A text with guesses and `shows` lines put in that stand their trial, of a long text each kind by itself.
+fn with_steps(
+    alloc: Global,
+    state: RandomState,
+    text: &str,
+    effort: &Effort,
+) -> Result<String, Unanswered> {
+    if text.len() <= LONG {
+        return with_guesses(alloc, state, text, effort);
+    }
+    let guessed = with_kind(alloc, state, text, Kind::Guesses, effort)?;
+    with_kind(alloc, state, guessed.as_str(), Kind::Steps, effort)
 }
 
 /// The same of each kind: what is sure first, since there is room for few lines at a block; zones and costs follow from facts.
@@ -187,16 +234,10 @@ fn with_all(
     text: &str,
     effort: &Effort,
 ) -> Result<String, Unanswered> {
-    let text = String::from_str(alloc, text)?;
-    let text = with_kind(alloc, state, text, Kind::Facts, effort)?;
-    let text = if text.len() > LONG {
-        let text = with_kind(alloc, state, text, Kind::Guesses, effort)?;
-        with_kind(alloc, state, text, Kind::Steps, effort)?
-    } else {
-        with_guesses(alloc, state, text, effort)?
-    };
-    let text = with_kind(alloc, state, text, Kind::Zones, effort)?;
-    with_kind(alloc, state, text, Kind::Costs, effort)
+    let more = with_kind(alloc, state, text, Kind::Facts, effort)?;
+    let more = with_steps(alloc, state, more.as_str(), effort)?;
+    let more = with_kind(alloc, state, more.as_str(), Kind::Zones, effort)?;
+    with_kind(alloc, state, more.as_str(), Kind::Costs, effort)
 }
 
 /// A module's text with lines put in that follow from others, each of them tried; none is changed or taken away, and a last line without an end gets one. The
