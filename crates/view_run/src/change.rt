@@ -15,10 +15,16 @@ pub enum Thing {
 }
 
 /// A cell of it.
-#[derive(Drop)]
 pub struct CellPlace {
     pub thing: Thing,
     pub index: u64,
+}
+
+/// Written out, so that no crate above proves it anew.
+impl Drop for CellPlace {
+    fn drop(self) {
+        let CellPlace { thing: _, index: _ } = self;
+    }
 }
 
 /// What a register holds.
@@ -37,11 +43,20 @@ pub struct Setting {
 }
 
 /// The registers of one frame that an event set.
-#[derive(Drop)]
 pub struct Settings {
     /// The number of the frame's function.
     pub function: usize,
     pub list: Vec<Setting>,
+}
+
+/// Written out, so that no crate above proves it anew.
+impl Drop for Settings {
+    fn drop(self) {
+        let Settings {
+            function: _,
+            list: _,
+        } = self;
+    }
 }
 
 impl Settings {
@@ -65,11 +80,21 @@ pub enum Written {
 }
 
 /// What an event set.
-#[derive(Drop)]
 pub struct Change {
     /// In the frame that did the instruction.
     pub own: Settings,
     /// In the frame that it made, or returned to.
     pub other: Settings,
     pub written: Written,
+}
+
+/// Written out, so that no crate above proves it anew.
+impl Drop for Change {
+    fn drop(self) {
+        let Change {
+            own: _,
+            other: _,
+            written: _,
+        } = self;
+    }
 }

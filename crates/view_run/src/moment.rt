@@ -17,13 +17,23 @@ impl fmt::Display for TaskName<'_> {
 }
 
 /// Where a task stands between two events.
-#[derive(Drop)]
 pub struct Place {
     pub task: Path,
     /// The frame on top of it, which executes its next instruction.
     pub frame: Path,
     /// The line of its next instruction, or of the sync at which it waits; from 1.
     pub line: u32,
+}
+
+/// Written out, so that no crate above proves it anew.
+impl Drop for Place {
+    fn drop(self) {
+        let Place {
+            task: _,
+            frame: _,
+            line: _,
+        } = self;
+    }
 }
 
 /// Why an event was not enabled.
@@ -93,7 +103,6 @@ pub enum Act {
 }
 
 /// One event of a run.
-#[derive(Drop)]
 pub struct Moment {
     /// Where the event found the task that it is about: the worker's own, or the one to be taken. None where there is none.
     pub place: Option<Place>,
@@ -101,4 +110,16 @@ pub struct Moment {
     pub outcome: Outcome,
     /// What registers and cells it set, where that was asked for.
     pub change: Option<Change>,
+}
+
+/// Written out, so that no crate above proves it anew.
+impl Drop for Moment {
+    fn drop(self) {
+        let Moment {
+            place: _,
+            act: _,
+            outcome: _,
+            change: _,
+        } = self;
+    }
 }

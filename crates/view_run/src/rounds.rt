@@ -48,12 +48,22 @@ struct Marked {
 /// An event's round is one more than the latest of two: its worker's last event, and the event that made it possible. That is, at a steal, the
 /// detach that left the task ready; at a sync that goes on, the latest end of a child of the region; at a reattach that takes a stalled task
 /// on, the later of that and the sync at which it stalled. A worker's first event has round 1 where nothing else is waited for.
-#[derive(Drop)]
 pub struct Rounds {
     alloc: Global,
     /// By worker: the round of its last event; 0 before the first.
     last: Vec<u64>,
     marks: Vec<Marked>,
+}
+
+/// Written out, so that no crate above proves it anew.
+impl Drop for Rounds {
+    fn drop(self) {
+        let Rounds {
+            alloc: _,
+            last: _,
+            marks: _,
+        } = self;
+    }
 }
 
 /// The numbers of the frame that made this one; the root's own are the root's.

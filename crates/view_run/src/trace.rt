@@ -14,17 +14,13 @@ fn instruction_at<'a>(lines: &[&'a str], line: u32) -> &'a str {
 
 /// The event, with the task that it is about: a step itself names none.
 fn push_event(out: &mut TextBuffer, event: &Event, place: Option<&Place>) {
-    match (event, place) {
-        (Event::Step(worker), None) => write!(out, "step {worker}"),
-        (Event::Step(worker), Some(place)) => {
-            let task = TaskName(&place.task);
-            write!(out, "step {worker} {task}");
-        }
-        (Event::Steal(worker, task), _) => {
-            let task = TaskName(task);
-            write!(out, "steal {worker} {task}");
-        }
-    }
+    let (word, worker, task) = match (event, place) {
+        (Event::Step(worker), None) => return write!(out, "step {worker}"),
+        (Event::Step(worker), Some(place)) => ("step", worker, &place.task),
+        (Event::Steal(worker, task), _) => ("steal", worker, task),
+    };
+    let task = TaskName(task);
+    write!(out, "{word} {worker} {task}");
 }
 
 /// The line with the task's next instruction.
@@ -34,21 +30,17 @@ fn push_line(out: &mut TextBuffer, line: u32, lines: &[&str]) {
 }
 
 fn push_outcome(out: &mut TextBuffer, outcome: &Outcome) {
-    match outcome {
-        Outcome::GoesOn | Outcome::Calls(_) | Outcome::ReturnsTo(_) => {}
-        Outcome::Begins(child) => {
-            let child = TaskName(child);
-            write!(out, " -> begins {child}");
-        }
-        Outcome::TakesOn(task) => {
-            let task = TaskName(task);
-            write!(out, " -> goes on with {task}");
-        }
-        Outcome::Waits => out.push_str(" -> waits, and the worker is idle"),
-        Outcome::Ends => out.push_str(" -> ends, and the worker is idle"),
-        Outcome::Returns => out.push_str(" -> ends the run"),
-        Outcome::NotEnabled(hindrance) => write!(out, " -> not enabled: {hindrance}"),
-    }
+    let (word, task) = match outcome {
+        Outcome::GoesOn | Outcome::Calls(_) | Outcome::ReturnsTo(_) => return,
+        Outcome::Begins(child) => ("begins", child),
+        Outcome::TakesOn(task) => ("goes on with", task),
+        Outcome::Waits => return out.push_str(" -> waits, and the worker is idle"),
+        Outcome::Ends => return out.push_str(" -> ends, and the worker is idle"),
+        Outcome::Returns => return out.push_str(" -> ends the run"),
+        Outcome::NotEnabled(hindrance) => return write!(out, " -> not enabled: {hindrance}"),
+    };
+    let task = TaskName(task);
+    write!(out, " -> {word} {task}");
 }
 
 /// Writes the line of an event: its number, the event, the task that it found, the line of that task's next instruction and that

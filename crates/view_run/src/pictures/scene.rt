@@ -52,7 +52,6 @@ struct Living {
 }
 
 /// A whole run, which is told event by event. Workers and tasks are numbered from 0.
-#[derive(Drop)]
 pub struct Scene {
     alloc: Global,
     /// The names of the tasks by their numbers, in the order in which they begin.
@@ -74,6 +73,26 @@ pub struct Scene {
     living: Vec<Living>,
     /// Whether memory was refused for a part of the scene.
     is_refused: bool,
+}
+
+/// Written out, so that no crate above proves it anew.
+impl Drop for Scene {
+    fn drop(self) {
+        let Scene {
+            alloc: _,
+            tasks: _,
+            stays: _,
+            works: _,
+            thefts: _,
+            misses: _,
+            rounds: _,
+            end: _,
+            hands: _,
+            latest: _,
+            living: _,
+            is_refused: _,
+        } = self;
+    }
 }
 
 impl Scene {

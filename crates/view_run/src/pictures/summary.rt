@@ -2,7 +2,7 @@
 
 use crate::pictures::grid::{Grid, STAY};
 use crate::pictures::scene::{Scene, Theft, Work};
-use crate::pictures::svg::{Rectangle, push_rectangle};
+use crate::pictures::svg::{Line, Rectangle, push_rectangle};
 use lists::TextBuffer;
 use std::alloc::{AllocError, Global};
 
@@ -104,9 +104,8 @@ fn height_of(busy: u64, rounds: u64) -> u64 {
 /// The signs of a column that stands here.
 fn push_signs(out: &mut TextBuffer, grid: Grid, worker: usize, x: u64, column: &Column) {
     if column.is_critical {
-        let y = grid.chain_y(worker);
-        let end = x.saturating_add(COLUMN);
-        writeln!(out, "<path class=\"chain\" d=\"M{x},{y} L{end},{y}\"/>");
+        let line = Line::across(grid.chain_y(worker), x, x.saturating_add(COLUMN));
+        writeln!(out, "<path class=\"chain\" d=\"{line}\"/>");
     }
     if column.steals > 0 {
         let y = grid.y(worker).saturating_sub(STAY / 2 + 3);

@@ -14,11 +14,7 @@ fn push_head(out: &mut TextBuffer, grid: Grid) {
     let height = grid.bottom().saturating_add(LEGEND);
     writeln!(
         out,
-        "<svg xmlns=\"http://www.w3.org/2000/svg\" width=\"{width}\" height=\"{height}\" viewBox=\"0 0 {width} {height}\">\n{LOOKS}"
-    );
-    writeln!(
-        out,
-        "<rect width=\"{width}\" height=\"{height}\" class=\"back\"/>"
+        "<svg xmlns=\"http://www.w3.org/2000/svg\" width=\"{width}\" height=\"{height}\" viewBox=\"0 0 {width} {height}\">\n{LOOKS}\n<rect width=\"{width}\" height=\"{height}\" class=\"back\"/>"
     );
 }
 
@@ -29,9 +25,10 @@ fn push_axis(out: &mut TextBuffer, grid: Grid) {
     for number in 0..grid.numbers() {
         let round = number.saturating_add(1).saturating_mul(grid.stride());
         let x = grid.x(round);
+        let line = Line::down(x, 28, bottom);
         writeln!(
             out,
-            "<path d=\"M{x},28 L{x},{bottom}\" class=\"axis\"/><text x=\"{x}\" y=\"20\" text-anchor=\"middle\" class=\"number\">{round}</text>"
+            "<path d=\"{line}\" class=\"axis\"/><text x=\"{x}\" y=\"20\" text-anchor=\"middle\" class=\"number\">{round}</text>"
         );
     }
 }
@@ -41,10 +38,54 @@ fn push_workers(out: &mut TextBuffer, grid: Grid) {
     for worker in 0..grid.workers {
         let y = grid.y(worker);
         let base = y.saturating_add(4);
+        let line = Line::across(y, LEFT, right);
         writeln!(
             out,
-            "<path d=\"M{LEFT},{y} L{right},{y}\" class=\"lane\"/><text x=\"12\" y=\"{base}\">worker {worker}</text>"
+            "<path d=\"{line}\" class=\"lane\"/><text x=\"12\" y=\"{base}\">worker {worker}</text>"
         );
+    }
+}
+
+/// A straight line, which paths spell by its two points.
+#[derive(Clone, Copy)]
+pub struct Line {
+    left: u64,
+    top: u64,
+    right: u64,
+    bottom: u64,
+}
+
+impl Line {
+    /// A line at this height.
+    pub fn across(y: u64, left: u64, right: u64) -> Line {
+        Line {
+            left,
+            top: y,
+            right,
+            bottom: y,
+        }
+    }
+
+    /// A line at this distance from the left.
+    fn down(x: u64, top: u64, bottom: u64) -> Line {
+        Line {
+            left: x,
+            top,
+            right: x,
+            bottom,
+        }
+    }
+}
+
+impl fmt::Display for Line {
+    fn fmt<W: fmt::Write>(&self, f: &mut fmt::Formatter<W>) -> fmt::Result {
+        let Line {
+            left,
+            top,
+            right,
+            bottom,
+        } = *self;
+        write!(f, "M{left},{top} L{right},{bottom}")
     }
 }
 
@@ -148,11 +189,16 @@ fn push_link(out: &mut TextBuffer, grid: Grid, work: &Work) {
     let to = grid.x(stay.to);
     out.push_str("<path class=\"chain\" d=\"");
     if let Some(cause) = work.after {
-        let x = grid.x(cause.round);
-        let start = grid.chain_y(cause.worker);
-        write!(out, "M{x},{start} L{from},{y} ");
+        let way = Line {
+            left: grid.x(cause.round),
+            top: grid.chain_y(cause.worker),
+            right: from,
+            bottom: y,
+        };
+        write!(out, "{way} ");
     }
-    writeln!(out, "M{from},{y} L{to},{y}\"/>");
+    let line = Line::across(y, from, to);
+    writeln!(out, "{line}\"/>");
 }
 
 fn push_chain(out: &mut TextBuffer, grid: Grid, scene: &Scene) {
@@ -173,9 +219,10 @@ fn push_theft(out: &mut TextBuffer, grid: Grid, theft: &Theft) {
     } else {
         thief.saturating_add(STAY / 2)
     };
+    let line = Line::down(x, from, to);
     writeln!(
         out,
-        "<circle cx=\"{x}\" cy=\"{from}\" r=\"3\" class=\"dot\"/><path d=\"M{x},{from} L{x},{to}\" class=\"ink\" marker-end=\"url(#head)\"/>"
+        "<circle cx=\"{x}\" cy=\"{from}\" r=\"3\" class=\"dot\"/><path d=\"{line}\" class=\"ink\" marker-end=\"url(#head)\"/>"
     );
 }
 
@@ -193,14 +240,18 @@ fn push_misses(out: &mut TextBuffer, grid: Grid, scene: &Scene) {
         if miss.worker < grid.workers {
             let x = grid.middle(miss.round);
             let y = grid.y(miss.worker);
-            let left = x.saturating_sub(4);
-            let right = x.saturating_add(4);
-            let above = y.saturating_sub(4);
-            let below = y.saturating_add(4);
-            writeln!(
-                out,
-                "<path d=\"M{left},{above} L{right},{below} M{left},{below} L{right},{above}\" class=\"miss\"/>"
-            );
+            let falling = Line {
+                left: x.saturating_sub(4),
+                top: y.saturating_sub(4),
+                right: x.saturating_add(4),
+                bottom: y.saturating_add(4),
+            };
+            let rising = Line {
+                top: falling.bottom,
+                bottom: falling.top,
+                ..falling
+            };
+            writeln!(out, "<path d=\"{falling} {rising}\" class=\"miss\"/>");
         }
     }
 }
@@ -211,9 +262,10 @@ fn push_end(out: &mut TextBuffer, grid: Grid, scene: &Scene) {
         let x = grid.x(end);
         let bottom = grid.bottom();
         let base = bottom.saturating_add(14);
+        let line = Line::down(x, 28, bottom);
         writeln!(
             out,
-            "<path d=\"M{x},28 L{x},{bottom}\" class=\"ink\"/><text x=\"{x}\" y=\"{base}\" text-anchor=\"end\">the run ends</text>"
+            "<path d=\"{line}\" class=\"ink\"/><text x=\"{x}\" y=\"{base}\" text-anchor=\"end\">the run ends</text>"
         );
     }
 }

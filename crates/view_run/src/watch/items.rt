@@ -54,6 +54,11 @@ pub fn defined_by(instruction: &Instruction) -> Option<RegisterId> {
     }
 }
 
+/// What a register of a frame holds.
+fn word_of(frame: &Frame, register: RegisterId) -> Option<i64> {
+    frame.registers.as_slice().get(register.0).copied()
+}
+
 /// The address of the first cell of an object that a frame names.
 fn first_of(places: &Places, frame: &Frame, object: ObjectName) -> Option<i64> {
     match object {
@@ -63,14 +68,14 @@ fn first_of(places: &Places, frame: &Frame, object: ObjectName) -> Option<i64> {
             let start = starts.as_slice().get(alloca.0).copied()?;
             Some(frame.home.wrapping_add(start))
         }
-        ObjectName::Parameter(register) => frame.registers.as_slice().get(register.0).copied(),
+        ObjectName::Parameter(register) => word_of(frame, register),
     }
 }
 
 fn address_of(places: &Places, frame: &Frame, address: Address) -> Option<i64> {
     match address {
         Address::First(object) => first_of(places, frame, object),
-        Address::Element(register) => frame.registers.as_slice().get(register.0).copied(),
+        Address::Element(register) => word_of(frame, register),
     }
 }
 

@@ -114,10 +114,11 @@ impl Objects {
     pub fn cell_at(&self, address: i64) -> Result<Option<CellPlace>, OutOfMemory> {
         let Some(home) = self.home_at(address) else {
             let found = object_before(self.places.globals.as_slice(), address);
-            return Ok(found.map(|(number, index)| CellPlace {
-                thing: Thing::Global(number),
-                index,
-            }));
+            let Some((number, index)) = found else {
+                return Ok(None);
+            };
+            let thing = Thing::Global(number);
+            return Ok(Some(CellPlace { thing, index }));
         };
         let function = home.function;
         let Some(starts) = self.places.allocas.as_slice().get(function) else {

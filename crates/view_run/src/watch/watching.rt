@@ -248,9 +248,12 @@ impl<'v> Watch<'v> {
     fn other(
         &self,
         plan: &Plan,
-        now: TaskView<'_>,
+        now: Option<TaskView<'_>>,
         outcome: &Outcome,
     ) -> Result<Settings, OutOfMemory> {
+        let Some(now) = now else {
+            return Ok(Settings::none(self.alloc));
+        };
         match outcome {
             // A task that was stalled goes on behind its sync, any other one where the child was detached.
             Outcome::TakesOn(_) if plan.continuation == Some(now.top.place.block) => {
@@ -289,18 +292,14 @@ impl<'v> Watch<'v> {
         outcome: &Outcome,
     ) -> Result<Change, OutOfMemory> {
         let now = self.machine.task_of(worker);
-        let own = match outcome {
-            Outcome::GoesOn => self.own(plan, now)?,
-            Outcome::Begins(_) => self.own(plan, self.machine.task(&place.task))?,
-            _ => Settings::none(self.alloc),
-        };
-        let other = match now {
-            Some(now) => self.other(plan, now, outcome)?,
-            None => Settings::none(self.alloc),
+        let task = match outcome {
+            Outcome::GoesOn => now,
+            Outcome::Begins(_) => self.machine.task(&place.task),
+            _ => None,
         };
         Ok(Change {
-            own,
-            other,
+            own: self.own(plan, task)?,
+            other: self.other(plan, now, outcome)?,
             written: self.written(plan)?,
         })
     }
