@@ -13,7 +13,7 @@ pub enum Kind {
 }
 
 /// The bytes of a line from `from` to before `to`, counted from 0.
-#[derive(Clone, Copy, PartialEq, Eq)]
+#[derive(Clone, Copy)]
 pub struct Token {
     pub kind: Kind,
     pub from: usize,

@@ -8,7 +8,7 @@ use std::marker::Model;
 pub struct RegisterId(pub usize);
 
 /// A register times a number.
-#[derive(Clone, Copy, PartialEq, Eq)]
+#[derive(Clone, Copy)]
 pub struct Term {
     pub register: RegisterId,
     pub coefficient: i64,

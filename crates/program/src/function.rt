@@ -13,14 +13,14 @@ pub struct Global {
 }
 
 /// A parameter: an `i64`, or a whole object of at least so many cells.
-#[derive(Clone, Copy, PartialEq, Eq)]
+#[derive(Clone, Copy)]
 pub enum Parameter {
     Number,
     Pointer { cells: u64 },
 }
 
 /// What a register holds.
-#[derive(Clone, Copy, PartialEq, Eq)]
+#[derive(Clone, Copy)]
 pub enum RegisterKind {
     Number(Width),
     /// `i1`
@@ -34,7 +34,7 @@ pub enum RegisterKind {
 }
 
 /// An array of a frame; its cells begin undefined (LLVM Language Reference, "alloca").
-#[derive(Clone, Copy, PartialEq, Eq)]
+#[derive(Clone, Copy)]
 pub struct Alloca {
     pub line: u32,
     pub register: RegisterId,

@@ -11,21 +11,21 @@ pub enum Operand {
 }
 
 /// A cell: the first of an object, or the one that a `getelementptr` of the same block gave.
-#[derive(Clone, Copy, PartialEq, Eq)]
+#[derive(Clone, Copy)]
 pub enum Address {
     First(ObjectName),
     Element(RegisterId),
 }
 
 /// An argument of a call: a number or a whole object.
-#[derive(Clone, Copy, PartialEq, Eq)]
+#[derive(Clone, Copy)]
 pub enum Argument {
     Number(Operand),
     Object(ObjectName),
 }
 
 /// What a phi takes where the run comes from `predecessor`.
-#[derive(Clone, Copy, PartialEq, Eq)]
+#[derive(Clone, Copy)]
 pub struct PhiEntry {
     pub value: Operand,
     pub predecessor: BlockId,
@@ -110,7 +110,7 @@ pub struct Step {
 }
 
 /// A case of a switch.
-#[derive(Clone, Copy, PartialEq, Eq)]
+#[derive(Clone, Copy)]
 pub struct Case {
     pub number: i64,
     pub target: BlockId,

@@ -12,7 +12,7 @@ pub enum Parent {
 }
 
 /// What the worker of a child does after its reattach.
-#[derive(Clone, Copy, PartialEq, Eq)]
+#[derive(Clone, Copy)]
 pub enum Outcome {
     /// It goes on with the parent, which no thief took.
     ResumeReady,
@@ -23,7 +23,7 @@ pub enum Outcome {
 }
 
 /// What a sync does.
-#[derive(Clone, Copy, PartialEq, Eq)]
+#[derive(Clone, Copy)]
 pub enum Passage {
     Pass,
     Stall,

@@ -17,7 +17,7 @@ pub struct Form {
 }
 
 /// `<=` or `>=`
-#[derive(Clone, Copy, PartialEq, Eq)]
+#[derive(Clone, Copy)]
 pub enum Relation {
     AtMost,
     AtLeast,

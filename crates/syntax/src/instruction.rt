@@ -27,7 +27,7 @@ pub enum Argument {
 }
 
 /// How an `alloca` spells its size: `i64` or `[N x i64]`.
-#[derive(Clone, Copy, PartialEq, Eq)]
+#[derive(Clone, Copy)]
 pub enum AllocaSize {
     One,
     Array(u64),

@@ -12,7 +12,7 @@ pub struct Global {
 }
 
 /// `i64` or `void`
-#[derive(Clone, Copy, PartialEq, Eq)]
+#[derive(Clone, Copy)]
 pub enum ResultType {
     Number,
     Void,

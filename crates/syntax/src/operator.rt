@@ -43,7 +43,7 @@ pub enum BinaryOperator {
 }
 
 /// How `icmp` compares (LLVM Language Reference, "icmp").
-#[derive(Clone, Copy, PartialEq, Eq)]
+#[derive(Clone, Copy)]
 pub enum Predicate {
     /// `eq`
     Equal,
@@ -68,7 +68,7 @@ pub enum Predicate {
 }
 
 /// A conversion between the two widths (LLVM Language Reference, "Conversion Operations").
-#[derive(Clone, Copy, PartialEq, Eq)]
+#[derive(Clone, Copy)]
 pub enum Conversion {
     /// `trunc i64 V to i32`
     Truncate,

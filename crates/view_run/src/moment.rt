@@ -94,7 +94,7 @@ pub enum Outcome {
 }
 
 /// What an event did to tasks, where it is more than an instruction of one frame. Regions are the numbers of the registers that name them.
-#[derive(Clone, Copy, PartialEq, Eq)]
+#[derive(Clone, Copy)]
 pub enum Act {
     Plain,
     Detach,
