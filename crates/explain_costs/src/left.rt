@@ -171,17 +171,30 @@ impl Bare<'_, '_> {
         Ok(form)
     }
 
+    /// What is to be left at the block's start for what it does and for what comes next.
+    fn needed_at_start(
+        &self,
+        alloc: Global,
+        counted: Counted,
+        need: Need<'_>,
+    ) -> Result<Option<Form>, OutOfMemory> {
+        match self.needed(alloc, counted, need)? {
+            Some(form) => Ok(Some(self.at_start(alloc, form)?)),
+            None => Ok(None),
+        }
+    }
+
     /// What is to be left at the block's start for one of the ways behind it.
     fn wanted(&self, alloc: Global, need: Need<'_>) -> Result<Option<Wanted>, OutOfMemory> {
-        let self_calls = self.needed(alloc, Counted::SelfCalls, need)?;
-        let instructions = self.needed(alloc, Counted::Instructions, need)?;
-        let (Some(self_calls), Some(instructions)) = (self_calls, instructions) else {
-            return Ok(None);
-        };
-        Ok(Some(Wanted {
-            self_calls: self.at_start(alloc, self_calls)?,
-            instructions: self.at_start(alloc, instructions)?,
-        }))
+        let self_calls = self.needed_at_start(alloc, Counted::SelfCalls, need)?;
+        let instructions = self.needed_at_start(alloc, Counted::Instructions, need)?;
+        Ok(match (self_calls, instructions) {
+            (Some(self_calls), Some(instructions)) => Some(Wanted {
+                self_calls,
+                instructions,
+            }),
+            _ => None,
+        })
     }
 
     /// Whether one form is known to be at least another.
@@ -248,6 +261,19 @@ impl Bare<'_, '_> {
         Ok(())
     }
 
+    /// A `left` line that is enough for all ways behind the block, where one of them wants as much as each.
+    fn push_enough(
+        &self,
+        alloc: Global,
+        needs: &[Need<'_>],
+        out: &mut TextBuffer,
+    ) -> Result<(), Unanswered> {
+        match self.most_wanted(alloc, needs)? {
+            Some(wanted) => self.push_line(alloc, &wanted, out),
+            None => Ok(()),
+        }
+    }
+
     /// What the block does, for which nothing is left.
     fn push_head(&self, out: &mut TextBuffer) {
         let label = self.scene().label(self.trying.known.block);
@@ -312,12 +338,12 @@ pub fn missing_left(
     };
     let mut out = TextBuffer::new(alloc);
     bare.push_head(&mut out);
-    if !bare.push_needs(needs, &mut out) {
+    if bare.push_needs(needs, &mut out) {
+        bare.push_enough(alloc, needs, &mut out)?;
+    } else {
         out.push_str(
             "    begin with the last blocks; in a loop `tapirvm annotate` finds the lines where the counter has bounds\n",
         );
-    } else if let Some(wanted) = bare.most_wanted(alloc, needs)? {
-        bare.push_line(alloc, &wanted, &mut out)?;
     }
     Ok(out.finish()?)
 }
