@@ -119,19 +119,6 @@ fn array_cause(function: &[Row<'_>], row: &Row<'_>) -> Result<&'static str, Allo
     })
 }
 
-/// What breaks 204 of a line that neither calls nor stores an array, by its first word and its third.
-fn element_cause(first: &str, third: &str) -> Option<&'static str> {
-    match (first, third) {
-        (";!", _) => Some("a zone names an element, and not its object"),
-        ("store" | "atomicrmw", _) | (_, "load") => {
-            Some("an element of another block; take it again in this one")
-        }
-        (_, "alloca") => Some("an `alloca` outside the entry block"),
-        (_, "getelementptr") => Some("an element of an element; take it of the object"),
-        _ => None,
-    }
-}
-
 /// What of a line breaks 204.
 fn pointer_cause(
     rows: &[Row<'_>],
@@ -139,9 +126,15 @@ fn pointer_cause(
     row: &Row<'_>,
 ) -> Result<Option<&'static str>, AllocError> {
     Ok(match (row.word(0), row.word(1), row.word(2)) {
+        (";!", _, _) => Some("a zone names an element, and not its object"),
         ("call", _, _) | (_, _, "call") => Some(call_cause(rows, function, row)?),
         ("store", "[", _) => Some(array_cause(function, row)?),
-        (first, _, third) => element_cause(first, third),
+        ("store" | "atomicrmw", _, _) | (_, _, "load") => {
+            Some("an element of another block; take it again in this one")
+        }
+        (_, _, "alloca") => Some("an `alloca` outside the entry block"),
+        (_, _, "getelementptr") => Some("an element of an element; take it of the object"),
+        _ => None,
     })
 }
 
