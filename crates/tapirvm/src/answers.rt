@@ -2,11 +2,10 @@
 
 use crate::debugging::debug;
 use cli_answers::{
-    Beside, Question, Status, Verb, answer_unjudged, note_unverified, print_known,
+    Beside, Question, Status, Verb, Verdict, answer_unjudged, note_unverified, print_known,
     print_unreadable, print_unverified, print_verified, verdict_on,
 };
 use cli_runs::{Job, run_drawn, run_serial, tell_replay};
-use debugger::{Unverified, Verified};
 use std::io;
 use std::io::{Read, Write};
 
@@ -27,39 +26,6 @@ pub fn answer_verified<R: Read, W: Write>(
     }
 }
 
-/// A question about a module that the verifier took, by this text.
-pub fn job_of<'a>(question: &Question<'a>, text: &'a [u8], verified: &'a Verified) -> Job<'a> {
-    Job {
-        alloc: question.alloc,
-        state: question.state,
-        request: question.request,
-        text,
-        verified,
-        schedule: question.schedule,
-    }
-}
-
-/// Says why a module is not verified; to `verify` also on which line of the file that is.
-fn answer_unverified<W: Write>(
-    question: &Question<'_>,
-    text: &[u8],
-    unverified: &Unverified,
-    output: &mut W,
-    beside: &mut Beside,
-) -> io::Result<Status> {
-    let request = question.request;
-    if request.verb == Verb::Verify {
-        note_unverified(
-            question.alloc,
-            request.file.as_str(),
-            text,
-            unverified,
-            beside,
-        )?;
-    }
-    print_unverified(unverified, output, beside)
-}
-
 /// Answers a question by the status. What is told beside the output is added to `beside`.
 pub fn answer<R: Read, W: Write>(
     question: &Question<'_>,
@@ -74,17 +40,33 @@ pub fn answer<R: Read, W: Write>(
         alloc,
         state,
         request,
-        ..
+        module,
+        schedule,
     } = *question;
-    let Some(text) = question.module else {
+    let Some(text) = module else {
         return print_unreadable(alloc, request.file.as_str(), output);
     };
-    let verdict = verdict_on(alloc, state, request, text, beside)?;
-    match &verdict.answer {
+    let Verdict {
+        text: judged,
+        answer,
+    } = verdict_on(alloc, state, request, text, beside)?;
+    match answer {
         Ok(verified) => {
-            let job = job_of(question, verdict.text.as_slice(), verified);
+            let job = Job {
+                alloc,
+                state,
+                request,
+                text: judged.as_slice(),
+                verified: &verified,
+                schedule,
+            };
             answer_verified(&job, input, output, beside)
         }
-        Err(unverified) => answer_unverified(question, text, unverified, output, beside),
+        Err(unverified) => {
+            if request.verb == Verb::Verify {
+                note_unverified(alloc, request.file.as_str(), text, &unverified, beside)?;
+            }
+            print_unverified(&unverified, output, beside)
+        }
     }
 }

@@ -1,11 +1,12 @@
 //! Runs on threads, and all other answers.
 
-use crate::answers::{answer, answer_verified, job_of};
+use crate::answers::{answer, answer_verified};
 use crate::clocks::microseconds_since;
 use crate::recorded::run_told;
 use crate::speedup::run_speedup;
 use cli_answers::{
-    Beside, Question, Request, Status, Verb, fail, print_unreadable, print_unverified, verdict_on,
+    Beside, Question, Request, Status, Verb, Verdict, fail, print_unreadable, print_unverified,
+    verdict_on,
 };
 use cli_runs::{Job, is_told, prepared, print_run, print_unprepared};
 use deque_pool::OpenGate;
@@ -91,20 +92,31 @@ fn verify_and_run<T: Threads + Wait + Clock + Sync, R: Read, W: Write>(
         alloc,
         state,
         request,
-        ..
+        module,
+        schedule,
     } = *question;
-    let Some(text) = question.module else {
+    let Some(text) = module else {
         return print_unreadable(alloc, request.file.as_str(), output);
     };
     let begun = Instant::now(rt)?;
-    let verdict = verdict_on(alloc, state, request, text, beside)?;
+    let Verdict {
+        text: judged,
+        answer,
+    } = verdict_on(alloc, state, request, text, beside)?;
     beside.times.verifying = microseconds_since(rt, begun)?;
-    match &verdict.answer {
+    match answer {
         Ok(verified) => {
-            let job = job_of(question, verdict.text.as_slice(), verified);
+            let job = Job {
+                alloc,
+                state,
+                request,
+                text: judged.as_slice(),
+                verified: &verified,
+                schedule,
+            };
             run_timed(rt, &job, input, output, beside)
         }
-        Err(unverified) => print_unverified(unverified, output, beside),
+        Err(unverified) => print_unverified(&unverified, output, beside),
     }
 }
 

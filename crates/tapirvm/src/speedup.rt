@@ -1,11 +1,8 @@
 //! How long runs on threads take by the number of their workers.
 
-ghost use Rattle.debugger.specs.store.Made.{IsMadeFor};
-
 use crate::clocks::microseconds_since;
 use cli_answers::{Beside, Status};
 use cli_runs::{Finished, Job, prepared, print_run, print_unprepared};
-use debugger::{Memory, RunFault};
 use deque_pool::OpenGate;
 use lists::TextBuffer;
 use std::io;
@@ -16,30 +13,6 @@ use std::time::{Clock, Instant};
 
 /// How often a run is timed.
 const TIMES: u32 = 5;
-
-/// What a run on so many workers comes to, and the time that it took, in microseconds.
-fn run_timed<T: Threads + Wait + Clock + Sync>(
-    rt: &T,
-    job: &Job<'_>,
-    memory: Memory,
-    workers: usize,
-) -> io::Result<(Result<Finished, RunFault>, u64)>
-    requires { IsMadeFor job.now.verified.now memory }
-{
-    let args = job.request.args.as_slice();
-    let begun = Instant::now(rt)?;
-    let run = deque_pool::run(
-        rt,
-        job.alloc,
-        job.verified,
-        args,
-        memory,
-        workers,
-        &OpenGate,
-    );
-    let took = microseconds_since(rt, begun)?;
-    Ok((run, took))
-}
 
 /// What runs on so many workers come to, and the least time that one took, in microseconds; else the status, with what is said.
 fn run_least<T: Threads + Wait + Clock + Sync, W: Write>(
@@ -56,8 +29,18 @@ fn run_least<T: Threads + Wait + Clock + Sync, W: Write>(
             Ok(memory) => memory,
             Err(status) => return Ok(Err(print_unprepared(status, output)?)),
         };
-        let (run, took) = run_timed(rt, job, memory, workers)?;
-        least = least.min(took);
+        let args = job.request.args.as_slice();
+        let begun = Instant::now(rt)?;
+        let run = deque_pool::run(
+            rt,
+            job.alloc,
+            job.verified,
+            args,
+            memory,
+            workers,
+            &OpenGate,
+        );
+        least = least.min(microseconds_since(rt, begun)?);
         match run {
             Ok(finished) => answer = Some(finished),
             Err(fault) => return Ok(Err(job.print_run_fault(&fault, output, beside)?)),
