@@ -99,7 +99,7 @@ fn unchanged(alloc: Global, text: &str) -> Result<String, Unanswered> {
     Ok(String::from_str(alloc, text)?)
 }
 
-/// The same of a text with more lines than another one, where it has any.
+/// The lines that `more` has and `text` has not, as far as they do not stay; none is refused where it has no more. None as for [`refused_of`].
 fn refused_beside(
     alloc: Global,
     state: RandomState,
@@ -227,7 +227,8 @@ fn with_steps(
     with_kind(alloc, state, guessed.as_str(), Kind::Steps, effort)
 }
 
-/// The same of each kind: what is sure first, since there is room for few lines at a block; zones and costs follow from facts.
+/// A text with lines of each kind put in that stand their trial: what is sure first, since there is room for few lines at a block; zones and costs follow
+/// from facts.
 fn with_all(
     alloc: Global,
     state: RandomState,

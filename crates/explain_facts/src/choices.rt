@@ -208,7 +208,7 @@ fn is_of_last(findings: &[Finding], unmet: &Unmet) -> bool {
     }
 }
 
-/// A fault with what there is to say of it, as far as that is not said where there is more of the same line.
+/// A fault with what there is to say of it; `is_more` where the last finding is of the same line and rule.
 fn finding_of(
     alloc: Global,
     source: Source<'_>,
