@@ -21,8 +21,7 @@ pub use cli_words::{
     bytes_of, fail, print_unreadable, read_data, read_file, read_text, text_of, words, write_bytes,
     write_file,
 };
-pub use faults::note_unverified;
-pub use refusals::print_unverified;
+pub use refusals::answer_unverified;
 pub use requests::{answer_unjudged, effort_of};
 pub use shown::print_known;
 pub use verdict::{Verdict, verdict_on};

@@ -31,6 +31,7 @@ use Rattle.ranges.specs.cfg.declared.structure.Way.TheVariants.{Branch, Detached
 use Rattle.ranges.specs.declared.table.EdgeFacts.{EdgeFacts}
 use Rattle.ranges.specs.ranges_owed.Inequalities.{argument_moves}
 use Rattle.footprints.specs.declared.access.Cell.{Cell}
+use Rattle.footprints.specs.Pointers.{defined_pointer, with_pointer, pointed_by}
 use Rattle.footprints_feet.specs.footprints_zones.declared.place.Use.{Use}
 use Rattle.footprints_feet.specs.footprints_zones.Zones.{Span, span, as_written, covers, is_empty}
 pub use Rattle.footprints_feet.specs.footprints_zones.Places.{Place, place_of, is_own}
@@ -39,18 +40,9 @@ pub use Rattle.footprints_feet.specs.Feet.{no_use, foot_use}
 
 -- ---- the cell of an address
 
+-- what an instruction's pointer points to, if its register is this one
 abbrev pub pointer_of : RegisterId → Instruction → Option Cell
-pointer_of r (instruction.Binary d operator width x y) = None
-pointer_of r (instruction.Compare d predicate width x y) = None
-pointer_of r (instruction.Convert d conversion x) = None
-pointer_of r (instruction.Alloca d alloca) = None
-pointer_of r (instruction.ElementPointer d object index) = if d.0 == r.0 then Some (record { object = object; index = index }) else None
-pointer_of r (instruction.Load d address) = None
-pointer_of r (instruction.Store x address) = None
-pointer_of r (instruction.StoreZeros cells object) = None
-pointer_of r (instruction.AtomicAdd address x) = None
-pointer_of r (instruction.Call d callee arguments) = None
-pointer_of r (instruction.StartRegion d) = None
+pointer_of r i = pointed_by r (with_pointer (defined_pointer i) [])
 
 -- what the first `getelementptr` among the steps that defines the register points to
 abbrev pub pointed : RegisterId → List Step → Option Cell

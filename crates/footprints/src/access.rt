@@ -22,49 +22,6 @@ pub struct Pointer {
     pub cell: Cell,
 }
 
-fn pointer_of(register: RegisterId, instruction: &Instruction) -> Option<Cell>
-    ensures { result ≡ pointer_of register instruction.now }
-{
-    match instruction {
-        Instruction::ElementPointer {
-            register: defined,
-            object,
-            index,
-        } => {
-            if defined.0 == register.0 {
-                Some(Cell {
-                    object: *object,
-                    index: *index,
-                })
-            } else {
-                None
-            }
-        }
-        Instruction::Binary { .. }
-        | Instruction::Compare { .. }
-        | Instruction::Convert { .. }
-        | Instruction::Alloca { .. }
-        | Instruction::Load { .. }
-        | Instruction::Store { .. }
-        | Instruction::StoreZeros { .. }
-        | Instruction::AtomicAdd { .. }
-        | Instruction::Call { .. }
-        | Instruction::StartRegion { .. } => None,
-    }
-}
-
-/// What the first `getelementptr` among the steps that defines the register points to.
-fn pointed(register: RegisterId, steps: &[Step]) -> Option<Cell>
-    ensures { result ≡ pointed register steps.now }
-{
-    for step in steps {
-        if let Some(cell) = pointer_of(register, &step.instruction) {
-            return Some(cell);
-        }
-    }
-    None
-}
-
 /// The pointer that an instruction defines.
 fn defined_pointer(instruction: &Instruction) -> Option<Pointer>
     ensures { result ≡ defined_pointer instruction.now }
@@ -92,6 +49,28 @@ fn defined_pointer(instruction: &Instruction) -> Option<Pointer>
         | Instruction::Call { .. }
         | Instruction::StartRegion { .. } => None,
     }
+}
+
+/// What an instruction's pointer points to, if its register is this one.
+fn pointer_of(register: RegisterId, instruction: &Instruction) -> Option<Cell>
+    ensures { result ≡ pointer_of register instruction.now }
+{
+    match defined_pointer(instruction) {
+        Some(pointer) if pointer.register.0 == register.0 => Some(pointer.cell),
+        _ => None,
+    }
+}
+
+/// What the first `getelementptr` among the steps that defines the register points to.
+fn pointed(register: RegisterId, steps: &[Step]) -> Option<Cell>
+    ensures { result ≡ pointed register steps.now }
+{
+    for step in steps {
+        if let Some(cell) = pointer_of(register, &step.instruction) {
+            return Some(cell);
+        }
+    }
+    None
 }
 
 /// The pointers that the steps of a block define, in their order: few among very many steps.

@@ -1,7 +1,8 @@
-ghost use Rattle.std.specs.Prelude.{◌≡◌, ◌≢◌, None, Some};
+ghost use Rattle.std.specs.Prelude.{◌≡◌, ◌≢◌, ◌↔◌, IsTrue, None, Some};
 ghost use Rattle.semantics.specs.Frames.{block_at, item_at};
 ghost use Rattle.program.specs.declared.function.Block.{Block};
 ghost use Rattle.frame_engine.specs.Activation.{FrameFits};
+ghost use Rattle.frame_engine.specs.Border.{IsBorderItem};
 ghost use Rattle.frame_engine.specs.Items.{item_of};
 
 use crate::activation::Frame;
@@ -31,6 +32,27 @@ impl Frame {
         match &block.ending {
             Some(ending) => Item::Ends(&ending.terminator),
             None => unreachable!(),
+        }
+    }
+
+    /// Whether what the frame does next is no plain step.
+    pub fn is_at_border(&self, program: &Program) -> bool
+        requires stands { FrameFits program.now self.now }
+        requires ends { (b : Block) → block_at program.now self.now.function.0 self.now.place.block.0 ≡ Some b → b.ending ≢ None }
+        ensures { IsTrue result ↔ IsBorderItem (item_at program.now self.now.function.0 self.now.place.block.0 self.now.place.index) }
+    {
+        match self.item(program) {
+            Item::Does(instruction) => matches!(
+                instruction,
+                Instruction::Call { .. } | Instruction::StoreZeros { .. }
+            ),
+            Item::Ends(terminator) => matches!(
+                terminator,
+                Terminator::Return { .. }
+                    | Terminator::Detach { .. }
+                    | Terminator::Reattach { .. }
+                    | Terminator::Sync { .. }
+            ),
         }
     }
 }

@@ -1,12 +1,12 @@
-//! Runs on threads, and all other answers.
+//! From a question to its answer.
 
-use crate::answers::{answer, answer_verified};
+use crate::answers::answer_verified;
 use crate::clocks::microseconds_since;
 use crate::recorded::run_told;
 use crate::speedup::run_speedup;
 use cli_answers::{
-    Beside, Question, Request, Status, Verb, Verdict, fail, print_unreadable, print_unverified,
-    verdict_on,
+    Beside, Question, Request, Status, Verb, answer_unjudged, answer_unverified, fail,
+    print_unreadable, verdict_on,
 };
 use cli_runs::{Job, is_told, prepared, print_run, print_unprepared};
 use deque_pool::OpenGate;
@@ -18,7 +18,7 @@ use std::time::{Clock, Instant};
 
 /// Whether a request is for a run on workers: one that no seed draws.
 fn is_on_workers(request: &Request) -> bool {
-    request.rule.is_none() && request.verb == Verb::Run && request.telling.seed.is_none()
+    request.verb == Verb::Run && request.telling.seed.is_none()
 }
 
 /// Runs the module on workers, each on a thread of its own.
@@ -80,14 +80,17 @@ fn run_timed<T: Threads + Wait + Clock + Sync, R: Read, W: Write>(
     Ok(status)
 }
 
-/// Verifies the module, and runs it.
-fn verify_and_run<T: Threads + Wait + Clock + Sync, R: Read, W: Write>(
+/// Answers a question by the status, and notes what verifying and running took.
+fn answer<T: Threads + Wait + Clock + Sync, R: Read, W: Write>(
     rt: &T,
     question: &Question<'_>,
     input: &mut R,
     output: &mut W,
     beside: &mut Beside,
 ) -> io::Result<Status> {
+    if let Some(status) = answer_unjudged(question, output, beside)? {
+        return Ok(status);
+    }
     let Question {
         alloc,
         state,
@@ -99,24 +102,21 @@ fn verify_and_run<T: Threads + Wait + Clock + Sync, R: Read, W: Write>(
         return print_unreadable(alloc, request.file.as_str(), output);
     };
     let begun = Instant::now(rt)?;
-    let Verdict {
-        text: judged,
-        answer,
-    } = verdict_on(alloc, state, request, text, beside)?;
+    let verdict = verdict_on(alloc, state, request, text, beside)?;
     beside.times.verifying = microseconds_since(rt, begun)?;
-    match answer {
+    match &verdict.answer {
         Ok(verified) => {
             let job = Job {
                 alloc,
                 state,
                 request,
-                text: judged.as_slice(),
-                verified: &verified,
+                text: verdict.text.as_slice(),
+                verified,
                 schedule,
             };
             run_timed(rt, &job, input, output, beside)
         }
-        Err(unverified) => print_unverified(&unverified, output, beside),
+        Err(unverified) => answer_unverified(question, unverified, output, beside),
     }
 }
 
@@ -128,12 +128,7 @@ pub fn act<T: Threads + Wait + Clock + Sync, R: Read, W: Write>(
     output: &mut W,
     beside: &mut Beside,
 ) -> u8 {
-    let answered = if is_on_workers(question.request) || question.request.is_timed {
-        verify_and_run(rt, question, input, output, beside)
-    } else {
-        answer(question, input, output, beside)
-    };
-    match answered {
+    match answer(rt, question, input, output, beside) {
         Ok(status) => status as u8,
         Err(error) => fail(question.alloc, &error, output, beside) as u8,
     }
