@@ -28,26 +28,28 @@ pub enum Unfinished {
     OutOfFuel { memory: Memory },
 }
 
-/// The run of arguments that the program takes, over a row of the globals' numbers; none where it does more instructions than the fuel allows.
+/// The run of arguments that the program takes, over a row of the globals' numbers. It takes the memory, and puts the numbers back that it ends with. None,
+/// and the memory is as it was, where it does more instructions than the fuel allows.
 fn run_in_places(
     alloc: Global,
     program: &Program,
     places: &Places,
     arguments: &[i64],
-    memory: &Memory,
+    memory: &mut Memory,
     budget: u64,
     fuel: u64,
 ) -> Result<Option<Finished>, OutOfMemory>
     requires accepted { IsAccepted program.now }
-    requires globals { places.now.globals ≡ starts_from 0 (sizes_of memory.now) }
+    requires globals { places.now.globals ≡ starts_from 0 (sizes_of memory.old) }
     requires codes { places.now.codes ≡ program_codes program.now }
     requires allocas { places.now.allocas ≡ map (λ (f : Function). alloca_starts f.allocas) program.now.functions }
     requires taken { unmet_in program.now arguments.now ≡ None }
-    requires cells { HasGlobalCells program.now memory.now }
+    requires cells { HasGlobalCells program.now memory.old }
     requires budget { budget ≡ budget_of program.now }
-    ensures ends { IfOk result (λ end. IfSome end (EndsWithinBudget program.now arguments.now memory.now)) }
+    ensures ends { IfOk result (λ end. IfSome end (EndsWithinBudget program.now arguments.now memory.old)) }
     ensures within { IfOk result (λ end. IfSome end (λ done. done.instructions ≤ fuel)) }
-    ensures beyond { IfOk result (λ end. IfNone end (TakesMore program.now arguments.now memory.now fuel)) }
+    ensures beyond { IfOk result (λ end. IfNone end (TakesMore program.now arguments.now memory.old fuel)) }
+    ensures kept { IfOk result (λ end. IfNone end (memory.new ≡ memory.old)) }
 {
     let row = memory.row()?;
     let mut stack = Stack::begin(alloc, program, arguments, row, most_moves(program))?;
@@ -55,10 +57,10 @@ fn run_in_places(
     let Some(ended) = ended else {
         return Ok(None);
     };
-    let globals = memory.with_row(stack.cells.cells.as_slice())?;
+    memory.set_row(stack.cells.cells.as_slice());
     Ok(Some(Finished {
         result: ended.result,
-        memory: globals,
+        memory: memory.take(),
         instructions: ended.instructions,
         peak: ended.peak,
     }))
@@ -70,18 +72,19 @@ fn run_by(
     program: &Program,
     code: &Decoded,
     arguments: &[i64],
-    memory: &Memory,
+    memory: &mut Memory,
     budget: u64,
     fuel: u64,
 ) -> Result<Option<Finished>, OutOfMemory>
     requires accepted { IsAccepted program.now }
     requires code { IsCodeOf program.now code.now }
     requires taken { unmet_in program.now arguments.now ≡ None }
-    requires cells { HasGlobalCells program.now memory.now }
+    requires cells { HasGlobalCells program.now memory.old }
     requires budget { budget ≡ budget_of program.now }
-    ensures ends { IfOk result (λ end. IfSome end (EndsWithinBudget program.now arguments.now memory.now)) }
+    ensures ends { IfOk result (λ end. IfSome end (EndsWithinBudget program.now arguments.now memory.old)) }
     ensures within { IfOk result (λ end. IfSome end (λ done. done.instructions ≤ fuel)) }
-    ensures beyond { IfOk result (λ end. IfNone end (TakesMore program.now arguments.now memory.now fuel)) }
+    ensures beyond { IfOk result (λ end. IfNone end (TakesMore program.now arguments.now memory.old fuel)) }
+    ensures kept { IfOk result (λ end. IfNone end (memory.new ≡ memory.old)) }
 {
     let sizes = memory.sizes()?;
     let globals = starts(alloc, sizes.as_slice())?;
@@ -127,7 +130,8 @@ pub fn serial_run_within_by(
         }));
     }
     let budget = verified.budget();
-    match run_by(alloc, program, code, arguments, &memory, budget, fuel) {
+    let mut memory = memory;
+    match run_by(alloc, program, code, arguments, &mut memory, budget, fuel) {
         Ok(Some(finished)) => Ok(finished),
         Ok(None) => Err(Unfinished::OutOfFuel { memory }),
         Err(OutOfMemory) => Err(Unfinished::Fault(RunFault::OutOfMemory)),

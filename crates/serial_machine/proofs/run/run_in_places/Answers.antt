@@ -59,11 +59,11 @@ returns-clause-ends c =
     let small : length (row_of m) < 9223372036854775808 = subst (λ (xs : List ℤ). length xs < 9223372036854775808) c.in_ok-row.ensures (vec_small c.in_ok-row.row) in
     let ran : RunsTo program places c.args.budget k new e = subst (λ (o : Option Ended). IfSome o (λ x. RunsTo program places c.args.budget k new x)) c.in-Some.is c.in_ok-ended.ensures.ends in
     let runs : RunsTo program places _ k new e = subst (λ (b : ℕ). RunsTo program places b k new e) c.requires.budget ran in
-    let kept : c.in_ok-globals.globals ≡ refilled m new.cells.cells.items = c.in_ok-globals.ensures ∙ ap (λ (xs : List ℤ). refilled m xs) c.as_slice.ensures.value in
+    let kept : c.take.result ≡ refilled m new.cells.cells.items = c.take.ensures.all ∙ c.set_row.ensures ∙ ap (λ (xs : List ℤ). refilled m xs) c.as_slice.ensures.value in
     let fit : FitsSigned w64 e.result = search rules in
     let number : to_z w64 (of_z w64 e.result) ≡ e.result = to_z-of_z w64 e.result fit in
     let same : ◌≡◌ {A = Finished} (record { result = e.result; memory = refilled m new.cells.cells.items; instructions = e.instructions; peak = e.peak })
-    (record { result = to_z w64 (of_z w64 e.result); memory = c.in_ok-globals.globals; instructions = e.instructions; peak = e.peak }) =
+    (record { result = to_z w64 (of_z w64 e.result); memory = c.take.result; instructions = e.instructions; peak = e.peak }) =
     λ i. record { result = sym number i; memory = sym kept i; instructions = e.instructions; peak = e.peak } in
     subst (λ (d : Finished). EndsWithinBudget program c.args.arguments.now m d) same
     (ends program c.requires.accepted c.args.arguments.now m c.requires.taken c.requires.cells places c.requires.globals c.requires.allocas c.requires.codes k begun small new e runs)
