@@ -7,7 +7,7 @@ import sys
 from dataclasses import dataclass
 
 sys.path.insert(0, str(pathlib.Path(__file__).resolve().parent.parent / "check"))
-from common import EXAMPLES, KERNELS
+from common import KERNELS
 
 
 @dataclass
@@ -425,9 +425,3 @@ entry:
   ret i64 %x
 }}
 """
-
-
-def fib(most):
-    """fib up to so much: a call's cost at most doubles with each step."""
-    text = (EXAMPLES / "fib.ll").read_text().replace("31457267", str(15 * (2 ** (most + 1) - 1) + 2))
-    return re.sub(r"(?<![\w.])20\b", str(most), text)

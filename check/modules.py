@@ -1,7 +1,15 @@
-"""Modules at the limits of the language, and the time that the program takes to judge one."""
-import itertools, os, subprocess, tempfile, time
+"""Modules at the limits of the language and of any size, and the time that the program takes to judge one."""
+import itertools, os, re, subprocess, tempfile, time
+from common import EXAMPLES
 
 LIMIT = 1048576
+
+
+def fib(most):
+    """examples/fib.ll up to so much: a call's cost at most doubles with each step."""
+    text = (EXAMPLES / "fib.ll").read_text().replace("31457267", str(15 * (2 ** (most + 1) - 1) + 2))
+    return re.sub(r"(?<![\w.])20\b", str(most), text)
+
 
 # A loop of so many rounds as @main's argument says, of four instructions each.
 LOOP = """define i64 @main(i64 %n) {
