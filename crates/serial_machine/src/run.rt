@@ -28,8 +28,8 @@ pub enum Unfinished {
     OutOfFuel { memory: Memory },
 }
 
-/// The run of arguments that the program takes, over a row of the globals' numbers. It takes the memory, and puts the numbers back that it ends with. None,
-/// and the memory is as it was, where it does more instructions than the fuel allows.
+/// The run of arguments that the program takes, over a row of the globals' numbers. Its answer has the memory, with the numbers that the run ends with. None
+/// where it does more instructions than the fuel allows: the memory is as it was then.
 fn run_in_places(
     alloc: Global,
     program: &Program,
