@@ -1,6 +1,7 @@
 use std::sync::Wait;
 use std::sync::atomic::{AtomicU64, Ordering};
 use std::time::Duration;
+use strand_turns::Hunger;
 
 /// What workers tell one another: how many of them have no task, how many tasks are ready, and a bell for those that sleep meanwhile. These are hints on
 /// which nothing rests.
@@ -23,12 +24,6 @@ impl Demand {
             rings: AtomicU64::new(0),
             sleepers: AtomicU64::new(0),
         }
-    }
-
-    /// Whether somebody waits for a task: more workers have none than tasks are ready.
-    pub(crate) fn is_there(&self) -> bool {
-        let idle = self.idle.load(Ordering::SeqCst).cast_signed();
-        self.ready.load(Ordering::SeqCst).cast_signed() < idle
     }
 
     /// Whether a task is ready.
@@ -90,5 +85,13 @@ impl Demand {
         self.rings
             .park_timeout(rt, (heard % 0x1_0000_0000) as u32, time);
         let _all = self.sleepers.fetch_sub(1, Ordering::SeqCst);
+    }
+}
+
+impl Hunger for Demand {
+    /// More workers have no task than tasks are ready.
+    fn is_there(&self) -> bool {
+        let idle = self.idle.load(Ordering::SeqCst).cast_signed();
+        self.ready.load(Ordering::SeqCst).cast_signed() < idle
     }
 }

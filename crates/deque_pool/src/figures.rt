@@ -1,4 +1,4 @@
-use crate::turns::Turn;
+use strand_turns::Reason;
 
 /// What a worker did in a run. Each number stays at 2^64 - 1.
 #[derive(Clone, Copy)]
@@ -48,14 +48,14 @@ impl Figures {
     }
 
     /// A strand of so many instructions was put on the board.
-    pub(crate) fn count_publication(&mut self, instructions: u64, turn: Turn) {
+    pub(crate) fn count_publication(&mut self, instructions: u64, why: Reason) {
         self.count_instructions(instructions);
         self.publications = self.publications.saturating_add(1);
-        let reason = match turn {
-            Turn::Border => &mut self.at_borders,
-            Turn::Full => &mut self.at_full_logs,
-            Turn::Asked => &mut self.for_others,
-            Turn::Limit | Turn::Starved => &mut self.at_limits,
+        let reason = match why {
+            Reason::Border => &mut self.at_borders,
+            Reason::Full => &mut self.at_full_logs,
+            Reason::Asked => &mut self.for_others,
+            Reason::Limit => &mut self.at_limits,
         };
         *reason = reason.saturating_add(1);
     }

@@ -2,7 +2,6 @@
 //! (Blumofe and Leiserson, "Scheduling multithreaded computations by work stealing"). The lists of tickets are those of `deque_pool_tickets`.
 #![tactic(auto)]
 
-mod ahead;
 mod alone;
 mod demand;
 mod figures;
@@ -10,10 +9,10 @@ mod gate;
 mod locking;
 mod lone;
 mod outlook;
-mod pace;
 mod recorded;
 mod rounds;
 mod threads;
+mod tickets;
 mod turns;
 mod work;
 mod workers;

@@ -3,15 +3,16 @@ ghost use Rattle.std.specs.Prelude.{◌≡◌, ◌↔◌};
 
 use crate::demand::Demand;
 use crate::gate::{Gate, Go, pass};
-use crate::locking::{locked, pause};
+use crate::locking::pause;
 use crate::outlook::Left;
-use crate::turns::{Posted, Turn, go, load, post};
+use crate::turns::met;
 use crate::workers::Worker;
-use shared_run::{Bench, Claimed, Loaded, Shared};
+use shared_run::{Bench, Shared};
 use std::sync::Wait;
 use std::sync::atomic::{AtomicBool, Ordering};
 use std::thread;
 use std::time::Duration;
+use strand_turns::{Met, turn};
 
 /// How many searches in vain a worker makes with no more than a pause between them, and so many more with a yield. To be woken takes longer than some
 /// hundreds of them.
@@ -39,6 +40,9 @@ enum Next {
     Leave(Left),
 }
 
+/// More meetings than a strand has: one for each page that it lacks, and one at its end.
+const MOST_MEETINGS: u32 = 4_096;
+
 /// Works until a worker leaves: `main` has returned, memory was refused, or the gate stopped the run. Why this worker left stands in it.
 pub(crate) fn work<L: Bench, G: Gate, R: Wait>(
     rt: &R,
@@ -49,7 +53,8 @@ pub(crate) fn work<L: Bench, G: Gate, R: Wait>(
     worker: &mut Worker<'_, L>,
 ) {
     let me = worker.seat.worker();
-    let mut next = begin(rt, shared, demand, worker);
+    // Worker 0 begins with `root`, and the others have no task.
+    let mut next = after(met(rt, shared, demand, worker), 0);
     let mut rests: u32 = 0;
     for _ in rt.forever() {
         if over.load(Ordering::SeqCst) {
@@ -78,23 +83,6 @@ pub(crate) fn work<L: Bench, G: Gate, R: Wait>(
     }
 }
 
-/// Worker 0 begins with `root`, and the others have no task.
-fn begin<L: Bench, R: Wait>(
-    rt: &R,
-    shared: &Shared<'_, L>,
-    demand: &Demand,
-    worker: &Worker<'_, L>,
-) -> Next {
-    let board = locked(rt, shared);
-    match board.machine().depth_of(worker.seat.worker()) {
-        Some(_) => {
-            demand.begin();
-            Next::Strand
-        }
-        None => Next::Search,
-    }
-}
-
 /// One strand of the worker's task; tasks that it leaves ready are offered.
 fn do_strand<L: Bench, R: Wait>(
     rt: &R,
@@ -102,35 +90,30 @@ fn do_strand<L: Bench, R: Wait>(
     demand: &Demand,
     worker: &mut Worker<'_, L>,
 ) -> Next {
-    match load(rt, shared, worker) {
-        Loaded::Frame => {}
-        Loaded::Idle => return Next::Search,
-        Loaded::OutOfMemory => return Next::Leave(Left::Starved),
+    for _meeting in 0..MOST_MEETINGS {
+        turn(&mut worker.stack, &mut worker.habits, demand);
+        let heard = demand.rings();
+        match met(rt, shared, demand, worker) {
+            Met::Work if !worker.habits.is_new() => {}
+            met => return after(met, heard),
+        }
     }
-    let turn = go(rt, shared, demand, worker);
-    if turn == Turn::Starved {
-        return Next::Leave(Left::Starved);
-    }
-    let posted = post(rt, shared, demand, worker, turn);
-    if let Posted::Stranger = posted {
-        worker.figures.count_stranger();
-    }
-    after(posted)
+    Next::Strand
 }
 
-/// What comes after a strand that was to be put on the board.
-fn after(posted: Posted) -> Next
-    ensures { (result ≡ Next.Leave Left.Starved) ↔ (posted ≡ Posted.Starved) }
+/// What comes after a meeting.
+fn after(met: Met, heard: u64) -> Next
+    ensures { (result ≡ Next.Leave Left.Starved) ↔ (met ≡ Met.OutOfMemory) }
 {
-    match posted {
-        Posted::After { ended: true, .. } => Next::Leave(Left::Over),
-        Posted::After { idle: true, .. } => Next::Search,
-        Posted::After { .. } | Posted::Stranger => Next::Strand,
-        Posted::Starved => Next::Leave(Left::Starved),
+    match met {
+        Met::Work => Next::Strand,
+        Met::Idle => Next::Rest { heard },
+        Met::Ended => Next::Leave(Left::Over),
+        Met::OutOfMemory => Next::Leave(Left::Starved),
     }
 }
 
-/// Claims a task by a ticket. Where there is none, a worker that has yielded for long looks at the board for the first that is ready.
+/// Looks for a task, where one may be ready. A worker that has yielded for long looks whatever others told, for a ticket may have been lost.
 fn search<L: Bench, R: Wait>(
     rt: &R,
     shared: &Shared<'_, L>,
@@ -140,39 +123,10 @@ fn search<L: Bench, R: Wait>(
 ) -> Next {
     worker.figures.count_search();
     let heard = demand.rings();
-    let ticket = if demand.is_met() {
-        worker.next_ticket()
-    } else {
-        None
-    };
-    if ticket.is_none() && rests < PAUSES + YIELDS {
+    if !demand.is_met() && rests < PAUSES + YIELDS {
         return Next::Rest { heard };
     }
-    let mut board = locked(rt, shared);
-    let claimed = match ticket {
-        Some(ticket) => board.claim(&mut worker.seat, ticket),
-        None => board.claim_first(&mut worker.seat),
-    };
-    if let Claimed::Taken = claimed {
-        demand.claim();
-        let _loaded = board.fetch_base(&worker.seat, &mut worker.stack);
-        worker.figures.count_steal();
-        worker.pace.note_task();
-    }
-    drop(board);
-    after_claim(claimed, ticket.is_some(), heard)
-}
-
-/// What comes after a claim, of a ticket's task or of the first that is ready.
-fn after_claim(claimed: Claimed, by_ticket: bool, heard: u64) -> Next
-    ensures { (result ≡ Next.Leave Left.Starved) ↔ (claimed ≡ Claimed.OutOfMemory) }
-{
-    match claimed {
-        Claimed::Taken => Next::Strand,
-        Claimed::Gone if by_ticket => Next::Search,
-        Claimed::Gone => Next::Rest { heard },
-        Claimed::OutOfMemory => Next::Leave(Left::Starved),
-    }
+    after(met(rt, shared, demand, worker), heard)
 }
 
 /// Lets other threads go first: at first by a pause, then by a yield, later by a sleep until a task is offered, so that a worker with nothing to do needs no

@@ -2,77 +2,25 @@
 ghost use Rattle.std.specs.Prelude.{◌≡◌, vec_len, vec_capacity, ◌≤◌, IfOk};
 ghost use Rattle.shared_run.specs.schedule_workers.Starts.{ArePlaces};
 
-use crate::ahead::Trail;
 use crate::figures::Figures;
 use crate::outlook::Left;
-use crate::pace::Pace;
-use crate::turns::Turn;
-use deque_pool_tickets::{Hands, Taken, Thief};
+use deque_pool_tickets::{Hands, Thief};
 use lists::OutOfMemory;
-use shared_run::{Bench, Places, PrivateStack, Seat, Ticket, Verified};
+use shared_run::{Bench, Places, PrivateStack, Seat, Verified};
 use std::alloc::Global;
 use std::sync::Mutex;
+use strand_turns::Habits;
 
 /// A worker: its seat, its stack, its list of tickets, and its ends of the others' lists, from the next worker on; what it has done, and why it left.
 #[derive(Drop)]
 pub(crate) struct Worker<'p, L: Bench> {
     pub(crate) seat: Seat<L>,
     pub(crate) stack: PrivateStack<'p, L>,
-    /// Room for the tickets of one publication.
-    pub(crate) tickets: Vec<Ticket>,
     pub(crate) hands: Hands,
     pub(crate) thieves: Vec<Thief>,
-    pub(crate) pace: Pace,
-    pub(crate) trail: Trail,
+    pub(crate) habits: Habits,
     pub(crate) figures: Figures,
     pub(crate) left: Left,
-}
-
-impl<L: Bench> Worker<'_, L> {
-    /// A ticket that is to be claimed: the worker's own newest, or else the oldest of another.
-    pub(crate) fn next_ticket(&mut self) -> Option<Ticket> {
-        if let Some(own) = self.hands.take_newest() {
-            return Some(own);
-        }
-        for thief in self.thieves.iter_mut() {
-            if let Taken::Ticket(ticket) = thief.take_oldest() {
-                return Some(ticket);
-            }
-        }
-        None
-    }
-
-    /// Offers a ticket. A task whose ticket is refused is still found at the board.
-    pub(crate) fn offer(&mut self, ticket: Ticket) {
-        let _ = self.hands.offer(ticket);
-    }
-
-    /// Offers the tickets of a publication, the outermost task's first.
-    pub(crate) fn offer_tickets(&mut self) {
-        for ticket in self.tickets.as_slice() {
-            let _ = self.hands.offer(*ticket);
-        }
-    }
-
-    /// Takes the ticket back of a task that the worker goes on with: it is the newest, unless a thief has taken it in vain.
-    pub(crate) fn take_back(&mut self, own: (usize, u64)) {
-        if let Some(ticket) = self.hands.take_newest()
-            && (ticket.slot != own.0 || ticket.generation != own.1)
-        {
-            self.offer(ticket);
-        }
-    }
-
-    /// The strand was put on the board where it had come to.
-    pub(crate) fn note_publication(&mut self, turn: Turn) {
-        let done = self.stack.done();
-        self.figures.count_publication(done, turn);
-        if turn == Turn::Asked {
-            self.pace.note_offer(self.tickets.len());
-        } else {
-            self.pace.note(done);
-        }
-    }
 }
 
 /// A worker for each seat, each in a lock for its thread, and in the opposite order, so that worker 0 is the last. They have done what `figures` say.
@@ -101,11 +49,9 @@ pub(crate) fn crew_of<'p, L: Bench>(
         crew.push(Mutex::new(Worker {
             seat,
             stack,
-            tickets: Vec::new(alloc),
             hands,
             thieves,
-            pace: Pace::new(),
-            trail: Trail::new(),
+            habits: Habits::new(alloc),
             figures,
             left: Left::Over,
         }))?;

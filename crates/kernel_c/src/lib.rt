@@ -5,6 +5,9 @@
 #![tactic(auto)]
 
 mod abi;
+mod block;
+mod board_handle;
+mod boards;
 mod cells;
 mod handle;
 mod judge;
@@ -15,13 +18,20 @@ mod prepared;
 mod replay;
 mod rows;
 mod run;
+mod run_at;
 mod seed;
 mod serial;
 mod shared;
 mod told;
 mod words;
+mod worker_at;
 
 pub use abi::tapirvm_abi;
+pub use board_handle::{BoardHandle, WorkerHandle};
+pub use boards::{
+    tapirvm_board_close, tapirvm_board_finish, tapirvm_board_open, tapirvm_meet, tapirvm_turn,
+    tapirvm_worker_close, tapirvm_worker_open,
+};
 pub use handle::Handle;
 pub use judge::tapirvm_verify;
 pub use open::{tapirvm_close, tapirvm_open, tapirvm_share};

@@ -8,6 +8,7 @@ pub mod Spots
 pub mod Over
 pub mod Strands
 pub mod Piles
+pub mod Resting
 pub mod ReadyBelow
 pub mod FrameViews
 -- for the crates above

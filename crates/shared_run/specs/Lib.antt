@@ -3,6 +3,7 @@ pub mod Story
 pub mod Calls
 pub mod Stacks
 pub mod Answer
+pub mod Resting
 -- for the crates above
 pub use Rattle.schedule_core.specs.store as store
 pub use Rattle.schedule_core.specs as schedule_core

@@ -16,6 +16,7 @@ mod board;
 mod deep;
 mod history;
 mod outside;
+mod rest;
 mod seat;
 mod shared;
 mod stack;
@@ -27,6 +28,7 @@ pub use bench::Bench;
 pub use board::Board;
 pub use history::{Entry, History};
 pub use outside::{advance, blank_strand, clear};
+pub use rest::{BoardRest, StackRest};
 pub use schedule_core::{
     Event, Finished, Machine, Memory, Pause, Places, RunFault, Status, Strand, TaskView, Verified,
     places_of, replay, steps_of,

@@ -1,0 +1,71 @@
+use crate::habits::{Habits, Want};
+use crate::tasks::{Hunger, Reason};
+use shared_run::{Bench, MOST_INSTRUCTIONS, PrivateStack, Standing};
+
+/// A strand looks for others' demand after so many instructions at first, then each time it has done twice as many, up to the longest slice.
+const SHORTEST_SLICE: u64 = 2;
+
+const LONGEST_SLICE: u64 = 1_000;
+
+/// A stack with so many frames below its top is one of nested calls, which has much to give: it is put on the board as soon as others wait.
+const DEEP: usize = 4;
+
+/// More pauses than the slices of a strand make.
+const MOST_PAUSES: u32 = 1_000;
+
+/// Whether others wait for a task that the strand would leave ready, and it is not too soon.
+fn is_asked<L: Bench, H: Hunger>(wanted: &H, stack: &PrivateStack<'_, L>, habits: &Habits) -> bool {
+    wanted.is_there()
+        && stack.has_ready_frame()
+        && (DEEP <= stack.frames_below() || habits.pace.is_due(stack.done()))
+}
+
+/// Goes on to where something is wanted of the board: what that is.
+fn next_want<L: Bench, H: Hunger>(
+    stack: &mut PrivateStack<'_, L>,
+    habits: &mut Habits,
+    wanted: &H,
+) -> Want {
+    for _ in 0..MOST_PAUSES {
+        let slice = stack.done().clamp(SHORTEST_SLICE, LONGEST_SLICE);
+        match stack.advance(slice) {
+            Standing::Border => {
+                return Want::Post {
+                    reason: Reason::Border,
+                };
+            }
+            Standing::Spoilt => return Want::Leave,
+            Standing::Blank => return Want::Base,
+            Standing::Need { at } => return Want::Page { at },
+            Standing::Full => {
+                return Want::Post {
+                    reason: Reason::Full,
+                };
+            }
+            Standing::Going => {
+                let done = stack.done();
+                if done == MOST_INSTRUCTIONS || habits.heights.is_low(done, stack.frames_below()) {
+                    return Want::Post {
+                        reason: Reason::Limit,
+                    };
+                }
+                if is_asked(wanted, stack, habits) {
+                    return Want::Post {
+                        reason: Reason::Asked,
+                    };
+                }
+            }
+        }
+    }
+    Want::Post {
+        reason: Reason::Limit,
+    }
+}
+
+/// Goes on outside of the board, as long as nothing is wanted of it.
+pub fn turn<L: Bench, H: Hunger>(stack: &mut PrivateStack<'_, L>, habits: &mut Habits, wanted: &H) {
+    habits.is_new = false;
+    if let Want::Nothing = habits.want {
+        habits.want = next_want(stack, habits, wanted);
+    }
+}

@@ -1,0 +1,60 @@
+use crate::ahead::Trail;
+use crate::heights::Heights;
+use crate::pace::Pace;
+use crate::tasks::Reason;
+use shared_run::Ticket;
+use std::alloc::Global;
+
+/// What a worker wants of the board.
+#[derive(Clone, Copy)]
+pub(crate) enum Want {
+    /// Nothing: it goes on outside.
+    Nothing,
+    /// The frame that it runs at the start of the run.
+    Begin,
+    /// The frame that it runs next.
+    Base,
+    /// The page of the cell at this address.
+    Page { at: i64 },
+    /// To put on the board what it has done.
+    Post { reason: Reason },
+    /// A task.
+    Task,
+    /// To leave: memory was refused.
+    Leave,
+}
+
+/// What a worker remembers beside its stack. Nothing rests on it.
+#[derive(Drop)]
+pub struct Habits {
+    pub(crate) want: Want,
+    pub(crate) pace: Pace,
+    pub(crate) trail: Trail,
+    pub(crate) heights: Heights,
+    /// Room for the tickets of one publication.
+    pub(crate) tickets: Vec<Ticket>,
+    /// The times that it looked for a task in vain, one after the other.
+    pub(crate) vain: u32,
+    /// Whether its frame was just loaded.
+    pub(crate) is_new: bool,
+}
+
+impl Habits {
+    /// Of a worker that has done nothing yet.
+    pub fn new(alloc: Global) -> Habits {
+        Habits {
+            want: Want::Begin,
+            pace: Pace::new(),
+            trail: Trail::new(),
+            heights: Heights::none_seen(),
+            tickets: Vec::new(alloc),
+            vain: 0,
+            is_new: false,
+        }
+    }
+
+    /// Whether a strand begins: its frame was loaded, and it has not gone on since.
+    pub fn is_new(&self) -> bool {
+        self.is_new
+    }
+}

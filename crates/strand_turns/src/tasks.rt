@@ -1,0 +1,55 @@
+use shared_run::Ticket;
+
+/// Where a strand is put on the board.
+#[derive(Clone, Copy, PartialEq, Eq)]
+pub enum Reason {
+    /// Next is what only the board can do.
+    Border,
+    /// The next cell is of one page more than it has.
+    Full,
+    /// It has done all that it may, or needs what is not there.
+    Limit,
+    /// Others wait for tasks.
+    Asked,
+}
+
+/// What a worker did at the board.
+#[derive(Clone, Copy)]
+pub enum Told {
+    /// It put a strand of so many instructions on the board.
+    Publication { instructions: u64, reason: Reason },
+    /// A border's step.
+    Step,
+    /// A strand was done for nothing.
+    Stranger,
+    /// It took a task.
+    Steal,
+}
+
+/// Where workers leave the tickets of ready tasks for one another, and what tells how many of them have no task. Nothing rests on it.
+pub trait Tasks {
+    /// A task is ready. One whose ticket is lost is still found at the board.
+    fn offer(&mut self, worker: u8, ticket: Ticket);
+
+    /// The worker goes on itself with the task of this ticket, which is its newest, unless a thief has taken it.
+    fn withdraw(&mut self, worker: u8, own: (usize, u64));
+
+    /// A ticket that is to be claimed.
+    fn next(&mut self, worker: u8) -> Option<Ticket>;
+
+    /// A worker has no task any more.
+    fn rest(&mut self);
+
+    /// A worker has a task that was not ready.
+    fn begin(&mut self);
+
+    /// A worker that had no task has one that was ready.
+    fn claim(&mut self);
+
+    fn note(&mut self, told: Told);
+}
+
+/// Tells workers that go on outside of the board whether others wait for tasks.
+pub trait Hunger {
+    fn is_there(&self) -> bool;
+}
