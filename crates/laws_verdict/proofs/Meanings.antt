@@ -10,6 +10,7 @@ use Rattle.program.specs.declared.instruction.Argument.{Argument}
 use Rattle.program.specs.declared.instruction.Argument.TheVariants as argument
 use Rattle.program.specs.declared.instruction.Instruction.TheVariants as instruction
 use Rattle.program.specs.declared.function.Program.{Program}
+use Rattle.refusal.specs.declared.broken.Broken.{Broken}
 use Rattle.refusal.specs.declared.refused.Refused.{Refused}
 use Rattle.refusal.specs.declared.refused.Refused.TheVariants.{Fault}
 use Rattle.syntax.specs.declared.instruction.Argument.{Argument as ArgumentText}
@@ -22,7 +23,7 @@ use Rattle.syntax.specs.declared.module.Module.{Module}
 use Rattle.syntax.specs.declared.module.ResultType.{ResultType}
 use Rattle.types.specs.declared.names.form.AnnotationPlace.TheVariants.{Body}
 use Rattle.types.specs.names.Address.{Items}
-use Rattle.types.specs.names.Fault.{all_of, and_then, both_of, made_of, unless_of}
+use Rattle.types.specs.names.Fault.{all_of, and_then, both_of, fault_of, made_of, unless_of}
 use Rattle.types.specs.names.Form.{inequalities_of}
 use Rattle.types.specs.names.Item.{items_of}
 use Rattle.types.specs.names.Layout.{layout_of}
@@ -33,7 +34,7 @@ use Rattle.types.specs.Call.{Named, is_named_below, is_any_named, are_distinct, 
 use Rattle.types.specs.Instruction.{call_register_of, call_step_of, instruction_of, step_of, phis_of}
 use Rattle.types.specs.Block.{head_of, body_of, block_with, block_of}
 use Rattle.types.specs.Function.{head_of as function_head_of, function_with, function_of}
-use Rattle.types.specs.Meaning.{main_of, program_with, program_from, IsNamedIn, Means}
+use Rattle.types.specs.Meaning.{main_of, program_with, program_from, told_of, IsNamedIn, Means}
 use Rattle.types.specs.Terminator.{ending_of}
 use Rattle.types.specs.names.Table.{look_up}
 
@@ -137,5 +138,15 @@ program_same whole items a b same = λ i.
     made_of (λ p. program_with whole p.0 p.1)
     (both_of (main_of items whole.functions) (all_of (λ place of. function_same items whole.functions a b same place of i) whole.functions))
 
-pub one_meaning : (whole : Module) (m n : Result Program Refused) → Means whole m → Means whole n → m ≡ n
-one_meaning whole m n (a, one, is) (b, other, means) = sym is ∙ program_same whole (items_of whole) a b (rows_same whole a b one other) ∙ means
+same_fault : (f g : Broken) → fault_of f ≡ fault_of g → f ≡ g
+same_fault f g e = let lines : f.line ≡ g.line = cc in let numbers : f.number ≡ g.number = cc in λ i. record { line = lines i; number = numbers i }
+
+same_told : (m n : Result Program Broken) → told_of m ≡ told_of n → m ≡ n
+same_told (Ok p) (Ok q) e = cc
+same_told (Ok p) (Err f) e = absurd cc
+same_told (Err f) (Ok p) e = absurd cc
+same_told (Err f) (Err g) e = let same : fault_of f ≡ fault_of g = cc in ap Err (same_fault f g same)
+
+pub one_meaning : (whole : Module) (m n : Result Program Broken) → Means whole m → Means whole n → m ≡ n
+one_meaning whole m n (a, one, is) (b, other, means) =
+    same_told m n (sym is ∙ program_same whole (items_of whole) a b (rows_same whole a b one other) ∙ means)

@@ -12,13 +12,14 @@ use Rattle.syntax.specs.declared.module.Parameter.{Parameter as ParameterText}
 use Rattle.syntax.specs.declared.module.Parameter.TheVariants as parameter
 use Rattle.syntax.specs.declared.module.ResultType.{ResultType}
 use Rattle.syntax.specs.declared.module.ResultType.TheVariants.{Number, Void}
+use Rattle.refusal.specs.declared.broken.Broken.{Broken}
 use Rattle.refusal.specs.declared.refused.Refused.{Refused as TypeFault}
 use Rattle.refusal.specs.declared.refused.Refused.TheVariants.{Fault}
 use Rattle.types.specs.declared.names.item.Item.{Item}
 use Rattle.types.specs.declared.names.item.Item.TheVariants as item
 use Rattle.types.specs.names.Address.{Items}
 use Rattle.types.specs.Call.{Named}
-use Rattle.types.specs.names.Fault.{both_of, made_of, unless_of}
+use Rattle.types.specs.names.Fault.{both_of, fault_of, made_of, unless_of}
 use Rattle.types.specs.Function.{functions_of}
 use Rattle.types.specs.names.Item.{items_of}
 use Rattle.types.specs.names.Mention.{mentions_of, IsNamedTable}
@@ -61,9 +62,14 @@ program_from items named whole =
 abbrev pub IsNamedIn : Module → Named → Type 0
 IsNamedIn whole named = IsNamedTable (map (mentions_of (items_of whole)) whole.functions) (length whole.globals) named
 
+-- a meaning, as the parts of a module tell it
+abbrev pub told_of : Result Program Broken → Result Program TypeFault
+told_of (Ok program) = Ok program
+told_of (Err broken) = Err (fault_of broken)
+
 -- the program that a module means, else its earliest fault
-abbrev pub Means : Module → Result Program TypeFault → Type 0
-Means whole meaning = (named : Named) × IsNamedIn whole named × (program_from (items_of whole) named whole ≡ meaning)
+abbrev pub Means : Module → Result Program Broken → Type 0
+Means whole meaning = (named : Named) × IsNamedIn whole named × (program_from (items_of whole) named whole ≡ told_of meaning)
 
 -- some module means the program, so no rule on names and types is broken
 abbrev pub IsMeant : Program → Type 0

@@ -4,6 +4,7 @@ use Rattle.refusal.specs.declared.broken.Broken.{Broken}
 use Rattle.refusal.specs.declared.refused.Refused.{Refused as TypeFault}
 use Rattle.refusal.specs.declared.refused.Refused.TheVariants.{Fault, Memory}
 use Rattle.refusal.specs.Earliest.{earlier_of}
+use Rattle.refusal.specs.Refusals.{IfBroken}
 
 abbrev pub fault_of : Broken → TypeFault
 fault_of broken = Fault broken.number broken.line
@@ -49,8 +50,7 @@ all_from f place done (x ∷ xs) = all_from f (place + 1) (joined_of done (f pla
 abbrev pub all_of : {A B : Type 0} → (ℕ → A → Result B TypeFault) → List A → Result (List B) TypeFault
 all_of f xs = all_from f 0 (Ok []) xs
 
--- the answer is the meaning, unless memory was refused
+-- the answer is the meaning; if a fault, then its own
 abbrev pub Gives : {A : Type 0} → Result A TypeFault → Result A TypeFault → Type 0
 Gives (Ok a) meaning = meaning ≡ Ok a
-Gives (Err Memory) meaning = Unit {0}
-Gives (Err (Fault number line)) meaning = meaning ≡ Err (Fault number line)
+Gives (Err fault) meaning = IfBroken (λ broken. meaning ≡ Err (fault_of broken)) fault
