@@ -11,8 +11,6 @@ use Rattle.program.specs.declared.instruction.Argument.TheVariants as argument
 use Rattle.program.specs.declared.instruction.Instruction.TheVariants as instruction
 use Rattle.program.specs.declared.function.Program.{Program}
 use Rattle.refusal.specs.declared.broken.Broken.{Broken}
-use Rattle.refusal.specs.declared.refused.Refused.{Refused}
-use Rattle.refusal.specs.declared.refused.Refused.TheVariants.{Fault}
 use Rattle.syntax.specs.declared.instruction.Argument.{Argument as ArgumentText}
 use Rattle.syntax.specs.declared.instruction.Instruction.{Instruction as InstructionText}
 use Rattle.syntax.specs.declared.instruction.Instruction.TheVariants as text
@@ -23,7 +21,7 @@ use Rattle.syntax.specs.declared.module.Module.{Module}
 use Rattle.syntax.specs.declared.module.ResultType.{ResultType}
 use Rattle.types.specs.declared.names.form.AnnotationPlace.TheVariants.{Body}
 use Rattle.types.specs.names.Address.{Items}
-use Rattle.types.specs.names.Fault.{all_of, and_then, both_of, fault_of, made_of, unless_of}
+use Rattle.types.specs.names.Fault.{all_of, and_then, both_of, breaks, made_of, unless_of}
 use Rattle.types.specs.names.Form.{inequalities_of}
 use Rattle.types.specs.names.Item.{items_of}
 use Rattle.types.specs.names.Layout.{layout_of}
@@ -34,7 +32,7 @@ use Rattle.types.specs.Call.{Named, is_named_below, is_any_named, are_distinct, 
 use Rattle.types.specs.Instruction.{call_register_of, call_step_of, instruction_of, step_of, phis_of}
 use Rattle.types.specs.Block.{head_of, body_of, block_with, block_of}
 use Rattle.types.specs.Function.{head_of as function_head_of, function_with, function_of}
-use Rattle.types.specs.Meaning.{main_of, program_with, program_from, told_of, IsNamedIn, Means}
+use Rattle.types.specs.Meaning.{main_of, program_with, program_from, IsNamedIn, Means}
 use Rattle.types.specs.Terminator.{ending_of}
 use Rattle.types.specs.names.Table.{look_up}
 
@@ -78,9 +76,9 @@ module _ (whole : Module) (a b : Named) (one : IsNamedIn whole a) (other : IsNam
 module _ (items : Items) (texts : List FunctionText) (a b : Named) (same : (id : ℕ) (arguments : List Argument) → is_any_named (slice_get a id) arguments ≡ is_any_named (slice_get b id) arguments) where
   passed_same : (caller line : ℕ) (id : FunctionId) (arguments : List Argument) → passed_call a caller line id arguments ≡ passed_call b caller line id arguments
   passed_same caller line id arguments = λ i.
-      and_then (unless_of (are_distinct arguments) (Fault 204 line)) (λ _.
-      and_then (unless_of (not (same id.0 arguments i)) (Fault 204 line)) (λ _.
-      made_of (λ _. record { callee = id; arguments = arguments }) (unless_of (nat_le id.0 caller) (Fault 205 line))))
+      and_then (unless_of (are_distinct arguments) (breaks 204 line)) (λ _.
+      and_then (unless_of (not (same id.0 arguments i)) (breaks 204 line)) (λ _.
+      made_of (λ _. record { callee = id; arguments = arguments }) (unless_of (nat_le id.0 caller) (breaks 205 line))))
 
   found_same : (scope : Scope) (caller line : ℕ) (has_result : Bool) (id : FunctionId) (callee : Option FunctionText) (arguments : List ArgumentText) →
       found_call items a scope caller line has_result id callee arguments ≡ found_call items b scope caller line has_result id callee arguments
@@ -88,7 +86,7 @@ module _ (items : Items) (texts : List FunctionText) (a b : Named) (same : (id :
   found_same scope caller line has_result id (Some callee) arguments = λ i.
       and_then (fitting_arguments items scope line has_result callee arguments) (λ xs. passed_same caller line id xs i)
 
-  called_same : (scope : Scope) (caller line : ℕ) (has_result : Bool) (callee : Result FunctionId Refused) (arguments : List ArgumentText) →
+  called_same : (scope : Scope) (caller line : ℕ) (has_result : Bool) (callee : Result FunctionId Broken) (arguments : List ArgumentText) →
       called items texts a scope caller line has_result callee arguments ≡ called items texts b scope caller line has_result callee arguments
   called_same scope caller line has_result (Err fault) arguments = refl
   called_same scope caller line has_result (Ok id) arguments = found_same scope caller line has_result id (slice_get texts id.0) arguments
@@ -138,15 +136,5 @@ program_same whole items a b same = λ i.
     made_of (λ p. program_with whole p.0 p.1)
     (both_of (main_of items whole.functions) (all_of (λ place of. function_same items whole.functions a b same place of i) whole.functions))
 
-same_fault : (f g : Broken) → fault_of f ≡ fault_of g → f ≡ g
-same_fault f g e = let lines : f.line ≡ g.line = cc in let numbers : f.number ≡ g.number = cc in λ i. record { line = lines i; number = numbers i }
-
-same_told : (m n : Result Program Broken) → told_of m ≡ told_of n → m ≡ n
-same_told (Ok p) (Ok q) e = cc
-same_told (Ok p) (Err f) e = absurd cc
-same_told (Err f) (Ok p) e = absurd cc
-same_told (Err f) (Err g) e = let same : fault_of f ≡ fault_of g = cc in ap Err (same_fault f g same)
-
 pub one_meaning : (whole : Module) (m n : Result Program Broken) → Means whole m → Means whole n → m ≡ n
-one_meaning whole m n (a, one, is) (b, other, means) =
-    same_told m n (sym is ∙ program_same whole (items_of whole) a b (rows_same whole a b one other) ∙ means)
+one_meaning whole m n (a, one, is) (b, other, means) = sym is ∙ program_same whole (items_of whole) a b (rows_same whole a b one other) ∙ means
