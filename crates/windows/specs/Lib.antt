@@ -1,0 +1,5 @@
+pub mod Passing
+pub mod Nested
+pub mod Shown
+pub mod Runs
+pub mod Walks
