@@ -10,3 +10,4 @@ pub mod Resolving
 pub mod Cells
 pub mod Going
 pub mod Walking
+pub mod Slots

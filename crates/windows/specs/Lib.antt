@@ -3,3 +3,4 @@ pub mod Nested
 pub mod Shown
 pub mod Runs
 pub mod Walks
+pub mod Slots

@@ -7,7 +7,8 @@
 //! - `sites`: calls of the program's text, resolved.
 //! - `borders`: each step over a border shows the definitions' frames again.
 //! - `stack`: windows with their cells. Each step over a border is a step of the serial run.
-//! - `law`: so borders, and segments of plain steps between them, are a walk from the run's start (`borders_walk`, `segments_walk`).
+//! - `law`: so borders, and segments of plain steps between them, are a walk from the run's start (`borders_walk`, `segments_walk`); and the codes'
+//!   slots are those that the borders ask for (`borders_stand`).
 #![tactic(auto)]
 
 mod borders;
@@ -17,8 +18,8 @@ mod sites;
 mod stack;
 mod windows;
 
-pub use law::{borders_walk, segments_walk};
+pub use law::{borders_stand, borders_walk, segments_walk};
 pub use passing::Passed;
 pub use sites::{CallCodes, call_site, resolve};
 pub use stack::WindowStack;
-pub use windows::{CallSite, CodePlace, Saved, Windows};
+pub use windows::{CallSite, Saved, Windows};
