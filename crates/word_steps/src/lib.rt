@@ -4,4 +4,4 @@
 
 mod steps;
 
-pub use steps::{add, load, operate, place_alloca, point, store, test};
+pub use steps::{add, load, operate, place_alloca, point, store, test, total};
