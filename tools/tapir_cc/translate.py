@@ -1,0 +1,79 @@
+"""From LLVM's text to functions of our language. In: the text, and the function where the run begins. Out: the module, and the functions that it needs, callees
+first; claims are taken, zones and hints are not there yet."""
+from __future__ import annotations
+from .children import drop_calls, make_children, make_syncs, take_claims
+from .claims import Claims
+from .clean import clean
+from .halves import make_halves
+from .ir import Fault, Function, Place
+from .llvm_text import Module, read, scalar
+from .memory import Addresses, make_zeros, measure_objects, part_cases
+from .numbers import Conditions, Widths
+from .rewrites import middles, rewrite, try_facts
+
+
+def translate(text: str, entry: str) -> tuple[Module, list[Function]]:
+    module = read(text)
+    for g in module.globals.values():
+        check_global(g)
+    functions = []
+    for f in callees_first(module, entry):
+        drop_calls(f)
+        take_claims(f)
+        make_children(f)
+        clean(f)
+        functions += make_halves(f) + [f]
+        clean(f)
+    by_name = {f.name: f for f in functions}
+    for f in functions:
+        Widths(f).apply()
+        make_syncs(f)
+        Conditions(f).apply()
+        Addresses(f).apply()
+    measure_objects(module, functions, by_name)
+    for f in functions:
+        make_zeros(f)
+        part_cases(f)
+        clean(f)
+        rewrite(f)
+        clean(f)
+        try_facts(f)
+        Claims(f).apply()
+        clean(f)
+        middles(f)
+    return module, functions
+
+
+def check_global(g) -> None:
+    name = g.name[1:]
+    if scalar(g.type) not in ("i64", "i32"):
+        kind = {"i8": "char", "ptr": "a pointer", "i1": "bool"}.get(scalar(g.type), scalar(g.type))
+        raise Fault(g.place, f"{name} is of {kind}, which memory does not hold", "write int64_t or int")
+    if not g.is_zero:
+        raise Fault(g.place, f"{name} has an initial value", "fill it in a function, or from the host (--set, --load)")
+
+
+def callees_first(module: Module, entry: str) -> list[Function]:
+    """The functions that a run may call, with the name `@main` for the first."""
+    by_name = {f.name: f for f in module.functions}
+    if "@" + entry not in by_name:
+        raise Fault(Place(1, 1), f"there is no function {entry}, where the run begins", "name another one by --entry")
+    out: list[Function] = []
+
+    def visit(f: Function, above: list[Function]) -> None:
+        if f in out:
+            return
+        for x in f.calls():
+            callee = by_name.get(x.callee)
+            if callee is None and not x.callee.startswith(("@__tapir_", "@llvm.")):
+                raise Fault(x.place, f"{x.callee[1:]} is not in this file", "put its code here")
+            if callee in above:
+                raise Fault(x.place, f"{f.name[1:]} and {x.callee[1:]} call each other", "make one function of them, with a parameter that says which")
+            if callee is not None and callee is not f:
+                visit(callee, above + [f])
+        out.append(f)
+    visit(by_name["@" + entry], [])
+    for x in [x for f in out for x in f.calls("@" + entry)]:
+        x.callee = "@main" if x.callee == "@" + entry else x.callee
+    by_name["@" + entry].name = "@main"
+    return out
