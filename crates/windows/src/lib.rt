@@ -1,6 +1,6 @@
 //! A serial run's frames as windows of one row of words, and its cells: the state of a serial engine whose calls and detaches are as fast as its
-//! loops. No crate calls it yet: the serial run goes by `serial_stack`, whose steps these are. What is missing is one array of codes that mean the
-//! program, and the loop over them.
+//! loops. No crate calls it yet: the serial run goes by `serial_stack`, whose steps these are. What is missing are the codes, which mean the program,
+//! and the loop over them.
 //!
 //! - `windows`: the row. A frame's registers stand behind its caller's, and nothing is zeroed.
 //! - `passing`: what a call passes, with names resolved.
