@@ -1,7 +1,7 @@
 /* What each call of the library answers on examples/, against what is known of them: fails, with a line for each, where one answers otherwise.
  *
  * Usage: calls EXAMPLES */
-#include "tapirvm.h"
+#include "tapirvm_threads.h"
 
 #include <inttypes.h>
 #include <stdio.h>
@@ -204,6 +204,118 @@ static void words(void) {
     want("needed", (int64_t)needed, 10);
 }
 
+/* A run of pair.ll by one of its two workers. Its board is used after the handle is closed, and its workers after the board. */
+static void boards(void) {
+    struct tapirvm_handle handle = open_text("pair.ll");
+    struct tapirvm_outcome outcome = {0};
+    struct tapirvm_board board = TAPIRVM_NOTHING;
+    struct tapirvm_worker worker = TAPIRVM_NOTHING, beyond = TAPIRVM_NOTHING;
+    int64_t argument = 7, cells[2] = {5, 6}, ends[2] = {1, 2};
+    size_t offered = 9;
+    uint32_t status = TAPIRVM_IDLE;
+    tapirvm_board_open(&handle, &argument, 0, cells, 2, 2, &outcome, &board);
+    want("a board without arguments", outcome.status, TAPIRVM_BAD_ARGUMENTS);
+    want("is none", board.live, 0);
+    tapirvm_board_open(&handle, &argument, 1, cells, 1, 2, &outcome, &board);
+    want("a board with one cell", outcome.status, TAPIRVM_OTHER_CELLS);
+    tapirvm_board_open(&handle, &argument, 1, cells, 2, 0, &outcome, &board);
+    want("a board without workers", outcome.status, TAPIRVM_BAD_WORKERS);
+    tapirvm_board_open(&handle, &argument, 1, cells, 2, 65, &outcome, &board);
+    want("a board of 65 workers", outcome.status, TAPIRVM_BAD_WORKERS);
+    tapirvm_board_open(&handle, &argument, 1, cells, 2, 2, &outcome, &board);
+    want("a board", outcome.status, TAPIRVM_DONE);
+    want("holds a run", board.live, 1);
+    tapirvm_close(&handle);
+    tapirvm_board_finish(&board, ends, 2, &outcome);
+    want("it has not ended", outcome.status, TAPIRVM_NOT_ENDED);
+    want("it is kept", board.live, 1);
+    want("a worker", tapirvm_worker_open(&board, 0, &worker), TAPIRVM_DONE);
+    want("one too many", tapirvm_worker_open(&board, 2, &beyond), TAPIRVM_DONE);
+    want("it finds nothing", tapirvm_meet(&board, &beyond, &offered), TAPIRVM_IDLE);
+    want("it offers nothing", (int64_t)offered, 0);
+    for (int k = 0; k < 1000 && (status = tapirvm_meet(&board, &worker, &offered)) == TAPIRVM_WORK; k++) want("a turn", tapirvm_turn(&worker), TAPIRVM_DONE);
+    want("it has ended", status, TAPIRVM_DONE);
+    want("the cells are kept until then", ends[0] == 1 && ends[1] == 2, 1);
+    tapirvm_board_finish(&board, ends, 2, &outcome);
+    want("its answer", outcome.status, TAPIRVM_DONE);
+    want("result", outcome.result, 14);
+    want("instructions", (int64_t)outcome.instructions, 14);
+    want("peak", (int64_t)outcome.peak, 2);
+    want("cells", ends[0] == 7 && ends[1] == 7 && cells[0] == 5 && cells[1] == 6, 1);
+    want("the board is empty", board.live, 0);
+    want("a meeting there", tapirvm_meet(&board, &worker, &offered), TAPIRVM_CLOSED);
+    want("the worker is kept", worker.live, 1);
+    want("and takes a turn", tapirvm_turn(&worker), TAPIRVM_DONE);
+    tapirvm_worker_close(&worker);
+    tapirvm_worker_close(&beyond);
+}
+
+/* A run that has ended, and whose answer is asked for with another number of cells, is lost. */
+static void lost(void) {
+    struct tapirvm_handle handle = open_text("load.ll");
+    struct tapirvm_outcome outcome = {0};
+    struct tapirvm_board board = TAPIRVM_NOTHING;
+    struct tapirvm_worker worker = TAPIRVM_NOTHING;
+    int64_t cells[2] = {-9, 1};
+    size_t offered;
+    uint32_t status = TAPIRVM_IDLE;
+    tapirvm_board_open(&handle, cells, 0, cells, 1, 1, &outcome, &board);
+    want("a board of load.ll", outcome.status, TAPIRVM_DONE);
+    want("its worker", tapirvm_worker_open(&board, 0, &worker), TAPIRVM_DONE);
+    for (int k = 0; k < 1000 && (status = tapirvm_meet(&board, &worker, &offered)) == TAPIRVM_WORK; k++) want("a turn", tapirvm_turn(&worker), TAPIRVM_DONE);
+    want("it has ended", status, TAPIRVM_DONE);
+    tapirvm_board_finish(&board, cells, 2, &outcome);
+    want("its answer in two cells", outcome.status, TAPIRVM_OTHER_CELLS);
+    want("the cells are kept", cells[0] == -9 && cells[1] == 1, 1);
+    want("the run is lost", board.live, 0);
+    tapirvm_worker_close(&worker);
+    tapirvm_close(&handle);
+}
+
+static void crews(void) {
+    struct tapirvm_handle handle = open_text("pair.ll");
+    struct tapirvm_outcome outcome = {0};
+    int64_t argument = 7, cells[2] = {5, 6};
+    tapirvm_run_threads(&handle, 0, &argument, 1, cells, 2, &outcome);
+    want("no workers", outcome.status, TAPIRVM_BAD_WORKERS);
+    tapirvm_run_threads(&handle, 65, &argument, 1, cells, 2, &outcome);
+    want("65 workers", outcome.status, TAPIRVM_BAD_WORKERS);
+    tapirvm_run_threads(&handle, 2, &argument, 0, cells, 2, &outcome);
+    want("no arguments on threads", outcome.status, TAPIRVM_BAD_ARGUMENTS);
+    tapirvm_run_threads(&handle, 2, &argument, 1, cells, 1, &outcome);
+    want("one cell on threads", outcome.status, TAPIRVM_OTHER_CELLS);
+    want("the cells are kept", cells[0] == 5 && cells[1] == 6, 1);
+    tapirvm_run_threads(&handle, 64, &argument, 1, cells, 2, &outcome);
+    want("64 workers", outcome.status, TAPIRVM_DONE);
+    want("result", outcome.result, 14);
+    want("cells", cells[0] == 7 && cells[1] == 7, 1);
+    want("the handle is kept", handle.live, 1);
+    tapirvm_close(&handle);
+    tapirvm_run_threads(&handle, 2, &argument, 1, cells, 2, &outcome);
+    want("run what is closed on threads", outcome.status, TAPIRVM_CLOSED);
+}
+
+/* Calls on handles that hold nothing. */
+static void nothing(void) {
+    struct tapirvm_handle handle = TAPIRVM_NOTHING;
+    struct tapirvm_board board = TAPIRVM_NOTHING;
+    struct tapirvm_worker worker = TAPIRVM_NOTHING;
+    struct tapirvm_outcome outcome = {0};
+    int64_t cells[1] = {0};
+    size_t offered = 9;
+    tapirvm_board_open(&handle, cells, 0, cells, 0, 1, &outcome, &board);
+    want("a board of nothing", outcome.status, TAPIRVM_CLOSED);
+    want("a worker of nothing", tapirvm_worker_open(&board, 0, &worker), TAPIRVM_CLOSED);
+    want("a meeting of nothing", tapirvm_meet(&board, &worker, &offered), TAPIRVM_CLOSED);
+    want("offers nothing", (int64_t)offered, 0);
+    want("a turn of nothing", tapirvm_turn(&worker), TAPIRVM_CLOSED);
+    tapirvm_board_finish(&board, cells, 0, &outcome);
+    want("the answer of nothing", outcome.status, TAPIRVM_CLOSED);
+    tapirvm_board_close(&board);
+    tapirvm_worker_close(&worker);
+    want("all of it is nothing", board.live || worker.live, 0);
+}
+
 int main(int count, char **given) {
     if (count != 2) return 2;
     examples = given[1];
@@ -214,6 +326,10 @@ int main(int count, char **given) {
     replays();
     share();
     words();
+    boards();
+    lost();
+    crews();
+    nothing();
     printf("%d answers of the calls in C, %d differences\n", asked, wrong);
     return wrong != 0;
 }
