@@ -159,7 +159,7 @@ void tapirvm_board_open(struct tapirvm_handle *handle, const int64_t *arguments,
  * held is given back. TAPIRVM_DONE, or it holds nothing: _CLOSED where the board does, _OUT_OF_MEMORY. */
 uint32_t tapirvm_worker_open(struct tapirvm_board *board, uint8_t number, struct tapirvm_worker *worker);
 
-/* Under the board's lock: does at the board what the worker wants. `offered` says how many tasks others may take now.
+/* Under the board's lock: does at the board what the worker wants. `offered` says how many tasks it offers to others by that.
  * TAPIRVM_WORK: tapirvm_turn is next, then this again. _IDLE: there is no task for it now. _DONE: the run has ended. _CLOSED: one of the two holds
  * nothing, and the other is as it was. _OUT_OF_MEMORY: the run does not go on, for any worker. Both handles may hold nothing then: what they held is
  * given back, so every later call on them answers TAPIRVM_CLOSED. Or both hold what they held. */
