@@ -1,3 +1,4 @@
+use Rattle.std.proofs.Common.{Some}
 use Rattle.kernel_c.proofs.open.opened.Goals as goal
 
 pub returns-in-Some-clause-accepted : goal.returns-in-Some-clause-accepted
@@ -7,3 +8,6 @@ returns-in-Some-clause-accepted c is_done =
       accepts = record { program = c.in-Ok.kernel; means = c.in-Ok.ensures.accepted; budget = said.budget; depth = said.depth; cells = said.cells };
       held = c.in-Some.ensures;
     }
+
+pub returns-in-Err-clause-refused : goal.returns-in-Err-clause-refused
+returns-in-Err-clause-refused c = c.rejection.ensures.refused c.args.text.now (Some c.args.effort) c.in-Err.ensures.refused
