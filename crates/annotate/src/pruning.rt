@@ -44,7 +44,7 @@ fn is_accepted(
         }
         Err(Unverified::Refused(Refused::Fault { .. })) => Ok(false),
         Err(Unverified::Refused(Refused::Memory)) => Err(Unanswered::OutOfMemory),
-        Err(Unverified::OutOfEffort) => Err(Unanswered::OutOfEffort),
+        Err(Unverified::OutOfEffort { .. }) => Err(Unanswered::OutOfEffort),
     }
 }
 

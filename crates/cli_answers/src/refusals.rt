@@ -21,7 +21,7 @@ pub fn print_unverified<W: Write>(
 ) -> io::Result<Status> {
     match unverified {
         Unverified::Refused(refused) => print_refused(refused, output),
-        Unverified::OutOfEffort => print_undecided(output, beside),
+        Unverified::OutOfEffort { .. } => print_undecided(output, beside),
     }
 }
 

@@ -158,6 +158,6 @@ pub fn explain(
             })
         }
         Err(Unverified::Refused(Refused::Memory)) => Err(OutOfMemory),
-        Err(Unverified::OutOfEffort) => Ok(Explanation::Undecided),
+        Err(Unverified::OutOfEffort { .. }) => Ok(Explanation::Undecided),
     }
 }

@@ -19,6 +19,6 @@ pub fn fault_of(
         }
         Err(Unverified::Refused(Refused::Fault { number, line })) => Ok(Some((number, line))),
         Err(Unverified::Refused(Refused::Memory)) => Err(Unanswered::OutOfMemory),
-        Err(Unverified::OutOfEffort) => Err(Unanswered::OutOfEffort),
+        Err(Unverified::OutOfEffort { .. }) => Err(Unanswered::OutOfEffort),
     }
 }

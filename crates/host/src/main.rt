@@ -151,7 +151,7 @@ fn host<T: Threads + Wait + Clock + Sync, W: Write>(
             return writeln!(output, "refused: rule {number}, line {line}");
         }
         Err(Unverified::Refused(Refused::Memory)) => return writeln!(output, "out of memory"),
-        Err(Unverified::OutOfEffort) => return writeln!(output, "too dear to judge"),
+        Err(Unverified::OutOfEffort { .. }) => return writeln!(output, "too dear to judge"),
     };
     let (budget, depth) = (kernel.budget(), kernel.depth());
     if budget > MOST_INSTRUCTIONS || depth > MOST_FRAMES {

@@ -1,7 +1,7 @@
 -- Only the scanner's own functions and its loop need these.
 use Rattle.std.specs.Prelude.{◌≡◌, ℕ, ◌<◌, ◌≤◌, List, ◌++◌, Option, Some, None}
 use Rattle.refusal.specs.declared.refused.Refused.{Refused}
-use Rattle.refusal.specs.declared.refused.Refused.TheVariants as faults
+use Rattle.refusal.specs.Refusals.{IfBroken}
 use Rattle.ir_lex.specs.declared.token.Token.{Token}
 use Rattle.ir_lex.specs.declared.scan.Front.{Front}
 use Rattle.ir_lex.specs.declared.scan.Front.TheVariants.{Space, Comment, Begins, Wrong}
@@ -18,7 +18,6 @@ abbrev pub prepend : List Token → Option (List Token) → Option (List Token)
 prepend tokens None = None
 prepend tokens (Some more) = Some (tokens ++ more)
 
--- 102, for there are no tokens, or memory ran out
+-- if a fault, then 102, for there are no tokens
 abbrev pub IsBadToken : ℕ → Option (List Token) → Refused → Type 0
-IsBadToken at tokens faults.Memory = Unit {0}
-IsBadToken at tokens (faults.Fault number found_at) = (number ≡ 102) × (found_at ≡ at) × (tokens ≡ None)
+IsBadToken at tokens fault = IfBroken (λ broken. (broken.number ≡ 102) × (broken.line ≡ at) × (tokens ≡ None)) fault

@@ -138,7 +138,11 @@ fn tokens_of(alloc: Global, line: &[u8], number: u32) -> Result<Vec<Token>, Refu
     }
 }
 
-/// The tokens of a line without its line end: 101 or 102 where it has none.
+/// The tokens of a line without its line end; a blank one has none.
+///
+/// # Errors
+///
+/// 101 where the line is no UTF-8, else 102 where some of its bytes are no token; or memory was refused.
 pub fn lex(alloc: Global, line: &[u8], number: u32) -> Result<Vec<Token>, Refused>
     ensures found { IfOk result (λ v. IsUtf8 line.now × (tokens_of line.now ≡ Some v.items)) }
     ensures each { IfOk result (λ v. All (IsTokenOf line.now) v.items) }

@@ -16,7 +16,7 @@ use Rattle.ir_reader.specs.Counting.{IsSmall, counts_of, counts_with, are_counts
 use Rattle.ir_reader.specs.Limits.{is_place_within}
 use Rattle.ir_reader.specs.Scoping.{repeats, scope_with}
 use Rattle.ir_reader.specs.Draft.{placed}
-use Rattle.ir_reader.specs.Tracking.{IsTracked, OrMemory, judged_reader, judged_place, FailsAt}
+use Rattle.ir_reader.specs.Tracking.{IsTracked, Answered, judged_reader, judged_place, FailsAt}
 use Rattle.ir_reader.specs.Reading.{start, defines_again, judged, judged_if_placed, with_item}
 use Rattle.ir_reader.proofs.Follows.{Follows, placed_follows}
 
@@ -106,7 +106,7 @@ judged_put r e c s at line is_new out tracked counted news scoped put answered =
     (λ h. (and_parts line.is_within_limits (is_within_limits e) h).1)
     (news ∙ ap not (repeats-tracked r line.item tracked)) (with_item-placed r.draft e at line (sym put)) answered
 
-pub or_memory : (r out : Result Reader Refused) → r ≡ out → OrMemory r out
+pub or_memory : (r out : Result Reader Refused) → r ≡ out → Answered r out
 or_memory (Err faults.Memory) out h = tt
 or_memory (Err (faults.Fault number at)) out h = sym h
 or_memory (Ok r) out h = sym h
@@ -122,7 +122,7 @@ place_judged r (Some e) c s at line is_new out tracked counted news scoped put a
 
 pub put_of : (r : Reader) (c : Counts) (s : Scope) (at : ℕ) (line : Line) (is_new : Bool) (out : Result Reader Refused)
     → IsTracked r → c ≡ counts_with r.counts line.item → is_new ≡ not (repeats r.scope line.item) → (IsTrue is_new → s ≡ scope_with r.scope line.item)
-    → OrMemory out (judged_place at (placed r.draft at line.item) line.is_within_limits is_new c s) → IsPut r at line out
+    → Answered out (judged_place at (placed r.draft at line.item) line.is_within_limits is_new c s) → IsPut r at line out
 put_of r c s at line is_new (Err faults.Memory) tracked counted news scoped h = record { tracked = tt; read = tt; fault = tt }
 put_of r c s at line is_new (Err (faults.Fault number found_at)) tracked counted news scoped h = place_judged r (placed r.draft at line.item) c s at line is_new (Err (faults.Fault number found_at)) tracked counted news scoped refl (sym h)
 put_of r c s at line is_new (Ok e) tracked counted news scoped h = place_judged r (placed r.draft at line.item) c s at line is_new (Ok e) tracked counted news scoped refl (sym h)

@@ -1,9 +1,8 @@
 -- The place of a fault.
 use Rattle.std.specs.Prelude.{ℕ, ◌≤◌}
 use Rattle.refusal.specs.declared.refused.Refused.{Refused}
-use Rattle.refusal.specs.declared.refused.Refused.TheVariants as faults
+use Rattle.refusal.specs.Refusals.{IfBroken}
 
--- the fault is on one of this many lines, or memory was refused
+-- if a fault, then on one of this many lines
 abbrev pub IsOnLineOf : ℕ → Refused → Type 0
-IsOnLineOf count faults.Memory = Unit {0}
-IsOnLineOf count (faults.Fault number line) = (1 ≤ line) × (line ≤ count)
+IsOnLineOf count fault = IfBroken (λ broken. (1 ≤ broken.line) × (broken.line ≤ count)) fault

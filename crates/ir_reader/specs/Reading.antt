@@ -2,7 +2,7 @@
 use Rattle.std.specs.Prelude.{◌≡◌, ◌<◌, ◌≤◌, ℕ, ◌+◌, ◌-◌, min, Bool, true, ◌&&◌, ◌||◌, is_some, if◌then◌else◌}
 use Rattle.std.specs.Prelude.{List, [], ◌∷◌, length, Option, Some, None, Result, Ok, Err, IsUtf8}
 use Rattle.refusal.specs.declared.refused.Refused.{Refused}
-use Rattle.refusal.specs.declared.refused.Refused.TheVariants as faults
+use Rattle.refusal.specs.Refusals.{IfBroken}
 use Rattle.ir_reader.specs.declared.item.item.Item.{Item}
 use Rattle.ir_reader.specs.declared.item.line.Line.{Line}
 use Rattle.ir_reader.specs.item.Lines.{line_of, IsLineFault}
@@ -81,7 +81,6 @@ pub data Answers (text : List ℕ) : Result Module (ℕ × ℕ) → Type 0 where
       → ended d.whole d.place (length (lines_of text)) ≡ out → Answers text out
   Unread : (number at : ℕ) → Reads start 1 1048576 (lines_of text) (Err (number, at)) → Answers text (Err (number, at))
 
--- the fault is the first of the text, or memory was refused
+-- if a fault, then the first of the text
 abbrev pub IsFaultOfText : List ℕ → Refused → Type 0
-IsFaultOfText text faults.Memory = Unit {0}
-IsFaultOfText text (faults.Fault number line) = Answers text (Err (number, line))
+IsFaultOfText text fault = IfBroken (λ broken. Answers text (Err (broken.number, broken.line))) fault

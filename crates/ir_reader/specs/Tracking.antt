@@ -2,6 +2,7 @@
 use Rattle.std.specs.Prelude.{◌≡◌, ℕ, min, Bool, ◌&&◌, is_some, if◌then◌else◌, List, [], Option, Some, None, Result, Ok, Err}
 use Rattle.refusal.specs.declared.refused.Refused.{Refused}
 use Rattle.refusal.specs.declared.refused.Refused.TheVariants as faults
+use Rattle.refusal.specs.Refusals.{IfBroken}
 use Rattle.syntax.specs.declared.module.Module.{Module}
 use Rattle.ir_reader.specs.declared.item.line.Line.{Line}
 use Rattle.ir_reader.specs.declared.draft.Draft.{Draft}
@@ -39,38 +40,33 @@ abbrev pub judged_place : ℕ → Option Draft → Bool → Bool → Counts → 
 judged_place at None is_within is_new c s = Err (faults.Fault 103 at)
 judged_place at (Some e) is_within is_new c s = judged_reader at is_within is_new (record { draft = e; counts = c; scope = s })
 
--- this result, or memory was refused
-abbrev pub OrMemory : Result Reader Refused → Result Reader Refused → Type 0
-OrMemory (Err faults.Memory) out = Unit {0}
-OrMemory (Err (faults.Fault number at)) out = out ≡ Err (faults.Fault number at)
-OrMemory (Ok r) out = out ≡ Ok r
+-- this result; if a fault, then this one
+abbrev pub Answered : Result Reader Refused → Result Reader Refused → Type 0
+Answered (Err fault) out = IfBroken (λ broken. out ≡ Err (faults.Fault broken.number broken.line)) fault
+Answered (Ok r) out = out ≡ Ok r
 
--- the fault is what one more item meets, on this line, or memory was refused
+-- if a fault, then what one more item meets, on this line
 abbrev pub FailsAt : ℕ → Result Draft ℕ → Refused → Type 0
-FailsAt at out faults.Memory = Unit {0}
-FailsAt at out (faults.Fault number line) = (line ≡ at) × (out ≡ Err number)
+FailsAt at out fault = IfBroken (λ broken. (broken.line ≡ at) × (out ≡ Err broken.number)) fault
 
 -- and what one more line meets
 abbrev pub FaultSteps : Draft → ℕ → List ℕ → Refused → Type 0
-FaultSteps d at line faults.Memory = Unit {0}
-FaultSteps d at line (faults.Fault number found_at) = (found_at ≡ at) × Steps d at line (Err number)
+FaultSteps d at line fault = IfBroken (λ broken. (broken.line ≡ at) × Steps d at line (Err broken.number)) fault
 
 -- and where the text grows too long with the line
 abbrev pub FaultOverlong : Draft → ℕ → List ℕ → Refused → Type 0
-FaultOverlong d at line faults.Memory = Unit {0}
-FaultOverlong d at line (faults.Fault number found_at) = (found_at ≡ at) × OverlongFault d at line number
+FaultOverlong d at line fault = IfBroken (λ broken. (broken.line ≡ at) × OverlongFault d at line broken.number) fault
 
 -- and with its item
 abbrev pub FaultTooLate : Draft → ℕ → Line → Refused → Type 0
-FaultTooLate d at line faults.Memory = Unit {0}
-FaultTooLate d at line (faults.Fault number found_at) = (found_at ≡ at) × (number ≡ (if is_some (placed d at line.item) then 104 else 103))
+FaultTooLate d at line fault =
+    IfBroken (λ broken. (broken.line ≡ at) × (broken.number ≡ (if is_some (placed d at line.item) then 104 else 103))) fault
 
 -- the lower of a line's own fault and 104
 abbrev pub or_too_late : Refused → Refused
 or_too_late faults.Memory = faults.Memory
 or_too_late (faults.Fault number at) = faults.Fault (min number 104) at
 
--- the fault is that of the text's end, or memory was refused
+-- if a fault, then that of the text's end
 abbrev pub FaultEnded : Result Module (ℕ × ℕ) → Refused → Type 0
-FaultEnded out faults.Memory = Unit {0}
-FaultEnded out (faults.Fault number line) = out ≡ Err (number, line)
+FaultEnded out fault = IfBroken (λ broken. out ≡ Err (broken.number, broken.line)) fault

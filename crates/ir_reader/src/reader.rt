@@ -7,7 +7,7 @@ ghost use Rattle.ir_reader.specs.Faults.{IsOnLineOf};
 ghost use Rattle.ir_reader.specs.Kept.{IsKeptModule};
 ghost use Rattle.ir_reader.specs.Lines.{lines_of};
 ghost use Rattle.ir_reader.specs.Counting.{counts_of};
-ghost use Rattle.ir_reader.specs.Tracking.{IsTracked, OrMemory, judged_reader, judged_place, FailsAt, FaultSteps, FaultOverlong, FaultTooLate};
+ghost use Rattle.ir_reader.specs.Tracking.{IsTracked, Answered, judged_reader, judged_place, FailsAt, FaultSteps, FaultOverlong, FaultTooLate};
 ghost use Rattle.ir_reader.specs.Tracking.{FaultEnded, or_too_late};
 ghost use Rattle.ir_reader.specs.Reading.{start, with_item, Steps, ended, Answers, IsFaultOfText};
 
@@ -77,7 +77,7 @@ fn placed(
     line: Line,
 ) -> Result<Reader, Refused>
     requires { (e : draft_type.Draft) → Some e ≡ placed draft number line.item → counts ≡ counts_of e }
-    ensures { OrMemory result (judged_place number (placed draft number line.item) line.is_within_limits is_new counts scope) }
+    ensures { Answered result (judged_place number (placed draft number line.item) line.is_within_limits is_new counts scope) }
 {
     let Line {
         item,

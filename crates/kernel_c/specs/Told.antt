@@ -2,7 +2,6 @@
 use Rattle.std.specs.Prelude.{◌≡◌, ◌≢◌, ◌⊎◌, ℕ, ◌^◌, ◌-◌, ◌≤◌, List, length, map, min, sum, Some, None, ℤ}
 use Rattle.program.specs.declared.function.Global.{Global}
 use Rattle.program.specs.declared.function.Program.{Program}
-use Rattle.refusal.specs.declared.refused.Refused.TheVariants.{Fault}
 use Rattle.verifier.specs.Accepted.{IsProgramOf, IsRefused}
 use Rattle.verifier.specs.Budgets.{IsDepthOf, budget_of}
 use Rattle.store.specs.Cells.{NamedCells, zeros}
@@ -73,7 +72,7 @@ pub record Accepts (text : List ℕ) (verdict : Verdict) : Type 0 where
   pub cells : verdict.cells ≡ cells_in program
 
 abbrev pub Refuses : List ℕ → ℕ → ℕ → Type 0
-Refuses text rule line = IsRefused text (Fault rule line)
+Refuses text rule line = IsRefused text (record { line = line; number = rule })
 
 abbrev pub BreaksRule : List ℕ → Type 0
 BreaksRule text = (rule line : ℕ) × Refuses text rule line

@@ -1,6 +1,6 @@
 //! The verdict on a text, and the call that answers it alone.
 
-ghost use Rattle.std.specs.Prelude.{◌≡◌, ◌⊎◌, List, ℕ, true};
+ghost use Rattle.std.specs.Prelude.{◌≡◌, ◌⊎◌, List, Option, ℕ};
 ghost use Rattle.refusal.specs.declared.refused.Refused.TheVariants.{Fault};
 ghost use Rattle.kernel_c.specs.Told.{Accepts, IsRejection, IsVerdictStatus, Refuses, cells_in, done, out_of_memory, refused};
 ghost use Rattle.verifier.specs.Accepted.{IsUnverified};
@@ -46,12 +46,12 @@ fn refusal(why: Refused) -> Verdict
 
 /// The verdict on a text that is not accepted.
 pub fn rejection(why: Unverified) -> Verdict
-    ensures refused { (text : List ℕ) → IsUnverified text true why → result.status ≡ refused → Refuses text result.rule result.line }
+    ensures refused { (text : List ℕ) (effort : Option ℕ) → IsUnverified text effort why → result.status ≡ refused → Refuses text result.rule result.line }
     ensures statuses { IsRejection result.status }
 {
     match why {
         Unverified::Refused(refused) => refusal(refused),
-        Unverified::OutOfEffort => plain_verdict(OUT_OF_EFFORT),
+        Unverified::OutOfEffort { .. } => plain_verdict(OUT_OF_EFFORT),
     }
 }
 

@@ -1,6 +1,6 @@
 //! Where the verifier's tables get their random numbers from: from the host.
 
-ghost use Rattle.std.specs.Prelude.{IfErr, IfOk, true};
+ghost use Rattle.std.specs.Prelude.{IfErr, IfOk, Some};
 ghost use Rattle.verifier.specs.Accepted.{IsProgramOf, IsUnverified};
 
 use std::alloc::Global;
@@ -35,7 +35,7 @@ pub fn verify_seeded(
     effort: u64,
 ) -> Result<Verified, Unverified>
     ensures accepted { IfOk result (IsProgramOf text.now) }
-    ensures refused { IfErr result (IsUnverified text.now true) }
+    ensures refused { IfErr result (IsUnverified text.now (Some effort)) }
 {
     match RandomState::new(seed) {
         Ok(state) => verify_within(alloc, state, text, &Effort::of(effort)),

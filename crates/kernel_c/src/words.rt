@@ -1,6 +1,6 @@
 //! Reasons in words.
 
-ghost use Rattle.std.specs.Prelude.{◌≡◌, ◌≢◌, List, ℕ, IfOk, true};
+ghost use Rattle.std.specs.Prelude.{◌≡◌, ◌≢◌, List, Option, ℕ, IfOk};
 ghost use Rattle.explain.specs.Verdict.{IsVerdictOn};
 ghost use Rattle.kernel_c.specs.Told.{BreaksRule, HasProgram, done, out_of_memory, refused};
 ghost use Rattle.kernel_c.specs.Words.{HasNone, HasWords, IsExplainStatus, IsExplained, IsRuleStatus, StandsIn};
@@ -47,8 +47,8 @@ pub extern "C" fn tapirvm_rule(
 
 /// The status of an explanation.
 fn status_of(explanation: &Explanation) -> u32
-    ensures accepted { (text : List ℕ) → IsVerdictOn text true explanation.now → result ≡ done → HasProgram text }
-    ensures refused { (text : List ℕ) → IsVerdictOn text true explanation.now → result ≡ refused → BreaksRule text }
+    ensures accepted { (text : List ℕ) (effort : Option ℕ) → IsVerdictOn text effort explanation.now → result ≡ done → HasProgram text }
+    ensures refused { (text : List ℕ) (effort : Option ℕ) → IsVerdictOn text effort explanation.now → result ≡ refused → BreaksRule text }
     ensures statuses { IsExplained result }
     ensures given { result ≢ out_of_memory }
 {

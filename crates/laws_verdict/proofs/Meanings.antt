@@ -10,8 +10,7 @@ use Rattle.program.specs.declared.instruction.Argument.{Argument}
 use Rattle.program.specs.declared.instruction.Argument.TheVariants as argument
 use Rattle.program.specs.declared.instruction.Instruction.TheVariants as instruction
 use Rattle.program.specs.declared.function.Program.{Program}
-use Rattle.refusal.specs.declared.refused.Refused.{Refused}
-use Rattle.refusal.specs.declared.refused.Refused.TheVariants.{Fault}
+use Rattle.refusal.specs.declared.broken.Broken.{Broken}
 use Rattle.syntax.specs.declared.instruction.Argument.{Argument as ArgumentText}
 use Rattle.syntax.specs.declared.instruction.Instruction.{Instruction as InstructionText}
 use Rattle.syntax.specs.declared.instruction.Instruction.TheVariants as text
@@ -22,7 +21,7 @@ use Rattle.syntax.specs.declared.module.Module.{Module}
 use Rattle.syntax.specs.declared.module.ResultType.{ResultType}
 use Rattle.types.specs.declared.names.form.AnnotationPlace.TheVariants.{Body}
 use Rattle.types.specs.names.Address.{Items}
-use Rattle.types.specs.names.Fault.{all_of, and_then, both_of, made_of, unless_of}
+use Rattle.types.specs.names.Fault.{all_of, and_then, both_of, breaks, made_of, unless_of}
 use Rattle.types.specs.names.Form.{inequalities_of}
 use Rattle.types.specs.names.Item.{items_of}
 use Rattle.types.specs.names.Layout.{layout_of}
@@ -77,9 +76,9 @@ module _ (whole : Module) (a b : Named) (one : IsNamedIn whole a) (other : IsNam
 module _ (items : Items) (texts : List FunctionText) (a b : Named) (same : (id : ℕ) (arguments : List Argument) → is_any_named (slice_get a id) arguments ≡ is_any_named (slice_get b id) arguments) where
   passed_same : (caller line : ℕ) (id : FunctionId) (arguments : List Argument) → passed_call a caller line id arguments ≡ passed_call b caller line id arguments
   passed_same caller line id arguments = λ i.
-      and_then (unless_of (are_distinct arguments) (Fault 204 line)) (λ _.
-      and_then (unless_of (not (same id.0 arguments i)) (Fault 204 line)) (λ _.
-      made_of (λ _. record { callee = id; arguments = arguments }) (unless_of (nat_le id.0 caller) (Fault 205 line))))
+      and_then (unless_of (are_distinct arguments) (breaks 204 line)) (λ _.
+      and_then (unless_of (not (same id.0 arguments i)) (breaks 204 line)) (λ _.
+      made_of (λ _. record { callee = id; arguments = arguments }) (unless_of (nat_le id.0 caller) (breaks 205 line))))
 
   found_same : (scope : Scope) (caller line : ℕ) (has_result : Bool) (id : FunctionId) (callee : Option FunctionText) (arguments : List ArgumentText) →
       found_call items a scope caller line has_result id callee arguments ≡ found_call items b scope caller line has_result id callee arguments
@@ -87,7 +86,7 @@ module _ (items : Items) (texts : List FunctionText) (a b : Named) (same : (id :
   found_same scope caller line has_result id (Some callee) arguments = λ i.
       and_then (fitting_arguments items scope line has_result callee arguments) (λ xs. passed_same caller line id xs i)
 
-  called_same : (scope : Scope) (caller line : ℕ) (has_result : Bool) (callee : Result FunctionId Refused) (arguments : List ArgumentText) →
+  called_same : (scope : Scope) (caller line : ℕ) (has_result : Bool) (callee : Result FunctionId Broken) (arguments : List ArgumentText) →
       called items texts a scope caller line has_result callee arguments ≡ called items texts b scope caller line has_result callee arguments
   called_same scope caller line has_result (Err fault) arguments = refl
   called_same scope caller line has_result (Ok id) arguments = found_same scope caller line has_result id (slice_get texts id.0) arguments
@@ -137,5 +136,5 @@ program_same whole items a b same = λ i.
     made_of (λ p. program_with whole p.0 p.1)
     (both_of (main_of items whole.functions) (all_of (λ place of. function_same items whole.functions a b same place of i) whole.functions))
 
-pub one_meaning : (whole : Module) (m n : Result Program Refused) → Means whole m → Means whole n → m ≡ n
+pub one_meaning : (whole : Module) (m n : Result Program Broken) → Means whole m → Means whole n → m ≡ n
 one_meaning whole m n (a, one, is) (b, other, means) = sym is ∙ program_same whole (items_of whole) a b (rows_same whole a b one other) ∙ means

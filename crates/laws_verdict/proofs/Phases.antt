@@ -3,8 +3,7 @@ use Rattle.std.proofs.Common.{◌≡◌, ◌⊎◌, ℕ, inl, inr, List, Option,
 use Rattle.std.specs.Prelude.{IsSome, IsNone}
 use Rattle.std.specs.List.{All, Any}
 use Rattle.refusal.specs.declared.broken.Broken.{Broken}
-use Rattle.refusal.specs.declared.refused.Refused.TheVariants.{Fault}
-use Rattle.refusal.specs.Earliest.{NamesEarliest}
+use Rattle.refusal.specs.Earliest.{IsFirst}
 use Rattle.program.specs.declared.function.Block.{Block}
 use Rattle.program.specs.declared.function.Program.{Program}
 use Rattle.program.specs.declared.instruction.Ending.{Ending}
@@ -18,24 +17,20 @@ use Rattle.definedness.specs.Definedness.{IsDefinednessBroken}
 use Rattle.ranges.specs.Rules.{IsRangeBroken, AreRangesRight}
 use Rattle.footprints.specs.Rules.{IsZoneBroken, AreZonesRightBy}
 use Rattle.cost_table.specs.Rules.{IsCostBroken}
-use Rattle.verifier.specs.Accepted.{AreTasksOf, AreZonesRight, NamesZoneFault, IsRight, IsFaulty}
+use Rattle.verifier.specs.Accepted.{AreTasksOf, AreZonesRight, IsFirstOfZones, IsRight, IsFaulty}
 use Rattle.laws_phases.proofs.zones.Tables.{one_table}
-
--- a number and a line
-abbrev pub IsSameFault : ℕ → ℕ → ℕ → ℕ → Type 0
-IsSameFault number line number' line' = (number ≡ number') × (line ≡ line')
 
 -- ---- of one phase
 
-broken_at : ℕ → ℕ → Broken
-broken_at number line = record { line = line; number = number }
+pub same_broken : (a b : Broken) → a.line ≡ b.line → a.number ≡ b.number → a ≡ b
+same_broken a b lines numbers = λ i. record { line = lines i; number = numbers i }
 
-pub one_earliest : (P : Broken → Type 0) (number line number' line' : ℕ) → NamesEarliest P (Fault number line) → NamesEarliest P (Fault number' line') → IsSameFault number line number' line'
-one_earliest P number line number' line' h k =
-    let to = h.1 (record { line = line'; number = number' }) k.0 in
-    let back = k.1 (record { line = line; number = number }) h.0 in
-    let lines : line ≡ line' = omega (arith, to.0, back.0) in
-    (omega (arith, to.1 lines, back.1 (sym lines)), lines)
+pub one_earliest : (P : Broken → Type 0) (a b : Broken) → IsFirst P a → IsFirst P b → a ≡ b
+one_earliest P a b h k =
+    let to = h.1 b k.0 in
+    let back = k.1 a h.0 in
+    let lines : a.line ≡ b.line = omega (arith, to.0, back.0) in
+    same_broken a b lines (omega (arith, to.1 lines, back.1 (sym lines)))
 
 -- a rule that holds of each element is broken by none
 pub all_but_any : {X : Type 0} (P Q : X → Type 0) (xs : List X) → ((x : X) → P x → Q x → ⊥) → All P xs → Any Q xs → ⊥
@@ -67,51 +62,42 @@ one_regions program a b h k =
     let same = one_table (graphs_of program) a.functions b.functions h k in
     λ i. record { functions = same i }
 
-pub zones_right : (program : Program) (number line : ℕ) → AreZonesRight program → NamesZoneFault program (Fault number line) → ⊥
-zones_right program number line (a, one, right) (b, other, fault) =
-    subst (λ (r : Regions). AreZonesRightBy program r) (one_regions program a b one other) right (record { line = line; number = number }) fault.0
+pub zones_right : (program : Program) (broken : Broken) → AreZonesRight program → IsFirstOfZones program broken → ⊥
+zones_right program broken (a, one, right) (b, other, fault) =
+    subst (λ (r : Regions). AreZonesRightBy program r) (one_regions program a b one other) right broken fault.0
 
-pub one_zone_fault : (program : Program) (number line number' line' : ℕ) → NamesZoneFault program (Fault number line) → NamesZoneFault program (Fault number' line') → IsSameFault number line number' line'
-one_zone_fault program number line number' line' (a, one, h) (b, other, k) =
-    one_earliest (IsZoneBroken program b) number line number' line'
-    (subst (λ (r : Regions). NamesEarliest (IsZoneBroken program r) (Fault number line)) (one_regions program a b one other) h) k
+pub one_zone_fault : (program : Program) (broken broken' : Broken) → IsFirstOfZones program broken → IsFirstOfZones program broken' → broken ≡ broken'
+one_zone_fault program broken broken' (a, one, h) (b, other, k) =
+    one_earliest (IsZoneBroken program b) broken broken'
+    (subst (λ (r : Regions). IsFirst (IsZoneBroken program r) broken) (one_regions program a b one other) h) k
 
 -- ---- of all phases
 
-pub right_or_faulty : (program : Program) (number line : ℕ) → IsRight program → IsFaulty program (Fault number line) → ⊥
-right_or_faulty program number line right (inl h) = graph_right program _ right.graph h.0
-right_or_faulty program number line right (inr (_, inl h)) = regions_right program _ right.regions h.0
-right_or_faulty program number line right (inr (_, inr (_, inl h))) = right.definedness _ h.0
-right_or_faulty program number line right (inr (_, inr (_, inr (_, inl h)))) = right.ranges _ h.0
-right_or_faulty program number line right (inr (_, inr (_, inr (_, inr (_, inl h))))) = zones_right program number line right.zones h
-right_or_faulty program number line right (inr (_, inr (_, inr (_, inr (_, inr (_, h)))))) = right.costs _ h.0
+pub right_or_faulty : (program : Program) (broken : Broken) → IsRight program → IsFaulty program broken → ⊥
+right_or_faulty program broken right (inl h) = graph_right program _ right.graph h.0
+right_or_faulty program broken right (inr (_, inl h)) = regions_right program _ right.regions h.0
+right_or_faulty program broken right (inr (_, inr (_, inl h))) = right.definedness _ h.0
+right_or_faulty program broken right (inr (_, inr (_, inr (_, inl h)))) = right.ranges _ h.0
+right_or_faulty program broken right (inr (_, inr (_, inr (_, inr (_, inl h))))) = zones_right program broken right.zones h
+right_or_faulty program broken right (inr (_, inr (_, inr (_, inr (_, inr (_, h)))))) = right.costs _ h.0
 
-module _ (program : Program) (number line number' line' : ℕ) where
-  abbrev Same : Type 0
-  Same = IsSameFault number line number' line'
-
-  abbrev Earliest : (Broken → Type 0) → Type 0
-  Earliest P = NamesEarliest P (Fault number line)
-
-  abbrev Earliest' : (Broken → Type 0) → Type 0
-  Earliest' P = NamesEarliest P (Fault number' line')
-
+module _ (program : Program) (a b : Broken) where
   -- of a phase and those behind it, which are reached where its rules hold
-  phase : (P : Broken → Type 0) (Right Later Later' : Type 0) → (Right → (b : Broken) → P b → ⊥) → (Later → Later' → Same) → Earliest P ⊎ (Right × Later) → Earliest' P ⊎ (Right × Later') → Same
-  phase P Right Later Later' never later (inl h) (inl k) = one_earliest P number line number' line' h k
+  phase : (P : Broken → Type 0) (Right Later Later' : Type 0) → (Right → (x : Broken) → P x → ⊥) → (Later → Later' → a ≡ b) → IsFirst P a ⊎ (Right × Later) → IsFirst P b ⊎ (Right × Later') → a ≡ b
+  phase P Right Later Later' never later (inl h) (inl k) = one_earliest P a b h k
   phase P Right Later Later' never later (inl h) (inr k) = absurd (never k.0 _ h.0)
   phase P Right Later Later' never later (inr h) (inl k) = absurd (never h.0 _ k.0)
   phase P Right Later Later' never later (inr h) (inr k) = later h.1 k.1
 
-  last : NamesZoneFault program (Fault number line) ⊎ (AreZonesRight program × Earliest (IsCostBroken program)) → NamesZoneFault program (Fault number' line') ⊎ (AreZonesRight program × Earliest' (IsCostBroken program)) → Same
-  last (inl h) (inl k) = one_zone_fault program number line number' line' h k
-  last (inl h) (inr k) = absurd (zones_right program number line k.0 h)
-  last (inr h) (inl k) = absurd (zones_right program number' line' h.0 k)
-  last (inr h) (inr k) = one_earliest (IsCostBroken program) number line number' line' h.1 k.1
+  last : IsFirstOfZones program a ⊎ (AreZonesRight program × IsFirst (IsCostBroken program) a) → IsFirstOfZones program b ⊎ (AreZonesRight program × IsFirst (IsCostBroken program) b) → a ≡ b
+  last (inl h) (inl k) = one_zone_fault program a b h k
+  last (inl h) (inr k) = absurd (zones_right program a k.0 h)
+  last (inr h) (inl k) = absurd (zones_right program b h.0 k)
+  last (inr h) (inr k) = one_earliest (IsCostBroken program) a b h.1 k.1
 
-  pub one_fault : IsFaulty program (Fault number line) → IsFaulty program (Fault number' line') → Same
+  pub one_fault : IsFaulty program a → IsFaulty program b → a ≡ b
   one_fault =
-      phase (IsGraphBroken program) (IsGraphRight program) _ _ (λ right b. graph_right program b right)
-      (phase (IsTaskBroken program) (AreRegionsRight program) _ _ (λ right b. regions_right program b right)
+      phase (IsGraphBroken program) (IsGraphRight program) _ _ (λ right x. graph_right program x right)
+      (phase (IsTaskBroken program) (AreRegionsRight program) _ _ (λ right x. regions_right program x right)
       (phase (IsDefinednessBroken program) _ _ _ (λ right. right)
       (phase (IsRangeBroken program) (AreRangesRight program) _ _ (λ right. right) last)))

@@ -1,7 +1,6 @@
--- A text has one verdict, want of memory aside.
+-- A text has one verdict.
 use Rattle.std.proofs.Common.{◌≡◌, ◌⊎◌, ◌∙◌, ℕ, List, Result, Ok, Err, inl, inr, sym, ap, subst}
-use Rattle.refusal.specs.declared.refused.Refused.{Refused}
-use Rattle.refusal.specs.declared.refused.Refused.TheVariants.{Fault}
+use Rattle.refusal.specs.declared.broken.Broken.{Broken}
 use Rattle.syntax.specs.declared.module.Module.{Module}
 use Rattle.program.specs.declared.function.Program.{Program}
 use Rattle.ir_reader.specs.Reading.{Answers}
@@ -12,7 +11,7 @@ use Rattle.types.specs.Meaning.{Means}
 use Rattle.verifier.specs.Accepted.{IsProgramOf, IsFaulty, IsRefused}
 use Rattle.laws_verdict.specs.Verdicts.{VerdictsAreOne}
 use Rattle.laws_verdict.proofs.Meanings.{one_meaning}
-use Rattle.laws_verdict.proofs.Phases.{IsSameFault, right_or_faulty, one_fault}
+use Rattle.laws_verdict.proofs.Phases.{same_broken, right_or_faulty, one_fault}
 
 -- ---- what two readings give
 
@@ -27,12 +26,12 @@ same_program a b s t e h k =
     let same = one_meaning b (Ok s.program) (Ok t.program) (subst (λ (m : Module). Means m (Ok s.program)) e h) k in
     cc
 
-never_faulty : (a b : Module) (s : Typed) (fault : Refused) → a ≡ b → MeansTyped a (Ok s) → MeansTyped b (Err fault) → ⊥
+never_faulty : (a b : Module) (s : Typed) (fault : Broken) → a ≡ b → MeansTyped a (Ok s) → MeansTyped b (Err fault) → ⊥
 never_faulty a b s fault e h k =
     let same = one_meaning b (Ok s.program) (Err fault) (subst (λ (m : Module). Means m (Ok s.program)) e h) k in
     cc
 
-same_fault : (a b : Module) (f g : Refused) → a ≡ b → MeansTyped a (Err f) → MeansTyped b (Err g) → f ≡ g
+same_fault : (a b : Module) (f g : Broken) → a ≡ b → MeansTyped a (Err f) → MeansTyped b (Err g) → f ≡ g
 same_fault a b f g e h k =
     let same = one_meaning b (Err f) (Err g) (subst (λ (m : Module). Means m (Err f)) e h) k in
     cc
@@ -40,40 +39,37 @@ same_fault a b f g e h k =
 pair : (f g : ℕ × ℕ) → (let r : Result Module (ℕ × ℕ) = Err f in r) ≡ Err g → f ≡ g
 pair f g e = cc
 
-parts : (number line number' line' : ℕ) → Fault number line ≡ Fault number' line' → IsSameFault number line number' line'
-parts number line number' line' e = (cc, cc)
-
 -- ---- the law
 
 one_program : (text : List ℕ) (p q : Program) → IsProgramOf text p → IsProgramOf text q → p ≡ q
 one_program text p q (a, read, s, means, is, right) (b, reads, t, means', is', right') =
     sym is ∙ same_program a b s t (same_module text a b read reads) means means' ∙ is'
 
-fault_after : (a b : Module) (number line number' line' : ℕ) → a ≡ b →
-    MeansTyped a (Err (Fault number line)) ⊎ ((s : Typed) × MeansTyped a (Ok s) × IsFaulty s.program (Fault number line)) →
-    MeansTyped b (Err (Fault number' line')) ⊎ ((t : Typed) × MeansTyped b (Ok t) × IsFaulty t.program (Fault number' line')) →
-    IsSameFault number line number' line'
-fault_after a b number line number' line' e (inl h) (inl k) = parts number line number' line' (same_fault a b (Fault number line) (Fault number' line') e h k)
-fault_after a b number line number' line' e (inl h) (inr (t, k, _)) = absurd (never_faulty b a t (Fault number line) (sym e) k h)
-fault_after a b number line number' line' e (inr (s, h, _)) (inl k) = absurd (never_faulty a b s (Fault number' line') e h k)
-fault_after a b number line number' line' e (inr (s, h, faulty)) (inr (t, k, faulty')) =
-    one_fault t.program number line number' line'
-    (subst (λ (p : Program). IsFaulty p (Fault number line)) (same_program a b s t e h k) faulty) faulty'
+fault_after : (a b : Module) (f g : Broken) → a ≡ b →
+    MeansTyped a (Err f) ⊎ ((s : Typed) × MeansTyped a (Ok s) × IsFaulty s.program f) →
+    MeansTyped b (Err g) ⊎ ((t : Typed) × MeansTyped b (Ok t) × IsFaulty t.program g) →
+    f ≡ g
+fault_after a b f g e (inl h) (inl k) = same_fault a b f g e h k
+fault_after a b f g e (inl h) (inr (t, k, _)) = absurd (never_faulty b a t f (sym e) k h)
+fault_after a b f g e (inr (s, h, _)) (inl k) = absurd (never_faulty a b s g e h k)
+fault_after a b f g e (inr (s, h, faulty)) (inr (t, k, faulty')) =
+    one_fault t.program f g
+    (subst (λ (p : Program). IsFaulty p f) (same_program a b s t e h k) faulty) faulty'
 
-one_refusal : (text : List ℕ) (number line number' line' : ℕ) → IsRefused text (Fault number line) → IsRefused text (Fault number' line') → IsSameFault number line number' line'
-one_refusal text number line number' line' (inl h) (inl k) =
-    let e = pair (number, line) (number', line') (one_answer text (Err (number, line)) (Err (number', line')) h k) in
-    (ap (λ (f : ℕ × ℕ). f.0) e, ap (λ (f : ℕ × ℕ). f.1) e)
-one_refusal text number line number' line' (inl h) (inr (b, reads, _)) = absurd (never_both text b (number, line) reads h)
-one_refusal text number line number' line' (inr (a, read, _)) (inl k) = absurd (never_both text a (number', line') read k)
-one_refusal text number line number' line' (inr (a, read, h)) (inr (b, reads, k)) = fault_after a b number line number' line' (same_module text a b read reads) h k
+one_refusal : (text : List ℕ) (f g : Broken) → IsRefused text f → IsRefused text g → f ≡ g
+one_refusal text f g (inl h) (inl k) =
+    let e = pair (f.number, f.line) (g.number, g.line) (one_answer text (Err (f.number, f.line)) (Err (g.number, g.line)) h k) in
+    same_broken f g (ap (λ (x : ℕ × ℕ). x.1) e) (ap (λ (x : ℕ × ℕ). x.0) e)
+one_refusal text f g (inl h) (inr (b, reads, _)) = absurd (never_both text b (f.number, f.line) reads h)
+one_refusal text f g (inr (a, read, _)) (inl k) = absurd (never_both text a (g.number, g.line) read k)
+one_refusal text f g (inr (a, read, h)) (inr (b, reads, k)) = fault_after a b f g (same_module text a b read reads) h k
 
-not_refused : (text : List ℕ) (p : Program) (number line : ℕ) → IsProgramOf text p → IsRefused text (Fault number line) → ⊥
-not_refused text p number line (a, read, s, means, is, right) (inl h) = never_both text a (number, line) read h
-not_refused text p number line (a, read, s, means, is, right) (inr (b, reads, inl h)) = never_faulty a b s (Fault number line) (same_module text a b read reads) means h
-not_refused text p number line (a, read, s, means, is, right) (inr (b, reads, inr (t, means', h))) =
-    right_or_faulty p number line right
-    (subst (λ (q : Program). IsFaulty q (Fault number line)) (sym (same_program a b s t (same_module text a b read reads) means means') ∙ is) h)
+not_refused : (text : List ℕ) (p : Program) (f : Broken) → IsProgramOf text p → IsRefused text f → ⊥
+not_refused text p f (a, read, s, means, is, right) (inl h) = never_both text a (f.number, f.line) read h
+not_refused text p f (a, read, s, means, is, right) (inr (b, reads, inl h)) = never_faulty a b s f (same_module text a b read reads) means h
+not_refused text p f (a, read, s, means, is, right) (inr (b, reads, inr (t, means', h))) =
+    right_or_faulty p f right
+    (subst (λ (q : Program). IsFaulty q f) (sym (same_program a b s t (same_module text a b read reads) means means') ∙ is) h)
 
 pub one_verdict : VerdictsAreOne
 one_verdict text = record {

@@ -15,7 +15,7 @@ ghost use Rattle.laws_verdict.specs.Sums.{ModestSumsHaveForms};
 ghost use Rattle.laws_verdict.specs.Verdicts.{VerdictsAreOne};
 ghost use Rattle.laws_verdict.specs.Written.{FormsAreLimited};
 
-/// Want of memory aside, a text has one verdict: the program that it means, or the number and the line of its fault.
+/// A text has one verdict: the program that it means, or the number and the line of its fault.
 pub fn one_verdict()
     ensures { VerdictsAreOne }
 {}

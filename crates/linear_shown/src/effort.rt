@@ -1,23 +1,25 @@
 //! How much searching a caller grants. Nothing is owed for what is counted: what is answered is exact, and what is left says only whether to go on asking.
 
-ghost use Rattle.std.specs.Prelude.{◌≡◌, IsTrue, true, false};
+ghost use Rattle.std.specs.Prelude.{◌≡◌, ◌-◌, IsSome, IsTrue, None, Some};
 
 use std::cell::Cell;
 use std::marker::Model;
 
 /// The effort that is granted to questions of what facts show, in steps: a fact that a search goes past is one of them. Each question counts for some
-/// hundreds, the more the more registers it names. A step takes some nanosecond. Contracts see whether it is bounded.
+/// hundreds, the more the more registers it names. A step takes some nanosecond. Contracts see how many steps are granted, if they are bounded, and
+/// not what is left of them: that stands in a cell.
 #[derive(Drop)]
 pub struct Effort {
-    left: Option<Cell<u64>>,
+    granted: Option<u64>,
+    left: Cell<u64>,
 }
 
 impl Model for Effort {
-    ghost use Rattle.std.specs.Prelude.{Bool, is_some};
+    ghost use Rattle.std.specs.Prelude.{Option, ℕ};
 
-    ghost Value = { Bool };
+    ghost Value = { Option ℕ };
 
-    ghost view = { λ e. is_some e.left };
+    ghost view = { λ e. e.granted };
 }
 
 /// More was asked than the effort that is granted reaches for.
@@ -33,45 +35,51 @@ fn question_steps(registers: usize) -> u64 {
         .saturating_add(500)
 }
 
+/// What is left once these steps are done.
+fn left_after(left: u64, steps: u64) -> u64
+    ensures { result ≡ left - steps }
+{
+    left.saturating_sub(steps)
+}
+
 impl Effort {
     /// As much as it takes.
     pub fn unlimited() -> Effort
-        ensures { result ≡ false }
+        ensures { result ≡ None }
     {
-        Effort { left: None }
+        Effort {
+            granted: None,
+            left: Cell::new(0),
+        }
     }
 
     /// So many steps.
     pub fn of(steps: u64) -> Effort
-        ensures { result ≡ true }
+        ensures { result ≡ Some steps }
     {
         Effort {
-            left: Some(Cell::new(steps)),
+            granted: Some(steps),
+            left: Cell::new(steps),
         }
     }
 
-    /// Whether it ends at all.
-    pub fn is_bounded(&self) -> bool
+    /// How many steps were granted, if they are bounded.
+    pub fn granted(&self) -> Option<u64>
         ensures { result ≡ self.now }
     {
-        self.left.is_some()
+        self.granted
     }
 
     /// Whether nothing is left. Of what is not bounded something is.
     pub fn is_spent(&self) -> bool
-        ensures { IsTrue result → IsTrue self.now }
+        ensures { IsTrue result → IsSome self.now }
     {
-        match &self.left {
-            Some(left) => left.get() == 0,
-            None => false,
-        }
+        self.granted.is_some() && self.left.get() == 0
     }
 
     /// Counts steps.
     pub fn spend(&self, steps: u64) {
-        if let Some(left) = &self.left {
-            left.set(left.get().saturating_sub(steps));
-        }
+        self.left.set(left_after(self.left.get(), steps));
     }
 
     /// Counts a question that names so many registers.

@@ -1,11 +1,11 @@
 -- What a phase says that does not pass a program.
-use Rattle.std.specs.Prelude.{Bool, IsTrue}
+use Rattle.std.specs.Prelude.{◌≡◌, ℕ, Option, Some}
 use Rattle.refusal.specs.declared.broken.Broken.{Broken}
 use Rattle.refusal.specs.Earliest.{NamesEarliest}
 use Rattle.ranges.specs.declared.unverified.Unverified.{Unverified}
 use Rattle.ranges.specs.declared.unverified.Unverified.TheVariants.{Refused, OutOfEffort}
 
--- where these rules are broken it names the earliest of them, or memory was refused, or the effort that was granted is spent, if that is bounded
-abbrev pub JudgesEarliest : Bool → (Broken → Type 0) → Unverified → Type 0
-JudgesEarliest bounded IsBroken (Refused refused) = NamesEarliest IsBroken refused
-JudgesEarliest bounded IsBroken OutOfEffort = IsTrue bounded
+-- where it names one of these rules, that is the earliest that is broken; or it names the effort that was granted, if that is bounded
+abbrev pub JudgesEarliest : Option ℕ → (Broken → Type 0) → Unverified → Type 0
+JudgesEarliest effort IsBroken (Refused refused) = NamesEarliest IsBroken refused
+JudgesEarliest effort IsBroken (OutOfEffort granted) = effort ≡ Some granted

@@ -1,6 +1,6 @@
 //! Why a question is not answered, and why a program is not verified.
 
-ghost use Rattle.std.specs.Prelude.{◌≡◌, ◌⊎◌, IsTrue};
+ghost use Rattle.std.specs.Prelude.{◌≡◌, ◌⊎◌, ℕ, Some};
 ghost use Rattle.refusal.specs.declared.refused.Refused.TheVariants.{Fault, Memory};
 ghost use Rattle.ranges.specs.declared.unverified.Unverified.TheVariants.{Refused as RefusedBy, OutOfEffort as NotJudged};
 
@@ -54,8 +54,8 @@ impl From<Unanswered> for OutOfMemory {
 pub enum Unverified {
     /// It is refused, or memory was.
     Refused(Refused),
-    /// The effort that was granted is spent, so there is no verdict.
-    OutOfEffort,
+    /// So many steps of effort were granted, and are spent. So there is no verdict.
+    OutOfEffort { granted: u64 },
 }
 
 impl From<Broken> for Unverified {
@@ -88,12 +88,11 @@ impl From<OutOfMemory> for Unverified {
 impl Unanswered {
     /// Why a text is not verified where a question was not answered within this effort. What is not bounded is never spent, so memory alone is wanting there.
     pub fn within(self, effort: &Effort) -> Unverified
-        ensures { (result ≡ RefusedBy Memory) ⊎ ((result ≡ NotJudged) × IsTrue effort.now) }
+        ensures { (result ≡ RefusedBy Memory) ⊎ ((granted : ℕ) × (result ≡ NotJudged granted) × (effort.now ≡ Some granted)) }
     {
-        if self == Unanswered::OutOfEffort && effort.is_bounded() {
-            Unverified::OutOfEffort
-        } else {
-            Unverified::Refused(Refused::Memory)
+        match (self, effort.granted()) {
+            (Unanswered::OutOfEffort, Some(granted)) => Unverified::OutOfEffort { granted },
+            _ => Unverified::Refused(Refused::Memory),
         }
     }
 }

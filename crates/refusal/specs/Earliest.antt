@@ -2,7 +2,7 @@
 use Rattle.std.specs.Prelude.{◌≡◌, ◌≤◌, Bool, nat_lt, nat_eq, ◌&&◌, ◌||◌, if◌then◌else◌, Option, Some, None}
 use Rattle.refusal.specs.declared.broken.Broken.{Broken}
 use Rattle.refusal.specs.declared.refused.Refused.{Refused}
-use Rattle.refusal.specs.declared.refused.Refused.TheVariants.{Fault, Memory}
+use Rattle.refusal.specs.Refusals.{IfBroken}
 
 -- on a lower line, or on the same line and of a lower number
 abbrev pub is_before : Broken → Broken → Bool
@@ -31,7 +31,10 @@ IsJudged Holds IsBroken (Some a) = IsBroken a × ((b : Broken) → IsBroken b �
 abbrev pub IsEarliest : (Broken → Type 0) → Option Broken → Type 0
 IsEarliest IsBroken named = IsJudged (Unit {0}) IsBroken named
 
--- what a refusal says where these rules are broken: it names the earliest of them, or memory was refused
+-- one of these broken rules, and none of them stands before it
+abbrev pub IsFirst : (Broken → Type 0) → Broken → Type 0
+IsFirst IsBroken broken = IsEarliest IsBroken (Some broken)
+
+-- what a contract says of a refusal by these rules: where one is named, it is the earliest
 abbrev pub NamesEarliest : (Broken → Type 0) → Refused → Type 0
-NamesEarliest IsBroken Memory = Unit {0}
-NamesEarliest IsBroken (Fault number line) = IsEarliest IsBroken (Some (record { line = line; number = number }))
+NamesEarliest IsBroken refused = IfBroken (IsFirst IsBroken) refused

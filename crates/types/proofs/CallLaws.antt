@@ -27,14 +27,13 @@ use Rattle.types.specs.declared.names.address.WholeObject.{WholeObject}
 use Rattle.types.specs.declared.block.Body.{Body}
 use Rattle.types.specs.declared.call.ResolvedCall.{ResolvedCall}
 use Rattle.program.specs.declared.function.Program.{Program}
-use Rattle.refusal.specs.declared.refused.Refused.{Refused as TypeFault}
-use Rattle.refusal.specs.declared.refused.Refused.TheVariants.{Fault}
+use Rattle.refusal.specs.declared.broken.Broken.{Broken as TypeFault}
 use Rattle.types.specs.declared.instruction.Spot.{Spot}
 use Rattle.types.specs.declared.names.mention.Mentions.{Mentions}
 use Rattle.types.specs.names.Address.{Items, object_of}
 use Rattle.types.proofs.TextCalls.{IsCallApart, IsApart, CallsApart}
 use Rattle.types.specs.Call.{Named, are_distinct, is_any_named, is_named_below, passed_call, found_call, called, refused_call, arguments_of, fitting_arguments, as_function}
-use Rattle.types.specs.names.Fault.{both_of, made_of, unless_of}
+use Rattle.types.specs.names.Fault.{both_of, breaks, made_of, unless_of}
 use Rattle.types.specs.Instruction.{instruction_of, step_of, defined_of, alloca_id_of}
 use Rattle.types.specs.names.Layout.{layout_of}
 use Rattle.types.specs.Function.{function_of, functions_of}
@@ -69,15 +68,15 @@ module _ (mentions : List Mentions) (globals : ℕ) (named : Named) (table : IsN
   passed_apart : (caller line : ℕ) (id : FunctionId) (arguments : List Argument) (call : ResolvedCall) → id.0 < length mentions →
       passed_call named caller line id arguments ≡ Ok call → IsCallApart mentions globals caller call.callee.0 call.arguments
   passed_apart caller line id arguments call within e =
-      let first = then_ok _ (unless_of (are_distinct arguments) (Fault 204 line)) call e in
-      let second = then_ok _ (unless_of (not (is_any_named (slice_get named id.0) arguments)) (Fault 204 line)) call first.2 in
-      let third = made_ok _ (unless_of (nat_le id.0 caller) (Fault 205 line)) call second.2 in
+      let first = then_ok _ (unless_of (are_distinct arguments) (breaks 204 line)) call e in
+      let second = then_ok _ (unless_of (not (is_any_named (slice_get named id.0) arguments)) (breaks 204 line)) call first.2 in
+      let third = made_ok _ (unless_of (nat_le id.0 caller) (breaks 205 line)) call second.2 in
       let P : ResolvedCall → Type 0 = λ c. IsCallApart mentions globals caller c.callee.0 c.arguments in
       let upward : nat_le id.0 caller ≡ true = unless_ok _ _ third.0 third.1 in
       let here : IsCallApart mentions globals caller id.0 arguments = record {
         upward = grind (arith, nat_tests, upward);
-        distinct = unless_ok (are_distinct arguments) (Fault 204 line) first.0 first.1;
-        clear = clear_by id.0 arguments within (not-true _ (unless_ok _ (Fault 204 line) second.0 second.1));
+        distinct = unless_ok (are_distinct arguments) (breaks 204 line) first.0 first.1;
+        clear = clear_by id.0 arguments within (not-true _ (unless_ok _ (breaks 204 line) second.0 second.1));
       } in
       subst P third.2 here
 
@@ -110,7 +109,7 @@ module _ (mentions : List Mentions) (globals : ℕ) (named : Named) (table : IsN
         let P : Instruction → Type 0 = IsApart mentions globals spot.function in subst P (made_ok _ _ meant e).2 tt
     instruction_apart spot (text.Alloca register size) meant e =
         let P : Instruction → Type 0 = IsApart mentions globals spot.function in
-        let entry : Result (Unit {0}) TypeFault = unless_of (nat_eq spot.block 0) (Fault 204 spot.line) in
+        let entry : Result (Unit {0}) TypeFault = unless_of (nat_eq spot.block 0) (breaks 204 spot.line) in
         let part = then_ok (λ (p : RegisterId × AllocaId). made_of (λ (u : Unit {0}). instruction.Alloca p.0 p.1) entry)
         (both_of (defined_of scope spot.line register) (alloca_id_of scope spot.line register)) meant e in
         subst P (made_ok (λ (u : Unit {0}). instruction.Alloca part.0.0 part.0.1) entry meant part.2).2 tt
@@ -122,9 +121,9 @@ module _ (mentions : List Mentions) (globals : ℕ) (named : Named) (table : IsN
         let P : Instruction → Type 0 = IsApart mentions globals spot.function in subst P (made_ok _ _ meant e).2 tt
     instruction_apart spot (text.StoreZeros cells address) meant e =
         let P : Instruction → Type 0 = IsApart mentions globals spot.function in
-        let part = then_ok (λ (found : WholeObject). made_of (λ (u : Unit {0}). instruction.StoreZeros cells found.name) (unless_of (nat_eq found.cells cells) (Fault 204 spot.line)))
+        let part = then_ok (λ (found : WholeObject). made_of (λ (u : Unit {0}). instruction.StoreZeros cells found.name) (unless_of (nat_eq found.cells cells) (breaks 204 spot.line)))
         (object_of items scope spot.line address) meant e in
-        subst P (made_ok (λ (u : Unit {0}). instruction.StoreZeros cells part.0.name) (unless_of (nat_eq part.0.cells cells) (Fault 204 spot.line)) meant part.2).2 tt
+        subst P (made_ok (λ (u : Unit {0}). instruction.StoreZeros cells part.0.name) (unless_of (nat_eq part.0.cells cells) (breaks 204 spot.line)) meant part.2).2 tt
     instruction_apart spot (text.AtomicAdd address value) meant e =
         let P : Instruction → Type 0 = IsApart mentions globals spot.function in subst P (made_ok _ _ meant e).2 tt
     instruction_apart spot (text.Call register callee arguments) meant e =

@@ -28,8 +28,7 @@ use Rattle.syntax.specs.declared.module.Function.{Function as FunctionText}
 use Rattle.syntax.specs.declared.operator.Width.TheVariants.{Bits64}
 use Rattle.types.specs.declared.names.address.WholeObject.{WholeObject}
 use Rattle.types.specs.declared.call.ResolvedCall.{ResolvedCall}
-use Rattle.refusal.specs.declared.refused.Refused.{Refused as TypeFault}
-use Rattle.refusal.specs.declared.refused.Refused.TheVariants.{Fault}
+use Rattle.refusal.specs.declared.broken.Broken.{Broken as TypeFault}
 use Rattle.types.specs.declared.names.form.AnnotationPlace.{AnnotationPlace}
 use Rattle.types.specs.declared.names.form.AnnotationPlace.TheVariants as place
 use Rattle.types.specs.declared.instruction.Spot.{Spot}
@@ -43,7 +42,7 @@ use Rattle.types.specs.declared.names.scope.Register.{Register}
 use Rattle.types.specs.names.Address.{Items, as_global, as_object, object_of, as_address, address_of}
 use Rattle.types.specs.Apart.{AddressNames, InstructionNames}
 use Rattle.types.specs.Call.{Named, as_function, argument_of, arguments_of, expected, takes_number, takes_object, fits_extent, fitting_arguments, passed_call, found_call, called, call_of, are_distinct, is_any_named}
-use Rattle.types.specs.names.Fault.{both_of, and_then, made_of, unless_of}
+use Rattle.types.specs.names.Fault.{and_then, both_of, breaks, made_of, unless_of}
 use Rattle.types.specs.names.Form.{parameter_of, made_before}
 use Rattle.types.specs.Instruction.{defined_of, instruction_of, alloca_id_of}
 use Rattle.types.specs.names.Mention.{with_object, with_callee, with_address, with_argument, with_arguments, with_instruction}
@@ -120,7 +119,7 @@ module _ (items : Items) (globals : ℕ) (n : ℕ) (IsParameter : List ℕ → T
         let P : Address → Type 0 = λ x. AddressAdds add x in
         subst P (same_ok (address.First name) at e) (own_adds add name h)
     held_address_adds add block line register holding.Element at h e =
-        let made = made_ok (λ (u : Unit {0}). address.Element register.id) (unless_of (is_step_of block register.origin) (Fault 204 line)) at e in
+        let made = made_ok (λ (u : Unit {0}). address.Element register.id) (unless_of (is_step_of block register.origin) (breaks 204 line)) at e in
         let P : Address → Type 0 = λ x. AddressAdds add x in
         subst P made.2 tt
     held_address_adds add block line register holding.Region at h e = absurd (err_not_ok _ at e)
@@ -204,13 +203,13 @@ module _ (items : Items) (globals : ℕ) (n : ℕ) (IsParameter : List ℕ → T
     argument_adds : (line : ℕ) (parameter : Option Parameter) (written : ArgumentText) (a : Argument) → argument_of items scope line parameter written ≡ Ok a → ArgumentAdds (λ m. with_argument items m written) a
     argument_adds line parameter (argument_text.Number value) a e =
         let part = then_ok _ (operand_of scope line Bits64 value) a e in
-        let made = made_ok (λ (u : Unit {0}). argument.Number part.0) (unless_of (takes_number parameter) (Fault 202 line)) a part.2 in
+        let made = made_ok (λ (u : Unit {0}). argument.Number part.0) (unless_of (takes_number parameter) (breaks 202 line)) a part.2 in
         let P : Argument → Type 0 = λ x. ArgumentAdds (λ m. m) x in
         subst P made.2 tt
     argument_adds line parameter (argument_text.Pointer at) a e =
-        let whole : Result (WholeObject × Unit {0}) TypeFault = both_of (object_of items scope line at) (unless_of (takes_object parameter) (Fault 202 line)) in
-        let part = then_ok (λ (p : WholeObject × Unit {0}). made_of (λ (u : Unit {0}). argument.Object p.0.name) (unless_of (fits_extent p.0.cells parameter) (Fault 204 line))) whole a e in
-        let made = made_ok (λ (u : Unit {0}). argument.Object part.0.0.name) (unless_of (fits_extent part.0.0.cells parameter) (Fault 204 line)) a part.2 in
+        let whole : Result (WholeObject × Unit {0}) TypeFault = both_of (object_of items scope line at) (unless_of (takes_object parameter) (breaks 202 line)) in
+        let part = then_ok (λ (p : WholeObject × Unit {0}). made_of (λ (u : Unit {0}). argument.Object p.0.name) (unless_of (fits_extent p.0.cells parameter) (breaks 204 line))) whole a e in
+        let made = made_ok (λ (u : Unit {0}). argument.Object part.0.0.name) (unless_of (fits_extent part.0.0.cells parameter) (breaks 204 line)) a part.2 in
         let P : Argument → Type 0 = λ x. ArgumentAdds (λ m. with_address items m at) x in
         subst P made.2 (object_adds line at part.0.0 (both_ok _ _ part.0 part.1).0)
 
@@ -247,9 +246,9 @@ module _ (items : Items) (globals : ℕ) (n : ℕ) (IsParameter : List ℕ → T
       found_adds caller line has_result name id (Some callee) written call is e =
           let part = then_ok (passed_call named caller line id) (fitting_arguments items scope line has_result callee written) call e in
           let given = part.0 in
-          let first = then_ok _ (unless_of (are_distinct given) (Fault 204 line)) call part.2 in
-          let second = then_ok _ (unless_of (not (is_any_named (slice_get named id.0) given)) (Fault 204 line)) call first.2 in
-          let third = made_ok _ (unless_of (nat_le id.0 caller) (Fault 205 line)) call second.2 in
+          let first = then_ok _ (unless_of (are_distinct given) (breaks 204 line)) call part.2 in
+          let second = then_ok _ (unless_of (not (is_any_named (slice_get named id.0) given)) (breaks 204 line)) call first.2 in
+          let third = made_ok _ (unless_of (nat_le id.0 caller) (breaks 205 line)) call second.2 in
           let P : ResolvedCall → Type 0 = λ x. CallAdds name written x in
           let here : CallAdds name written (record { callee = id; arguments = given }) = record {
             callee = callee_pushed (look_up items name) id is;
@@ -322,7 +321,7 @@ module _ (items : Items) (globals : ℕ) (n : ℕ) (IsParameter : List ℕ → T
           let P : Instruction → Type 0 = λ x. IsMentioned (λ m. m) x in subst P (made_ok _ _ meant e).2 tt
       is_mentioned spot (text.Alloca register size) meant e =
           let P : Instruction → Type 0 = λ x. IsMentioned (λ m. m) x in
-          let entry : Result (Unit {0}) TypeFault = unless_of (nat_eq spot.block 0) (Fault 204 spot.line) in
+          let entry : Result (Unit {0}) TypeFault = unless_of (nat_eq spot.block 0) (breaks 204 spot.line) in
           let part = then_ok (λ (p : RegisterId × AllocaId). made_of (λ (u : Unit {0}). instruction.Alloca p.0 p.1) entry)
           (both_of (defined_of scope spot.line register) (alloca_id_of scope spot.line register)) meant e in
           subst P (made_ok (λ (u : Unit {0}). instruction.Alloca part.0.0 part.0.1) entry meant part.2).2 tt
@@ -340,9 +339,9 @@ module _ (items : Items) (globals : ℕ) (n : ℕ) (IsParameter : List ℕ → T
           subst P made.2 (address_adds spot.block spot.line at made.0.1 (both_ok _ _ made.0 made.1).1)
       is_mentioned spot (text.StoreZeros cells at) meant e =
           let P : Instruction → Type 0 = λ x. IsMentioned (λ m. with_address items m at) x in
-          let part = then_ok (λ (found : WholeObject). made_of (λ (u : Unit {0}). instruction.StoreZeros cells found.name) (unless_of (nat_eq found.cells cells) (Fault 204 spot.line)))
+          let part = then_ok (λ (found : WholeObject). made_of (λ (u : Unit {0}). instruction.StoreZeros cells found.name) (unless_of (nat_eq found.cells cells) (breaks 204 spot.line)))
           (object_of items scope spot.line at) meant e in
-          subst P (made_ok (λ (u : Unit {0}). instruction.StoreZeros cells part.0.name) (unless_of (nat_eq part.0.cells cells) (Fault 204 spot.line)) meant part.2).2 (object_adds spot.line at part.0 part.1)
+          subst P (made_ok (λ (u : Unit {0}). instruction.StoreZeros cells part.0.name) (unless_of (nat_eq part.0.cells cells) (breaks 204 spot.line)) meant part.2).2 (object_adds spot.line at part.0 part.1)
       is_mentioned spot (text.AtomicAdd at value) meant e =
           let P : Instruction → Type 0 = λ x. IsMentioned (λ m. with_address items m at) x in
           let made = made_ok _ _ meant e in

@@ -13,15 +13,14 @@ use Rattle.syntax.specs.declared.instruction.Instruction.TheVariants as text
 use Rattle.syntax.specs.declared.instruction.Phi.{Phi as PhiText}
 use Rattle.syntax.specs.declared.module.Function.{Function as FunctionText}
 use Rattle.types.specs.declared.names.address.WholeObject.{WholeObject}
-use Rattle.refusal.specs.declared.refused.Refused.{Refused as TypeFault}
-use Rattle.refusal.specs.declared.refused.Refused.TheVariants.{Fault}
+use Rattle.refusal.specs.declared.broken.Broken.{Broken as TypeFault}
 use Rattle.types.specs.declared.instruction.Spot.{Spot}
 use Rattle.types.specs.declared.names.scope.Named.TheVariants as named_as
 use Rattle.types.specs.declared.names.scope.Register.{Register}
 use Rattle.types.specs.names.Address.{Items, object_of}
 use Rattle.types.specs.Call.{Named}
 use Rattle.types.specs.Definitions.{IsFrom, DefinesFrom, defined_name}
-use Rattle.types.specs.names.Fault.{both_of, made_of, unless_of}
+use Rattle.types.specs.names.Fault.{both_of, breaks, made_of, unless_of}
 use Rattle.types.specs.Instruction.{defined_of, instruction_of, alloca_id_of, call_register_of, phi_of}
 use Rattle.types.specs.names.Operand.{register_of}
 use Rattle.types.specs.names.Scope.{Scope}
@@ -77,7 +76,7 @@ module _ (n : ℕ) (IsParameter : List ℕ → Type 0) (scope : Scope) (right : 
         subst P made.2 (defined_from spot.line register made.0.0 (both_ok _ _ made.0 made.1).0 (fresh register refl))
     instruction_from spot (text.Alloca register size) meant e fresh =
         let P : Instruction → Type 0 = λ x. DefinesFrom n x in
-        let entry : Result (Unit {0}) TypeFault = unless_of (nat_eq spot.block 0) (Fault 204 spot.line) in
+        let entry : Result (Unit {0}) TypeFault = unless_of (nat_eq spot.block 0) (breaks 204 spot.line) in
         let part = then_ok (λ (p : RegisterId × AllocaId). made_of (λ (u : Unit {0}). instruction.Alloca p.0 p.1) entry)
         (both_of (defined_of scope spot.line register) (alloca_id_of scope spot.line register)) meant e in
         subst P (made_ok (λ (u : Unit {0}). instruction.Alloca part.0.0 part.0.1) entry meant part.2).2
@@ -95,9 +94,9 @@ module _ (n : ℕ) (IsParameter : List ℕ → Type 0) (scope : Scope) (right : 
         subst P (made_ok _ _ meant e).2 tt
     instruction_from spot (text.StoreZeros cells at) meant e fresh =
         let P : Instruction → Type 0 = λ x. DefinesFrom n x in
-        let part = then_ok (λ (found : WholeObject). made_of (λ (u : Unit {0}). instruction.StoreZeros cells found.name) (unless_of (nat_eq found.cells cells) (Fault 204 spot.line)))
+        let part = then_ok (λ (found : WholeObject). made_of (λ (u : Unit {0}). instruction.StoreZeros cells found.name) (unless_of (nat_eq found.cells cells) (breaks 204 spot.line)))
         (object_of items scope spot.line at) meant e in
-        subst P (made_ok (λ (u : Unit {0}). instruction.StoreZeros cells part.0.name) (unless_of (nat_eq part.0.cells cells) (Fault 204 spot.line)) meant part.2).2 tt
+        subst P (made_ok (λ (u : Unit {0}). instruction.StoreZeros cells part.0.name) (unless_of (nat_eq part.0.cells cells) (breaks 204 spot.line)) meant part.2).2 tt
     instruction_from spot (text.AtomicAdd at value) meant e fresh =
         let P : Instruction → Type 0 = λ x. DefinesFrom n x in
         subst P (made_ok _ _ meant e).2 tt

@@ -5,14 +5,15 @@ use Rattle.program.specs.declared.function.Block.{Block}
 use Rattle.program.specs.declared.function.Function.{Function}
 use Rattle.program.specs.declared.function.Parameter.{Parameter}
 use Rattle.syntax.specs.declared.module.Function.{Function as FunctionText}
-use Rattle.refusal.specs.declared.refused.Refused.{Refused as TypeFault}
+use Rattle.refusal.specs.declared.refused.Refused.{Refused}
 use Rattle.types.specs.declared.function.Head.{Head}
 use Rattle.types.specs.declared.names.layout.Layout.{Layout}
 use Rattle.types.specs.Block.{blocks_of}
 use Rattle.types.specs.Call.{Named, parameter_of}
 use Rattle.types.specs.Function.{function_of, function_with, head_of, resolved_budget}
 use Rattle.types.specs.names.Address.{Items}
-use Rattle.types.specs.names.Fault.{both_of, Gives}
+use Rattle.types.specs.names.Fault.{both_of}
+use Rattle.types.specs.names.Told.{both_answers, Gives}
 use Rattle.types.specs.names.Layout.{layout_of}
 use Rattle.types.proofs.names.Giving.{gives_from}
 use Rattle.types.proofs.names.Kept.{kept_give, good_kept, bad_kept, same_parts}
@@ -44,14 +45,14 @@ module _
     (place : ℕ)
     (text : FunctionText)
     (layout : Layout)
-    (head : Result Head TypeFault)
-    (blocks : Result (List Block) TypeFault)
-    (signature : Result (List ℕ × List Parameter) TypeFault)
-    (inner : Result (Head × List Block) TypeFault)
-    (outer : Result ((Head × List Block) × (List ℕ × List Parameter)) TypeFault)
+    (head : Result Head Refused)
+    (blocks : Result (List Block) Refused)
+    (signature : Result (List ℕ × List Parameter) Refused)
+    (inner : Result (Head × List Block) Refused)
+    (outer : Result ((Head × List Block) × (List ℕ × List Parameter)) Refused)
     (laid : layout ≡ layout_of text)
-    (joined : inner ≡ both_of head blocks)
-    (signed : outer ≡ both_of inner signature)
+    (joined : inner ≡ both_answers head blocks)
+    (signed : outer ≡ both_answers inner signature)
     (of_head : Gives head (head_of items layout text.result_type text.notes))
     (of_blocks : Gives blocks (blocks_of items functions named layout.scope place text.result_type text.blocks))
     (of_signature : Gives signature (Ok (text.name, map parameter_of text.parameters)))
@@ -63,7 +64,7 @@ module _
         (gives_from (λ l. blocks_of items functions named l.scope place text.result_type text.blocks) blocks layout (layout_of text) laid of_blocks)
         of_signature
 
-    pub function_fault : (fault : TypeFault) → outer ≡ Err fault → Gives (Err fault) (function_of items functions named place text)
+    pub function_fault : (fault : Refused) → outer ≡ Err fault → Gives (Err fault) (function_of items functions named place text)
     function_fault fault e = bad_kept (λ (p : Head × List Block). function_with text (layout_of text) p.0 p.1) outer _ _ fault e given
 
     pub function_good : (a : Head) (b : List Block) (name : List ℕ) (parameters : List Parameter) (budget : Budget) →

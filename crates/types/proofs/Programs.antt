@@ -30,7 +30,7 @@ use Rattle.syntax.specs.declared.module.Module.{Module}
 use Rattle.types.specs.declared.block.Body.{Body}
 use Rattle.types.specs.declared.block.Head.{Head}
 use Rattle.types.specs.declared.function.Head.{Head as FunctionHead}
-use Rattle.refusal.specs.declared.refused.Refused.{Refused as TypeFault}
+use Rattle.refusal.specs.declared.broken.Broken.{Broken as TypeFault}
 use Rattle.types.specs.declared.names.form.AnnotationPlace.TheVariants as place
 use Rattle.types.specs.declared.names.item.Item.{Item}
 use Rattle.types.specs.declared.names.item.Item.TheVariants as item

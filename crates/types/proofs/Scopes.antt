@@ -14,7 +14,6 @@ use Rattle.syntax.specs.declared.module.Block.{Block as BlockText}
 use Rattle.syntax.specs.declared.module.Function.{Function as FunctionText}
 use Rattle.syntax.specs.declared.module.Parameter.{Parameter as ParameterText}
 use Rattle.syntax.specs.declared.module.Parameter.TheVariants as parameter
-use Rattle.refusal.specs.declared.refused.Refused.TheVariants.{Fault}
 use Rattle.types.specs.declared.names.layout.Layout.{Layout}
 use Rattle.types.specs.declared.names.scope.Holding.{Holding}
 use Rattle.types.specs.declared.names.scope.Holding.TheVariants as holding
@@ -25,7 +24,7 @@ use Rattle.types.specs.declared.names.scope.Origin.TheVariants as origin
 use Rattle.types.specs.declared.names.scope.Register.{Register}
 use Rattle.types.specs.Definitions.{parameter_name, IsParameterName}
 use Rattle.types.specs.names.Layout.{with_register, with_parameter, with_phi, with_alloca, with_call, with_instruction, with_step, with_phis, with_steps, with_block, with_parameters, with_blocks, with_label, with_labels, no_layout, layout_of, target_width}
-use Rattle.types.specs.names.Fault.{unless_of}
+use Rattle.types.specs.names.Fault.{breaks, unless_of}
 use Rattle.types.specs.names.Form.{as_parameter, parameter_of}
 use Rattle.types.specs.names.Operand.{as_register, register_of}
 use Rattle.types.specs.names.Scope.{Scope, is_parameter}
@@ -75,7 +74,7 @@ parameter_found scope line name register e = from (look_up scope name) refl e
     from None is k = absurd (err_not_ok _ register k)
     from (Some (named.Label block)) is k = absurd (err_not_ok _ register k)
     from (Some (named.Register other)) is k =
-        let made = made_ok (λ (u : Unit {0}). other) (unless_of (is_parameter other.origin) (Fault 201 line)) register k in
+        let made = made_ok (λ (u : Unit {0}). other) (unless_of (is_parameter other.origin) (breaks 201 line)) register k in
         is ∙ ap (λ (r : Register). Some (named.Register r)) made.2
 
 -- ---- the registers of a function of n parameters

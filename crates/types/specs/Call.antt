@@ -19,20 +19,19 @@ use Rattle.syntax.specs.declared.module.ResultType.{ResultType}
 use Rattle.syntax.specs.declared.module.ResultType.TheVariants.{Number, Void}
 use Rattle.syntax.specs.declared.operator.Width.TheVariants.{Bits64}
 use Rattle.types.specs.declared.call.ResolvedCall.{ResolvedCall}
-use Rattle.refusal.specs.declared.refused.Refused.{Refused as TypeFault}
-use Rattle.refusal.specs.declared.refused.Refused.TheVariants.{Fault}
+use Rattle.refusal.specs.declared.broken.Broken.{Broken as TypeFault}
 use Rattle.types.specs.declared.names.item.Item.{Item}
 use Rattle.types.specs.declared.names.item.Item.TheVariants as item
 use Rattle.types.specs.names.Address.{Items, object_of}
-use Rattle.types.specs.names.Fault.{all_of, and_then, both_of, made_of, unless_of}
+use Rattle.types.specs.names.Fault.{all_of, and_then, both_of, breaks, made_of, unless_of}
 use Rattle.types.specs.names.Operand.{operand_of}
 use Rattle.types.specs.names.Scope.{Scope}
 use Rattle.types.specs.names.Table.{look_up}
 
 -- the function: 201 where nothing has the name, 202 where a global has it
 abbrev pub as_function : ℕ → Option Item → Result FunctionId TypeFault
-as_function line None = Err (Fault 201 line)
-as_function line (Some (item.Global id cells)) = Err (Fault 202 line)
+as_function line None = Err (breaks 201 line)
+as_function line (Some (item.Global id cells)) = Err (breaks 202 line)
 as_function line (Some (item.Function id)) = Ok id
 
 -- a call has a result where its callee gives one
@@ -70,10 +69,10 @@ fits_extent cells (Some (parameter.Pointer extent)) = nat_le extent cells
 -- an argument for a parameter: 202 where they differ, 204 where the object is too short
 abbrev pub argument_of : Items → Scope → ℕ → Option Parameter → ArgumentText → Result Argument TypeFault
 argument_of items scope line parameter (text.Number value) =
-    and_then (operand_of scope line Bits64 value) (λ v. made_of (λ _. argument.Number v) (unless_of (takes_number parameter) (Fault 202 line)))
+    and_then (operand_of scope line Bits64 value) (λ v. made_of (λ _. argument.Number v) (unless_of (takes_number parameter) (breaks 202 line)))
 argument_of items scope line parameter (text.Pointer address) =
-    and_then (both_of (object_of items scope line address) (unless_of (takes_object parameter) (Fault 202 line))) (λ p.
-    made_of (λ _. argument.Object p.0.name) (unless_of (fits_extent p.0.cells parameter) (Fault 204 line)))
+    and_then (both_of (object_of items scope line address) (unless_of (takes_object parameter) (breaks 202 line))) (λ p.
+    made_of (λ _. argument.Object p.0.name) (unless_of (fits_extent p.0.cells parameter) (breaks 204 line)))
 
 -- the arguments, each for the parameter of its place
 abbrev pub arguments_of : Items → Scope → ℕ → List ParameterText → List ArgumentText → Result (List Argument) TypeFault
@@ -125,15 +124,15 @@ abbrev pub fitting_arguments : Items → Scope → ℕ → Bool → FunctionText
 fitting_arguments items scope line has_result callee arguments =
     made_of (λ p. p.0)
     (both_of (arguments_of items scope line callee.parameters arguments)
-    (both_of (unless_of (fits_result has_result callee.result_type) (Fault 202 line))
-    (unless_of (nat_eq (length arguments) (length callee.parameters)) (Fault 203 line))))
+    (both_of (unless_of (fits_result has_result callee.result_type) (breaks 202 line))
+    (unless_of (nat_eq (length arguments) (length callee.parameters)) (breaks 203 line))))
 
 -- which pointers may be passed: 204 where two are one object or a global is named below; 205 where the callee stands below
 abbrev pub passed_call : Named → ℕ → ℕ → FunctionId → List Argument → Result ResolvedCall TypeFault
 passed_call named caller line id arguments =
-    and_then (unless_of (are_distinct arguments) (Fault 204 line)) (λ _.
-    and_then (unless_of (not (is_any_named (slice_get named id.0) arguments)) (Fault 204 line)) (λ _.
-    made_of (λ _. record { callee = id; arguments = arguments }) (unless_of (nat_le id.0 caller) (Fault 205 line))))
+    and_then (unless_of (are_distinct arguments) (breaks 204 line)) (λ _.
+    and_then (unless_of (not (is_any_named (slice_get named id.0) arguments)) (breaks 204 line)) (λ _.
+    made_of (λ _. record { callee = id; arguments = arguments }) (unless_of (nat_le id.0 caller) (breaks 205 line))))
 
 -- a call of a known function
 abbrev pub known_call : Items → Named → Scope → ℕ → ℕ → Bool → FunctionId → FunctionText → List ArgumentText → Result ResolvedCall TypeFault
@@ -147,7 +146,7 @@ refused_call items scope line arguments fault =
     and_then (both_of (arguments_of items scope line [] arguments) refused) (λ _. Err fault)
 
 abbrev pub found_call : Items → Named → Scope → ℕ → ℕ → Bool → FunctionId → Option FunctionText → List ArgumentText → Result ResolvedCall TypeFault
-found_call items named scope caller line has_result id None arguments = Err (Fault 201 line)
+found_call items named scope caller line has_result id None arguments = Err (breaks 201 line)
 found_call items named scope caller line has_result id (Some callee) arguments = known_call items named scope caller line has_result id callee arguments
 
 abbrev pub called : Items → List FunctionText → Named → Scope → ℕ → ℕ → Bool → Result FunctionId TypeFault → List ArgumentText → Result ResolvedCall TypeFault

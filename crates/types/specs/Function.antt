@@ -10,7 +10,7 @@ use Rattle.syntax.specs.declared.annotation.FunctionNotes.{FunctionNotes}
 use Rattle.syntax.specs.declared.module.Function.{Function as FunctionText}
 use Rattle.syntax.specs.declared.module.ResultType.{ResultType}
 use Rattle.syntax.specs.declared.module.ResultType.TheVariants.{Number, Void}
-use Rattle.refusal.specs.declared.refused.Refused.{Refused as TypeFault}
+use Rattle.refusal.specs.declared.broken.Broken.{Broken as TypeFault}
 use Rattle.types.specs.declared.names.form.AnnotationPlace.TheVariants as place
 use Rattle.types.specs.declared.function.Head.{Head}
 use Rattle.types.specs.declared.names.layout.Layout.{Layout}

@@ -22,8 +22,7 @@ use Rattle.syntax.specs.declared.operator.Conversion.{Conversion}
 use Rattle.syntax.specs.declared.operator.Predicate.{Predicate}
 use Rattle.syntax.specs.declared.operator.Width.{Width}
 use Rattle.syntax.specs.declared.operator.Width.TheVariants.{Bits64}
-use Rattle.refusal.specs.declared.refused.Refused.{Refused as TypeFault}
-use Rattle.refusal.specs.declared.refused.Refused.TheVariants.{Fault}
+use Rattle.refusal.specs.declared.broken.Broken.{Broken as TypeFault}
 use Rattle.program.specs.Widths.{source_width}
 use Rattle.types.specs.declared.names.form.AnnotationPlace.TheVariants.{Body}
 use Rattle.types.specs.declared.instruction.Spot.{Spot}
@@ -31,7 +30,7 @@ use Rattle.types.specs.declared.names.scope.Holding.{Holding}
 use Rattle.types.specs.declared.names.scope.Holding.TheVariants as holding
 use Rattle.types.specs.names.Address.{Items, address_of, object_of}
 use Rattle.types.specs.Call.{Named, call_of}
-use Rattle.types.specs.names.Fault.{all_of, and_then, both_of, made_of, unless_of}
+use Rattle.types.specs.names.Fault.{all_of, and_then, both_of, breaks, made_of, unless_of}
 use Rattle.types.specs.names.Form.{inequalities_of}
 use Rattle.types.specs.names.Operand.{label_of, operand_of, register_of}
 use Rattle.types.specs.names.Scope.{Scope}
@@ -74,12 +73,12 @@ convert_of scope line register conversion value =
 
 abbrev pub as_alloca : ℕ → Holding → Result AllocaId TypeFault
 as_alloca line (holding.Object (object.Alloca id) cells) = Ok id
-as_alloca line (holding.Object (object.Global id) cells) = Err (Fault 202 line)
-as_alloca line (holding.Object (object.Parameter id) cells) = Err (Fault 202 line)
-as_alloca line (holding.Number width) = Err (Fault 202 line)
-as_alloca line holding.Truth = Err (Fault 202 line)
-as_alloca line holding.Element = Err (Fault 202 line)
-as_alloca line holding.Region = Err (Fault 202 line)
+as_alloca line (holding.Object (object.Global id) cells) = Err (breaks 202 line)
+as_alloca line (holding.Object (object.Parameter id) cells) = Err (breaks 202 line)
+as_alloca line (holding.Number width) = Err (breaks 202 line)
+as_alloca line holding.Truth = Err (breaks 202 line)
+as_alloca line holding.Element = Err (breaks 202 line)
+as_alloca line holding.Region = Err (breaks 202 line)
 
 -- the number of the `alloca` that defines a register
 abbrev pub alloca_id_of : Scope → ℕ → List ℕ → Result AllocaId TypeFault
@@ -89,7 +88,7 @@ alloca_id_of scope line name = and_then (register_of scope line name) (λ regist
 abbrev pub alloca_of : Scope → ℕ → ℕ → List ℕ → Result Instruction TypeFault
 alloca_of scope block line register =
     and_then (both_of (defined_of scope line register) (alloca_id_of scope line register)) (λ p.
-    made_of (λ _. instruction.Alloca p.0 p.1) (unless_of (nat_eq block 0) (Fault 204 line)))
+    made_of (λ _. instruction.Alloca p.0 p.1) (unless_of (nat_eq block 0) (breaks 204 line)))
 
 abbrev pub element_pointer_of : Items → Scope → ℕ → List ℕ → AddressText → OperandText → Result Instruction TypeFault
 element_pointer_of items scope line register base index =
@@ -108,7 +107,7 @@ store_of items scope block line value address =
 abbrev pub store_zeros_of : Items → Scope → ℕ → ℕ → AddressText → Result Instruction TypeFault
 store_zeros_of items scope line cells address =
     and_then (object_of items scope line address) (λ found.
-    made_of (λ _. instruction.StoreZeros cells found.name) (unless_of (nat_eq found.cells cells) (Fault 204 line)))
+    made_of (λ _. instruction.StoreZeros cells found.name) (unless_of (nat_eq found.cells cells) (breaks 204 line)))
 
 abbrev pub atomic_add_of : Items → Scope → ℕ → ℕ → AddressText → OperandText → Result Instruction TypeFault
 atomic_add_of items scope block line address value =

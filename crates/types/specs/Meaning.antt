@@ -12,13 +12,12 @@ use Rattle.syntax.specs.declared.module.Parameter.{Parameter as ParameterText}
 use Rattle.syntax.specs.declared.module.Parameter.TheVariants as parameter
 use Rattle.syntax.specs.declared.module.ResultType.{ResultType}
 use Rattle.syntax.specs.declared.module.ResultType.TheVariants.{Number, Void}
-use Rattle.refusal.specs.declared.refused.Refused.{Refused as TypeFault}
-use Rattle.refusal.specs.declared.refused.Refused.TheVariants.{Fault}
+use Rattle.refusal.specs.declared.broken.Broken.{Broken as TypeFault}
 use Rattle.types.specs.declared.names.item.Item.{Item}
 use Rattle.types.specs.declared.names.item.Item.TheVariants as item
 use Rattle.types.specs.names.Address.{Items}
 use Rattle.types.specs.Call.{Named}
-use Rattle.types.specs.names.Fault.{both_of, made_of, unless_of}
+use Rattle.types.specs.names.Fault.{both_of, breaks, made_of, unless_of}
 use Rattle.types.specs.Function.{functions_of}
 use Rattle.types.specs.names.Item.{items_of}
 use Rattle.types.specs.names.Mention.{mentions_of, IsNamedTable}
@@ -34,13 +33,13 @@ main_form Number parameters = list_all is_number parameters
 
 -- `@main` gives an `i64` and takes nothing else, else 202 at its `define`
 abbrev pub as_main : FunctionId → Option FunctionText → Result FunctionId TypeFault
-as_main id None = Err (Fault 201 1)
-as_main id (Some function) = made_of (λ _. id) (unless_of (main_form function.result_type function.parameters) (Fault 202 function.line))
+as_main id None = Err (breaks 201 1)
+as_main id (Some function) = made_of (λ _. id) (unless_of (main_form function.result_type function.parameters) (breaks 202 function.line))
 
 -- 201 at line 1 where no function is called `@main`
 abbrev pub found_main : List FunctionText → Option Item → Result FunctionId TypeFault
-found_main functions None = Err (Fault 201 1)
-found_main functions (Some (item.Global id cells)) = Err (Fault 201 1)
+found_main functions None = Err (breaks 201 1)
+found_main functions (Some (item.Global id cells)) = Err (breaks 201 1)
 found_main functions (Some (item.Function id)) = as_main id (slice_get functions id.0)
 
 abbrev pub main_of : Items → List FunctionText → Result FunctionId TypeFault

@@ -13,10 +13,9 @@ use Rattle.syntax.specs.declared.terminator.Case.{Case as CaseText}
 use Rattle.syntax.specs.declared.terminator.Ending.{Ending as EndingText}
 use Rattle.syntax.specs.declared.terminator.Terminator.{Terminator as TerminatorText}
 use Rattle.syntax.specs.declared.terminator.Terminator.TheVariants as text
-use Rattle.refusal.specs.declared.refused.Refused.{Refused as TypeFault}
-use Rattle.refusal.specs.declared.refused.Refused.TheVariants.{Fault}
+use Rattle.refusal.specs.declared.broken.Broken.{Broken as TypeFault}
 use Rattle.types.specs.declared.names.form.AnnotationPlace.TheVariants.{Body}
-use Rattle.types.specs.names.Fault.{all_of, and_then, both_of, made_of, unless_of}
+use Rattle.types.specs.names.Fault.{all_of, and_then, both_of, breaks, made_of, unless_of}
 use Rattle.types.specs.names.Form.{inequalities_of}
 use Rattle.types.specs.names.Operand.{condition_of, fits_width, label_of, operand_of, region_of}
 use Rattle.types.specs.names.Scope.{Scope}
@@ -25,7 +24,7 @@ use Rattle.types.specs.names.Scope.{Scope}
 abbrev pub case_of : Scope → ℕ → Width → CaseText → Result Case TypeFault
 case_of scope line width text =
     made_of (λ p. record { number = text.number; target = p.0 })
-    (both_of (label_of scope line text.target) (unless_of (fits_width width text.number) (Fault 202 line)))
+    (both_of (label_of scope line text.target) (unless_of (fits_width width text.number) (breaks 202 line)))
 
 abbrev pub cases_of : Scope → ℕ → Width → List CaseText → Result (List Case) TypeFault
 cases_of scope line width texts = all_of (λ _. case_of scope line width) texts
@@ -33,9 +32,9 @@ cases_of scope line width texts = all_of (λ _. case_of scope line width) texts
 -- `ret` gives what the function's type says, else 202
 abbrev pub return_of : Scope → ℕ → ResultType → Option OperandText → Result Terminator TypeFault
 return_of scope line Void None = Ok (terminator.Return None)
-return_of scope line Number None = Err (Fault 202 line)
+return_of scope line Number None = Err (breaks 202 line)
 return_of scope line Number (Some value) = made_of (λ v. terminator.Return (Some v)) (operand_of scope line Bits64 value)
-return_of scope line Void (Some value) = and_then (operand_of scope line Bits64 value) (λ _. Err (Fault 202 line))
+return_of scope line Void (Some value) = and_then (operand_of scope line Bits64 value) (λ _. Err (breaks 202 line))
 
 abbrev pub jump_of : Scope → ℕ → List ℕ → Result Terminator TypeFault
 jump_of scope line target = made_of terminator.Jump (label_of scope line target)

@@ -2,24 +2,23 @@
 use Rattle.std.specs.Prelude.{Result, Ok, Err}
 use Rattle.program.specs.declared.function.Program.{Program}
 use Rattle.syntax.specs.declared.module.Module.{Module}
-use Rattle.refusal.specs.declared.refused.Refused.{Refused as TypeFault}
-use Rattle.refusal.specs.declared.refused.Refused.TheVariants.{Fault, Memory}
+use Rattle.refusal.specs.declared.broken.Broken.{Broken}
+use Rattle.refusal.specs.declared.refused.Refused.{Refused}
+use Rattle.refusal.specs.Refusals.{IfBroken}
 use Rattle.types.specs.declared.typed.Typed.{Typed}
 use Rattle.types.specs.Meaning.{Means}
 
 -- the program that a module means, else its earliest fault
-abbrev pub MeansTyped : Module → Result Typed TypeFault → Type 0
+abbrev pub MeansTyped : Module → Result Typed Broken → Type 0
 MeansTyped whole (Ok typed) = Means whole (Ok typed.program)
-MeansTyped whole (Err fault) = Means whole (Err fault)
+MeansTyped whole (Err broken) = Means whole (Err broken)
 
--- the answer is what the module means, unless memory was refused
-abbrev pub Judges : Module → Result Typed TypeFault → Type 0
+-- the answer is what the module means; if a fault, then its own
+abbrev pub Judges : Module → Result Typed Refused → Type 0
 Judges whole (Ok typed) = MeansTyped whole (Ok typed)
-Judges whole (Err Memory) = Unit {0}
-Judges whole (Err (Fault number line)) = MeansTyped whole (Err (Fault number line))
+Judges whole (Err refused) = IfBroken (λ broken. MeansTyped whole (Err broken)) refused
 
--- the program is what the module means, unless memory was refused
-abbrev pub Resolves : Module → Result Program TypeFault → Type 0
+-- the program is what the module means; if a fault, then its own
+abbrev pub Resolves : Module → Result Program Refused → Type 0
 Resolves whole (Ok program) = Means whole (Ok program)
-Resolves whole (Err Memory) = Unit {0}
-Resolves whole (Err (Fault number line)) = Means whole (Err (Fault number line))
+Resolves whole (Err refused) = IfBroken (λ broken. Means whole (Err broken)) refused

@@ -9,3 +9,4 @@ pub mod Note
 pub mod Operand
 pub mod Scope
 pub mod Table
+pub mod Told

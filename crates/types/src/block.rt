@@ -2,13 +2,13 @@
 
 ghost use Rattle.std.specs.Prelude.{◌≡◌};
 ghost use Rattle.types.specs.Block as spec;
-ghost use Rattle.types.specs.names.Fault.{Gives};
+ghost use Rattle.types.specs.names.Told.{Gives};
 
 use crate::call::World;
 use crate::instruction::{resolve_phis, resolve_steps};
 use crate::names::{
-    AnnotationPlace, Scope, TypeFault, both, joined, resolve_all_pending, resolve_first_zones,
-    resolve_inequalities, resolve_left,
+    AnnotationPlace, Refused, Scope, both_answers, joined, resolve_all_pending,
+    resolve_first_zones, resolve_inequalities, resolve_left,
 };
 use crate::terminator::resolve_ending;
 use lists::Seq;
@@ -39,7 +39,7 @@ fn resolve_head(
     scope: &Scope,
     block: usize,
     notes: &syntax::BlockNotes,
-) -> Result<Head, TypeFault>
+) -> Result<Head, Refused>
     ensures { Gives result (spec.head_of world.now.items.now scope.now block notes.now) }
 {
     let place = AnnotationPlace::Start(block);
@@ -48,7 +48,10 @@ fn resolve_head(
     let left = resolve_left(alloc, scope, block, &notes.left);
     let foot = notes.foot.as_slice();
     let foot = resolve_first_zones(alloc, world.items, scope, AnnotationPlace::Body, foot);
-    let ((keeps, pending), (left, foot)) = both(both(keeps, pending), both(left, foot))?;
+    let ((keeps, pending), (left, foot)) = both_answers(
+        both_answers(keeps, pending),
+        both_answers(left, foot),
+    )?;
     Ok(Head {
         keeps,
         pending,
@@ -65,13 +68,13 @@ fn resolve_body(
     place: usize,
     result_type: ResultType,
     block: &syntax::Block,
-) -> Result<Body, TypeFault>
+) -> Result<Body, Refused>
     ensures { Gives result (spec.body_of world.now.items.now world.now.functions.now world.now.named.now scope.now function place result_type block.now) }
 {
     let phis = resolve_phis(alloc, scope, block.phis.as_slice());
     let steps = resolve_steps(alloc, world, scope, function, place, block.steps.as_slice());
     let ending = resolve_ending(alloc, scope, result_type, &block.ending);
-    let (phis, (steps, ending)) = both(phis, both(steps, ending))?;
+    let (phis, (steps, ending)) = both_answers(phis, both_answers(steps, ending))?;
     Ok(Body {
         phis,
         steps,
@@ -87,12 +90,12 @@ fn resolve_block(
     place: usize,
     result_type: ResultType,
     block: &syntax::Block,
-) -> Result<Block, TypeFault>
+) -> Result<Block, Refused>
     ensures { Gives result (spec.block_of world.now.items.now world.now.functions.now world.now.named.now scope.now function result_type place block.now) }
 {
     let head = resolve_head(alloc, world, scope, place, &block.notes);
     let body = resolve_body(alloc, world, scope, function, place, result_type, block);
-    let (head, body) = both(head, body)?;
+    let (head, body) = both_answers(head, body)?;
     Ok(Block {
         line: block.line,
         keeps: head.keeps,
@@ -113,7 +116,7 @@ pub fn resolve_blocks(
     function: usize,
     result_type: ResultType,
     blocks: &[syntax::Block],
-) -> Result<Seq<Block>, TypeFault>
+) -> Result<Seq<Block>, Refused>
     ensures { Gives result (spec.blocks_of world.now.items.now world.now.functions.now world.now.named.now scope.now function result_type blocks.now) }
 {
     let mut resolved = Ok(Seq::new(alloc));

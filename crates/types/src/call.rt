@@ -3,12 +3,13 @@
 ghost use Rattle.std.specs.Prelude.{◌≡◌, slice_get};
 ghost use Rattle.std.specs.List.{list_any};
 ghost use Rattle.types.specs.Call as spec;
-ghost use Rattle.types.specs.names.Fault.{Gives};
+ghost use Rattle.types.specs.names.Told.{Gives};
 ghost use Rattle.types.specs.names.Table.{look_up};
 
 use crate::names::{
-    Item, Items, NamedGlobals, Scope, TypeFault, both, downward_call, joined, pointer_misuse,
-    resolve_object, resolve_operand, type_mismatch, unknown_name, unless, wrong_count,
+    Item, Items, NamedGlobals, Refused, Scope, TypeFault, both, both_answers, downward_call,
+    joined, pointer_misuse, resolve_object, resolve_operand, told, type_mismatch, unknown_name,
+    unless, wrong_count,
 };
 use lists::{Name, Seq};
 use program::{Argument, FunctionId, ObjectName, Parameter, Width};
@@ -146,7 +147,7 @@ fn resolve_arguments(
     line: u32,
     parameters: &[syntax::Parameter],
     arguments: &[syntax::Argument],
-) -> Result<Seq<Argument>, TypeFault>
+) -> Result<Seq<Argument>, Refused>
     ensures { Gives result (spec.arguments_of items.now scope.now line parameters.now arguments.now) }
 {
     let mut resolved = Ok(Seq::new(alloc));
@@ -155,7 +156,7 @@ fn resolve_arguments(
         let parameter = expected(parameters, place);
         resolved = joined(
             resolved,
-            resolve_argument(items, scope, line, parameter, argument),
+            told(resolve_argument(items, scope, line, parameter, argument)),
         );
     }
     resolved
@@ -254,7 +255,7 @@ fn fitting_arguments(
     scope: &Scope,
     call: &CallText,
     callee: &Function,
-) -> Result<Seq<Argument>, TypeFault>
+) -> Result<Seq<Argument>, Refused>
     ensures { Gives result (spec.fitting_arguments items.now scope.now call.now.line call.now.has_result callee.now call.now.arguments.now) }
 {
     let line = call.line;
@@ -264,7 +265,7 @@ fn fitting_arguments(
     let count = call.arguments.len() == parameters.len();
     let answers = unless(answers, type_mismatch(line));
     let count = unless(count, wrong_count(line));
-    let (arguments, ((), ())) = both(arguments, both(answers, count))?;
+    let (arguments, ((), ())) = both_answers(arguments, told(both(answers, count)))?;
     Ok(arguments)
 }
 
@@ -294,13 +295,13 @@ fn resolve_known(
     call: &CallText,
     id: FunctionId,
     callee: &Function,
-) -> Result<ResolvedCall, TypeFault>
+) -> Result<ResolvedCall, Refused>
     ensures { Gives result
         (spec.known_call world.now.items.now world.now.named.now scope.now caller
         call.now.line call.now.has_result id callee.now call.now.arguments.now) }
 {
     let arguments = fitting_arguments(alloc, world.items, scope, call, callee)?;
-    pass(world.named, caller, call.line, id, arguments)
+    told(pass(world.named, caller, call.line, id, arguments))
 }
 
 /// A call whose callee is none: its arguments are judged all the same.
@@ -310,14 +311,14 @@ fn refuse_call(
     scope: &Scope,
     call: &CallText,
     fault: TypeFault,
-) -> Result<ResolvedCall, TypeFault>
+) -> Result<ResolvedCall, Refused>
     ensures { Gives result (spec.refused_call items.now scope.now call.now.line call.now.arguments.now fault) }
 {
     let line = call.line;
     let arguments = resolve_arguments(alloc, items, scope, line, &[], call.arguments);
     let refused: Result<(), TypeFault> = Err(fault);
-    match both(arguments, refused) {
-        Ok(_) => Err(fault),
+    match both_answers(arguments, told(refused)) {
+        Ok(_) => told(Err(fault)),
         Err(earlier) => Err(earlier),
     }
 }
@@ -329,7 +330,7 @@ pub fn resolve_call(
     scope: &Scope,
     caller: usize,
     call: &CallText,
-) -> Result<ResolvedCall, TypeFault>
+) -> Result<ResolvedCall, Refused>
     ensures { Gives result
         (spec.call_of world.now.items.now world.now.functions.now world.now.named.now scope.now caller
         call.now.line call.now.has_result call.now.callee.now call.now.arguments.now) }
@@ -337,7 +338,7 @@ pub fn resolve_call(
     match resolve_function(world.items, call.line, call.callee) {
         Err(fault) => refuse_call(alloc, world.items, scope, call, fault),
         Ok(id) => match world.functions.get(id.0) {
-            None => Err(unknown_name(call.line)),
+            None => told(Err(unknown_name(call.line))),
             Some(callee) => resolve_known(alloc, world, scope, caller, call, id, callee),
         },
     }

@@ -1,6 +1,6 @@
 ghost use Rattle.std.specs.Prelude.{◌≡◌, map, IfOk};
 ghost use Rattle.std.specs.List.{list_all};
-ghost use Rattle.types.specs.names.Fault.{Gives};
+ghost use Rattle.types.specs.names.Told.{Gives};
 ghost use Rattle.types.specs.Apart.{CallsApart};
 ghost use Rattle.types.specs.Definitions.{EachDefinesAnew, KeepsParameters};
 ghost use Rattle.types.specs.Meaning as spec;
@@ -9,8 +9,8 @@ ghost use Rattle.types.specs.Typed.{Judges, Resolves};
 use crate::call::World;
 use crate::function::resolve_functions;
 use crate::names::{
-    Item, Items, NamedGlobals, TypeFault, all_mentions, both, items_of, named_globals,
-    type_mismatch, unknown_name, unless,
+    Item, Items, NamedGlobals, Refused, TypeFault, all_mentions, both_answers, items_of,
+    named_globals, told, type_mismatch, unknown_name, unless,
 };
 use crate::typed::Typed;
 use lists::Seq;
@@ -88,7 +88,7 @@ fn resolve_program(
     whole: &Module,
     items: &Items,
     named: &[NamedGlobals],
-) -> Result<Program, TypeFault>
+) -> Result<Program, Refused>
     ensures { Gives result (spec.program_from items.now named.now whole.now) }
 {
     let functions = whole.functions.as_slice();
@@ -99,7 +99,7 @@ fn resolve_program(
     };
     let main = resolve_main(items, functions);
     let functions = resolve_functions(alloc, state, &world);
-    let (main, functions) = both(main, functions)?;
+    let (main, functions) = both_answers(told(main), functions)?;
     let globals = globals_of(alloc, whole.globals.as_slice())?;
     Ok(Program {
         globals,
@@ -109,7 +109,7 @@ fn resolve_program(
 }
 
 /// The program that a module means.
-fn resolve_module(alloc: Global, state: RandomState, whole: &Module) -> Result<Program, TypeFault>
+fn resolve_module(alloc: Global, state: RandomState, whole: &Module) -> Result<Program, Refused>
     ensures { Resolves whole.now result }
 {
     let items = items_of(alloc, state, whole)?;
@@ -121,7 +121,7 @@ fn resolve_module(alloc: Global, state: RandomState, whole: &Module) -> Result<P
 /// The program that a module means, or the fault of the lowest line with the lowest number there.
 ///
 /// The tables of names are hashed with `state`.
-pub fn check_types(alloc: Global, state: RandomState, whole: Module) -> Result<Typed, TypeFault>
+pub fn check_types(alloc: Global, state: RandomState, whole: Module) -> Result<Typed, Refused>
     ensures judged { Judges whole result }
     ensures apart { IfOk result (λ typed. CallsApart typed.program.functions) }
     ensures kept { EachDefinesAnew whole.functions → IfOk result (λ typed. KeepsParameters typed.program.functions) }

@@ -2,13 +2,13 @@
 
 ghost use Rattle.std.specs.Prelude.{◌≡◌, map, IfOk, Ok};
 ghost use Rattle.types.specs.Call.{parameter_of as parameter_meaning};
-ghost use Rattle.types.specs.names.Fault.{Gives};
+ghost use Rattle.types.specs.names.Told.{Gives};
 ghost use Rattle.types.specs.Function as spec;
 
 use crate::block::resolve_blocks;
 use crate::call::{World, parameter_of};
 use crate::names::{
-    AnnotationPlace, Layout, Scope, TypeFault, both, joined, resolve_first_zones,
+    AnnotationPlace, Layout, Refused, Scope, both_answers, joined, resolve_first_zones,
     resolve_inequalities, resolve_measure, resolve_zones,
 };
 use lists::{Name, Seq};
@@ -42,7 +42,7 @@ fn resolve_head_zones(
     world: &World,
     scope: &Scope,
     notes: &FunctionNotes,
-) -> Result<Seq<Zone>, TypeFault>
+) -> Result<Seq<Zone>, Refused>
     ensures { Gives result (spec.head_zones_of world.now.items.now scope.now notes.now) }
 {
     let items = world.items;
@@ -58,7 +58,7 @@ fn resolve_head(
     layout: &Layout,
     result_type: ResultType,
     notes: &FunctionNotes,
-) -> Result<Head, TypeFault>
+) -> Result<Head, Refused>
     ensures { Gives result (spec.head_of world.now.items.now layout.now result_type notes.now) }
 {
     let scope = &layout.scope;
@@ -71,9 +71,9 @@ fn resolve_head(
     let guarantees = resolve_inequalities(alloc, scope, guarantee, notes.guarantees.as_slice());
     let zones = resolve_head_zones(alloc, world, scope, notes);
     let measure = resolve_measure(alloc, scope, &notes.measure);
-    let ((requirements, guarantees), (zones, measure)) = both(
-        both(requirements, guarantees),
-        both(zones, measure),
+    let ((requirements, guarantees), (zones, measure)) = both_answers(
+        both_answers(requirements, guarantees),
+        both_answers(zones, measure),
     )?;
     Ok(Head {
         requirements,
@@ -110,7 +110,7 @@ fn resolved_budget(budget: &syntax::Budget) -> Budget
 fn signature_of(
     alloc: Global,
     function: &syntax::Function,
-) -> Result<(Name, Seq<Parameter>), TypeFault>
+) -> Result<(Name, Seq<Parameter>), Refused>
     ensures { Gives result (Ok (function.now.name, map parameter_meaning function.now.parameters)) }
 {
     let name = function.name.copy()?;
@@ -124,7 +124,7 @@ fn resolve_function(
     world: &World,
     place: usize,
     function: &syntax::Function,
-) -> Result<Function, TypeFault>
+) -> Result<Function, Refused>
     ensures { Gives result (spec.function_of world.now.items.now world.now.functions.now world.now.named.now place function.now) }
 {
     let layout = Layout::of(alloc, state, function)?;
@@ -133,7 +133,7 @@ fn resolve_function(
     let blocks = function.blocks.as_slice();
     let blocks = resolve_blocks(alloc, world, &layout.scope, place, result_type, blocks);
     let signature = signature_of(alloc, function);
-    let ((head, blocks), (name, parameters)) = both(both(head, blocks), signature)?;
+    let ((head, blocks), (name, parameters)) = both_answers(both_answers(head, blocks), signature)?;
     Ok(Function {
         line: function.line,
         name,
@@ -155,7 +155,7 @@ pub fn resolve_functions(
     alloc: Global,
     state: RandomState,
     world: &World,
-) -> Result<Seq<Function>, TypeFault>
+) -> Result<Seq<Function>, Refused>
     ensures { Gives result (spec.functions_of world.now.items.now world.now.functions.now world.now.named.now) }
 {
     let mut resolved = Ok(Seq::new(alloc));

@@ -1,15 +1,15 @@
 //! Instructions and phis.
 
 ghost use Rattle.std.specs.Prelude.{◌≡◌};
-ghost use Rattle.types.specs.names.Fault.{Gives};
+ghost use Rattle.types.specs.names.Told.{Gives};
 ghost use Rattle.program.specs.Widths.{source_width};
 ghost use Rattle.types.specs.Instruction as spec;
 
 use crate::call::{CallText, World, resolve_call};
 use crate::names::{
-    AnnotationPlace, Holding, Scope, TypeFault, both, joined, pointer_misuse, resolve_address,
-    resolve_inequalities, resolve_label, resolve_object, resolve_operand, resolve_register,
-    type_mismatch, unless,
+    AnnotationPlace, Holding, Refused, Scope, TypeFault, both, both_answers, joined,
+    pointer_misuse, resolve_address, resolve_inequalities, resolve_label, resolve_object,
+    resolve_operand, resolve_register, told, type_mismatch, unless,
 };
 use lists::{Name, Seq};
 use program::{
@@ -55,24 +55,24 @@ fn resolve_entries(
     line: u32,
     width: Width,
     entries: &[syntax::PhiEntry],
-) -> Result<Seq<PhiEntry>, TypeFault>
+) -> Result<Seq<PhiEntry>, Refused>
     ensures { Gives result (spec.entries_of scope.now line width entries.now) }
 {
     let mut resolved = Ok(Seq::new(alloc));
     for entry in entries {
-        resolved = joined(resolved, resolve_entry(scope, line, width, entry));
+        resolved = joined(resolved, told(resolve_entry(scope, line, width, entry)));
     }
     resolved
 }
 
-fn resolve_phi(alloc: Global, scope: &Scope, phi: &syntax::Phi) -> Result<Phi, TypeFault>
+fn resolve_phi(alloc: Global, scope: &Scope, phi: &syntax::Phi) -> Result<Phi, Refused>
     ensures { Gives result (spec.phi_of scope.now phi.now) }
 {
     let line = phi.line;
     let width = phi.width;
-    let register = defined_register(scope, line, &phi.register);
+    let register = told(defined_register(scope, line, &phi.register));
     let entries = resolve_entries(alloc, scope, line, width, phi.entries.as_slice());
-    let (register, entries) = both(register, entries)?;
+    let (register, entries) = both_answers(register, entries)?;
     Ok(Phi {
         line,
         register,
@@ -82,11 +82,7 @@ fn resolve_phi(alloc: Global, scope: &Scope, phi: &syntax::Phi) -> Result<Phi, T
 }
 
 /// The phis of a block.
-pub fn resolve_phis(
-    alloc: Global,
-    scope: &Scope,
-    phis: &[syntax::Phi],
-) -> Result<Seq<Phi>, TypeFault>
+pub fn resolve_phis(alloc: Global, scope: &Scope, phis: &[syntax::Phi]) -> Result<Seq<Phi>, Refused>
     ensures { Gives result (spec.phis_of scope.now phis.now) }
 {
     let mut resolved = Ok(Seq::new(alloc));
@@ -309,7 +305,7 @@ fn resolve_call_step(
     register: &Option<Name>,
     callee: &Name,
     arguments: &Seq<syntax::Argument>,
-) -> Result<Instruction, TypeFault>
+) -> Result<Instruction, Refused>
     ensures { Gives result
         (spec.call_step_of world.now.items.now world.now.functions.now world.now.named.now scope.now
         spot.function spot.line register.now callee.now arguments.now) }
@@ -321,9 +317,9 @@ fn resolve_call_step(
         callee,
         arguments: arguments.as_slice(),
     };
-    let register = call_register(scope, line, register);
+    let register = told(call_register(scope, line, register));
     let call = resolve_call(alloc, world, scope, spot.function, &text);
-    let (register, call) = both(register, call)?;
+    let (register, call) = both_answers(register, call)?;
     Ok(Instruction::Call {
         register,
         callee: call.callee,
@@ -344,7 +340,7 @@ fn resolve_instruction(
     scope: &Scope,
     spot: Spot,
     instruction: &Text,
-) -> Result<Instruction, TypeFault>
+) -> Result<Instruction, Refused>
     ensures { Gives result (spec.instruction_of world.now.items.now world.now.functions.now world.now.named.now scope.now spot instruction.now) }
 {
     let line = spot.line;
@@ -355,35 +351,39 @@ fn resolve_instruction(
             width,
             left,
             right,
-        } => resolve_binary(scope, line, register, *operator, *width, left, right),
+        } => told(resolve_binary(scope, line, register, *operator, *width, left, right)),
         Text::Compare {
             register,
             predicate,
             width,
             left,
             right,
-        } => resolve_compare(scope, line, register, *predicate, *width, left, right),
+        } => told(resolve_compare(scope, line, register, *predicate, *width, left, right)),
         Text::Convert {
             register,
             conversion,
             value,
-        } => resolve_convert(scope, line, register, *conversion, value),
-        Text::Alloca { register, .. } => resolve_alloca(scope, spot, register),
+        } => told(resolve_convert(scope, line, register, *conversion, value)),
+        Text::Alloca { register, .. } => told(resolve_alloca(scope, spot, register)),
         Text::ElementPointer {
             register,
             base,
             index,
-        } => resolve_element_pointer(world, scope, line, register, base, index),
-        Text::Load { register, address } => resolve_load(world, scope, spot, register, address),
-        Text::Store { value, address } => resolve_store(world, scope, spot, value, address),
-        Text::StoreZeros { cells, address } => resolve_zeros(world, scope, line, *cells, address),
-        Text::AtomicAdd { address, value } => resolve_add(world, scope, spot, address, value),
+        } => told(resolve_element_pointer(world, scope, line, register, base, index)),
+        Text::Load { register, address } => told(resolve_load(
+            world, scope, spot, register, address,
+        )),
+        Text::Store { value, address } => told(resolve_store(world, scope, spot, value, address)),
+        Text::StoreZeros { cells, address } => told(resolve_zeros(
+            world, scope, line, *cells, address,
+        )),
+        Text::AtomicAdd { address, value } => told(resolve_add(world, scope, spot, address, value)),
         Text::Call {
             register,
             callee,
             arguments,
         } => resolve_call_step(alloc, world, scope, spot, register, callee, arguments),
-        Text::StartRegion { register } => resolve_region_start(scope, line, register),
+        Text::StartRegion { register } => told(resolve_region_start(scope, line, register)),
     }
 }
 
@@ -394,7 +394,7 @@ fn resolve_step(
     function: usize,
     block: usize,
     step: &syntax::Step,
-) -> Result<Step, TypeFault>
+) -> Result<Step, Refused>
     ensures { Gives result (spec.step_of world.now.items.now world.now.functions.now world.now.named.now scope.now function block step.now) }
 {
     let line = step.line;
@@ -405,7 +405,7 @@ fn resolve_step(
     };
     let shows = resolve_inequalities(alloc, scope, AnnotationPlace::Body, step.shows.as_slice());
     let instruction = resolve_instruction(alloc, world, scope, spot, &step.instruction);
-    let (shows, instruction) = both(shows, instruction)?;
+    let (shows, instruction) = both_answers(shows, instruction)?;
     Ok(Step {
         line,
         shows,
@@ -421,7 +421,7 @@ pub fn resolve_steps(
     function: usize,
     block: usize,
     steps: &[syntax::Step],
-) -> Result<Seq<Step>, TypeFault>
+) -> Result<Seq<Step>, Refused>
     ensures { Gives result (spec.steps_of world.now.items.now world.now.functions.now world.now.named.now scope.now function block steps.now) }
 {
     let mut resolved = Ok(Seq::new(alloc));

@@ -25,5 +25,5 @@ mod terminator;
 mod typed;
 
 pub use check::check_types;
-pub use names::TypeFault;
+pub use names::{Refused, TypeFault};
 pub use typed::Typed;

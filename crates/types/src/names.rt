@@ -18,8 +18,8 @@ mod table;
 
 pub use address::{WholeObject, resolve_address, resolve_object};
 pub use fault::{
-    both, downward_call, form_limit, joined, pointer_misuse, type_mismatch, unknown_name, unless,
-    wrong_count,
+    both, both_answers, downward_call, form_limit, joined, pointer_misuse, told, type_mismatch,
+    unknown_name, unless, wrong_count,
 };
 pub use form::{AnnotationPlace, resolve_inequalities};
 pub use item::{Item, Items, items_of};
@@ -32,6 +32,6 @@ pub use operand::{
     fits_width, resolve_condition, resolve_label, resolve_operand, resolve_region, resolve_register,
 };
 pub use reach::{NamedGlobals, named_globals};
-pub use refusal::Refused as TypeFault;
+pub use refusal::{Broken as TypeFault, Refused};
 pub use scope::{Holding, Named, Origin, Register, Scope};
 pub use table::NameTable;

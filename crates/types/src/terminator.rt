@@ -1,12 +1,13 @@
 //! Terminators.
 
 ghost use Rattle.std.specs.Prelude.{◌≡◌};
-ghost use Rattle.types.specs.names.Fault.{Gives};
+ghost use Rattle.types.specs.names.Told.{Gives};
 ghost use Rattle.types.specs.Terminator as spec;
 
 use crate::names::{
-    AnnotationPlace, Scope, TypeFault, both, fits_width, joined, resolve_condition,
-    resolve_inequalities, resolve_label, resolve_operand, resolve_region, type_mismatch, unless,
+    AnnotationPlace, Refused, Scope, TypeFault, both, both_answers, fits_width, joined,
+    resolve_condition, resolve_inequalities, resolve_label, resolve_operand, resolve_region, told,
+    type_mismatch, unless,
 };
 use lists::{Name, Seq};
 use program::{Case, Ending, Terminator, Width};
@@ -53,12 +54,12 @@ fn resolve_cases(
     line: u32,
     width: Width,
     cases: &[syntax::Case],
-) -> Result<Seq<Case>, TypeFault>
+) -> Result<Seq<Case>, Refused>
     ensures { Gives result (spec.cases_of scope.now line width cases.now) }
 {
     let mut resolved = Ok(Seq::new(alloc));
     for case in cases {
-        resolved = joined(resolved, resolve_case(scope, line, width, case));
+        resolved = joined(resolved, told(resolve_case(scope, line, width, case)));
     }
     resolved
 }
@@ -71,13 +72,13 @@ fn resolve_switch(
     value: &syntax::Operand,
     default: &Name,
     cases: &[syntax::Case],
-) -> Result<Terminator, TypeFault>
+) -> Result<Terminator, Refused>
     ensures { Gives result (spec.switch_of scope.now line width value.now default.now cases.now) }
 {
-    let value = resolve_operand(scope, line, width, value);
-    let default = resolve_label(scope, line, default);
+    let value = told(resolve_operand(scope, line, width, value));
+    let default = told(resolve_label(scope, line, default));
     let cases = resolve_cases(alloc, scope, line, width, cases);
-    let (value, (default, cases)) = both(value, both(default, cases))?;
+    let (value, (default, cases)) = both_answers(value, both_answers(default, cases))?;
     Ok(Terminator::Switch {
         width,
         value,
@@ -174,33 +175,40 @@ fn resolve_terminator(
     line: u32,
     result_type: ResultType,
     terminator: &syntax::Terminator,
-) -> Result<Terminator, TypeFault>
+) -> Result<Terminator, Refused>
     ensures { Gives result (spec.terminator_of scope.now line result_type terminator.now) }
 {
     match terminator {
-        syntax::Terminator::Jump { target } => resolve_jump(scope, line, target),
+        syntax::Terminator::Jump { target } => told(resolve_jump(scope, line, target)),
         syntax::Terminator::Branch {
             condition,
             when_true,
             when_false,
-        } => resolve_branch(scope, line, condition, when_true, when_false),
+        } => told(resolve_branch(scope, line, condition, when_true, when_false)),
         syntax::Terminator::Switch {
             width,
             value,
             default,
             cases,
         } => resolve_switch(alloc, scope, line, *width, value, default, cases.as_slice()),
-        syntax::Terminator::Return { value } => resolve_return(scope, line, result_type, value),
+        syntax::Terminator::Return { value } => told(resolve_return(
+            scope,
+            line,
+            result_type,
+            value,
+        )),
         syntax::Terminator::Detach {
             region,
             body,
             continuation,
-        } => resolve_detach(scope, line, region, body, continuation),
+        } => told(resolve_detach(scope, line, region, body, continuation)),
         syntax::Terminator::Reattach {
             region,
             continuation,
-        } => resolve_reattach(scope, line, region, continuation),
-        syntax::Terminator::Sync { region, target } => resolve_sync(scope, line, region, target),
+        } => told(resolve_reattach(scope, line, region, continuation)),
+        syntax::Terminator::Sync { region, target } => told(resolve_sync(
+            scope, line, region, target,
+        )),
     }
 }
 
@@ -209,13 +217,13 @@ fn resolve_known_ending(
     scope: &Scope,
     result_type: ResultType,
     ending: &syntax::Ending,
-) -> Result<Ending, TypeFault>
+) -> Result<Ending, Refused>
     ensures { Gives result (spec.known_ending_of scope.now result_type ending.now) }
 {
     let line = ending.line;
     let shows = resolve_inequalities(alloc, scope, AnnotationPlace::Body, ending.shows.as_slice());
     let terminator = resolve_terminator(alloc, scope, line, result_type, &ending.terminator);
-    let (shows, terminator) = both(shows, terminator)?;
+    let (shows, terminator) = both_answers(shows, terminator)?;
     Ok(Ending {
         line,
         shows,
@@ -229,7 +237,7 @@ pub fn resolve_ending(
     scope: &Scope,
     result_type: ResultType,
     ending: &Option<syntax::Ending>,
-) -> Result<Option<Ending>, TypeFault>
+) -> Result<Option<Ending>, Refused>
     ensures { Gives result (spec.ending_of scope.now result_type ending.now) }
 {
     match ending {

@@ -1,10 +1,11 @@
 -- The answers of the phases put together.
-use Rattle.std.proofs.Common.{◌≡◌, ℕ, List, Bool, Result, Ok, Err, IfErr, inl, inr, sym, subst}
+use Rattle.std.proofs.Common.{◌≡◌, ℕ, List, Option, Result, Ok, Err, IfErr, inl, inr, sym, subst}
 use Rattle.std.specs.Prelude.{IsErrAnd}
 use Rattle.refusal.specs.declared.refused.Refused.{Refused}
 use Rattle.refusal.specs.declared.refused.Refused.TheVariants.{Fault, Memory}
 use Rattle.refusal.specs.declared.broken.Broken.{Broken}
-use Rattle.refusal.specs.Earliest.{NamesEarliest}
+use Rattle.refusal.specs.Earliest.{IsFirst, NamesEarliest}
+use Rattle.refusal.specs.Refusals.{IfBroken}
 use Rattle.ranges.specs.declared.unverified.Unverified.{Unverified}
 use Rattle.ranges.specs.declared.unverified.Unverified.TheVariants as unverified
 use Rattle.ranges.specs.Judged.{JudgesEarliest}
@@ -25,24 +26,26 @@ use Rattle.verifier.specs.Accepted.{IsDefined, AreTasksOf, AreZonesRight, IsProg
 use Rattle.verifier.specs.Limits.{IsWithinLimits}
 use Rattle.verifier.proofs.Limits.{within_limits}
 
-pub refused_by_text : (text : List ℕ) (refused : Refused) → IsFaultOfText text refused → IsRefused text refused
+pub refused_by_text : (text : List ℕ) (refused : Refused) → IsFaultOfText text refused → IfBroken (IsRefused text) refused
 refused_by_text text (Fault number line) h = inl h
 refused_by_text text Memory h = tt
 
-pub refused_by_types : (text : List ℕ) (whole : Module) (refused : Refused) → Answers text (Ok whole) → Judges whole (Err refused) → IsRefused text refused
+pub refused_by_types : (text : List ℕ) (whole : Module) (refused : Refused) → Answers text (Ok whole) → Judges whole (Err refused) → IfBroken (IsRefused text) refused
 refused_by_types text whole (Fault number line) a h = inr (whole, a, inl h)
 refused_by_types text whole Memory a h = tt
 
 -- a phase after the types
-pub refused_after : (text : List ℕ) (whole : Module) (typed : Typed) (kept : Program) (refused : Refused) → kept ≡ typed.program → Answers text (Ok whole) → Judges whole (Ok typed) →
-    IsFaulty kept refused → IsRefused text refused
-refused_after text whole typed kept (Fault number line) same a j h = inr (whole, a, inr (typed, j, rw same at h))
-refused_after text whole typed kept Memory same a j h = tt
+pub refused_after : (text : List ℕ) (whole : Module) (typed : Typed) (kept : Program) (IsBroken : Broken → Type 0) (refused : Refused) → kept ≡ typed.program → Answers text (Ok whole) → Judges whole (Ok typed) →
+    ((broken : Broken) → IsFirst IsBroken broken → IsFaulty kept broken) → NamesEarliest IsBroken refused → IfBroken (IsRefused text) refused
+refused_after text whole typed kept IsBroken (Fault number line) same a j phase named =
+    let h = phase (record { line = line; number = number }) named in
+    inr (whole, a, inr (typed, j, rw same at h))
+refused_after text whole typed kept IsBroken Memory same a j phase named = tt
 
 -- a phase within some effort
-pub unverified_by : (text : List ℕ) (bounded : Bool) (IsBroken : Broken → Type 0) (u : Unverified) → JudgesEarliest bounded IsBroken u → ((refused : Refused) → NamesEarliest IsBroken refused → IsRefused text refused) → IsUnverified text bounded u
-unverified_by text bounded IsBroken (unverified.Refused refused) h by = by refused h
-unverified_by text bounded IsBroken unverified.OutOfEffort h by = h
+pub unverified_by : (text : List ℕ) (effort : Option ℕ) (IsBroken : Broken → Type 0) (u : Unverified) → JudgesEarliest effort IsBroken u → ((refused : Refused) → NamesEarliest IsBroken refused → IfBroken (IsRefused text) refused) → IsUnverified text effort u
+unverified_by text effort IsBroken (unverified.Refused refused) h by = by refused h
+unverified_by text effort IsBroken (unverified.OutOfEffort granted) h by = h
 
 -- a table of the graph's tasks is one of the program's
 pub by_tasks : (program : Program) (graphs : List FunctionGraph) (regions : Regions) → graphs ≡ graphs_of program → AreAllTasks graphs regions.functions → AreTasksOf program regions

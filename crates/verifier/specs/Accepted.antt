@@ -1,9 +1,8 @@
 -- What a text means by the phases: a program, or the fault that is named.
-use Rattle.std.specs.Prelude.{◌≡◌, ◌⊎◌, ℕ, List, Bool, IsTrue, Ok, Err}
+use Rattle.std.specs.Prelude.{◌≡◌, ◌⊎◌, ℕ, List, Option, Some, Ok, Err}
 use Rattle.refusal.specs.declared.broken.Broken.{Broken}
-use Rattle.refusal.specs.declared.refused.Refused.{Refused}
-use Rattle.refusal.specs.declared.refused.Refused.TheVariants.{Fault, Memory}
-use Rattle.refusal.specs.Earliest.{NamesEarliest}
+use Rattle.refusal.specs.Earliest.{IsFirst}
+use Rattle.refusal.specs.Refusals.{IfBroken}
 use Rattle.syntax.specs.declared.module.Module.{Module}
 use Rattle.program.specs.declared.function.Program.{Program}
 use Rattle.ir_reader.specs.Reading.{Answers}
@@ -33,9 +32,9 @@ AreTasksOf program regions = AreAllTasks (graphs_of program) regions.functions
 abbrev pub AreZonesRight : Program → Type 0
 AreZonesRight program = (regions : Regions) × AreTasksOf program regions × AreZonesRightBy program regions
 
--- by the tasks of the blocks the earliest broken rule on zones is named
-abbrev pub NamesZoneFault : Program → Refused → Type 0
-NamesZoneFault program refused = (regions : Regions) × AreTasksOf program regions × NamesEarliest (IsZoneBroken program regions) refused
+-- by the tasks of the blocks this is the earliest broken rule on zones
+abbrev pub IsFirstOfZones : Program → Broken → Type 0
+IsFirstOfZones program broken = (regions : Regions) × AreTasksOf program regions × IsFirst (IsZoneBroken program regions) broken
 
 -- the rules after the types, phase by phase
 pub record IsRight (program : Program) : Type 0 where
@@ -51,31 +50,30 @@ abbrev pub IsProgramOf : List ℕ → Program → Type 0
 IsProgramOf text program =
     (whole : Module) × Answers text (Ok whole) × (typed : Typed) × MeansTyped whole (Ok typed) × (typed.program ≡ program) × IsRight program
 
--- the first phase after the types whose rules the program breaks names the earliest of them
-abbrev pub IsFaulty : Program → Refused → Type 0
-IsFaulty program refused =
-    NamesEarliest (IsGraphBroken program) refused
+-- of the first phase after the types whose rules the program breaks this is the earliest broken one
+abbrev pub IsFaulty : Program → Broken → Type 0
+IsFaulty program broken =
+    IsFirst (IsGraphBroken program) broken
     ⊎ (IsGraphRight program
-    × (NamesEarliest (IsTaskBroken program) refused
+    × (IsFirst (IsTaskBroken program) broken
     ⊎ (AreRegionsRight program
-    × (NamesEarliest (IsDefinednessBroken program) refused
+    × (IsFirst (IsDefinednessBroken program) broken
     ⊎ (IsDefined program
-    × (NamesEarliest (IsRangeBroken program) refused
+    × (IsFirst (IsRangeBroken program) broken
     ⊎ (AreRangesRight program
-    × (NamesZoneFault program refused ⊎ (AreZonesRight program × NamesEarliest (IsCostBroken program) refused)))))))))
+    × (IsFirstOfZones program broken ⊎ (AreZonesRight program × IsFirst (IsCostBroken program) broken)))))))))
 
--- the first phase with a fault names it
-abbrev pub IsRefused : List ℕ → Refused → Type 0
-IsRefused text Memory = Unit {0}
-IsRefused text (Fault number line) =
-    Answers text (Err (number, line))
+-- the text breaks this rule at this line, by the first phase with a fault
+abbrev pub IsRefused : List ℕ → Broken → Type 0
+IsRefused text broken =
+    Answers text (Err (broken.number, broken.line))
     ⊎ ((whole : Module) × Answers text (Ok whole)
-    × (MeansTyped whole (Err (Fault number line)) ⊎ ((typed : Typed) × MeansTyped whole (Ok typed) × IsFaulty typed.program (Fault number line))))
+    × (MeansTyped whole (Err broken) ⊎ ((typed : Typed) × MeansTyped whole (Ok typed) × IsFaulty typed.program broken)))
 
--- the text is refused, or there is no verdict, as the effort that was granted is spent, if that is bounded
-abbrev pub IsUnverified : List ℕ → Bool → Unverified → Type 0
-IsUnverified text bounded (unverified.Refused refused) = IsRefused text refused
-IsUnverified text bounded unverified.OutOfEffort = IsTrue bounded
+-- if a fault, then the text is refused for it; or there is no verdict, and the effort is named that was granted, if that is bounded
+abbrev pub IsUnverified : List ℕ → Option ℕ → Unverified → Type 0
+IsUnverified text effort (unverified.Refused refused) = IfBroken (IsRefused text) refused
+IsUnverified text effort (unverified.OutOfEffort granted) = effort ≡ Some granted
 
 -- some text means the program
 pub record IsAccepted (program : Program) : Type 0 where

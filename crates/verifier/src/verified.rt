@@ -1,4 +1,5 @@
 ghost use Rattle.std.specs.Prelude.{◌≡◌, IfOk, IfErr};
+ghost use Rattle.refusal.specs.Refusals.{IfBroken};
 ghost use Rattle.verifier.specs.Accepted.{IsAccepted, IsProgramOf, IsRefused, IsUnverified};
 ghost use Rattle.verifier.specs.Budgets.{IsTableOf, IsDepthOf, budget_of};
 
@@ -96,16 +97,17 @@ impl Verified {
 /// texts of strangers asks [`verify_within`].
 pub fn verify(alloc: Global, state: RandomState, text: &[u8]) -> Result<Verified, Refused>
     ensures accepted { IfOk result (IsProgramOf text.now) }
-    ensures refused { IfErr result (IsRefused text.now) }
+    ensures refused { IfErr result (IfBroken (IsRefused text.now)) }
 {
     match verify_within(alloc, state, text, &Effort::unlimited()) {
         Ok(verified) => Ok(verified),
         Err(Unverified::Refused(refused)) => Err(refused),
-        Err(Unverified::OutOfEffort) => unreachable!(),
+        Err(Unverified::OutOfEffort { .. }) => unreachable!(),
     }
 }
 
-/// The same within some effort. Where more is needed than a bounded one grants, there is no verdict, and the same text may be tried again with more.
+/// The same within some effort. Where more is needed than a bounded one grants, there is no verdict, and the same text may be tried again with more: what
+/// was granted is named.
 ///
 /// What it answers depends on the text alone, and on memory: a text that is verified within some effort is so on every machine. The last question may take
 /// more than what is left, at most some second.

@@ -92,7 +92,7 @@ impl Asked<'_> {
             Ok(verified) if self.request.verb == Verb::Show => self.answer_known(&verified, output),
             Ok(verified) => self.answer_accepted(&verified, output),
             Err(Unverified::Refused(refused)) => self.answer_refused(&refused, output, beside),
-            Err(Unverified::OutOfEffort) => {
+            Err(Unverified::OutOfEffort { .. }) => {
                 note_effort(beside)?;
                 write_made(UNDECIDED, Status::Stopped, output)
             }

@@ -4,7 +4,7 @@ use Rattle.std.specs.List.{list_all}
 use Rattle.ir_annotation.specs.declared.meaning.AnnotationLine.{AnnotationLine}
 use Rattle.ir_annotation.specs.Lines.{annotation_of}
 use Rattle.refusal.specs.declared.refused.Refused.{Refused}
-use Rattle.refusal.specs.declared.refused.Refused.TheVariants as faults
+use Rattle.refusal.specs.Refusals.{IfBroken}
 use Rattle.ir_lex.specs.declared.token.Kind.{Kind}
 use Rattle.ir_lex.specs.declared.token.Kind.TheVariants as kinds
 use Rattle.ir_lex.specs.declared.token.Token.{Token}
@@ -47,12 +47,10 @@ pub data IsLineFault (at : ℕ) (line : List ℕ) : ℕ → Type 0 where
   NotUtf8 : (IsUtf8 line → ⊥) → IsLineFault at line 101
   NotSaid : (number : ℕ) → IsUtf8 line → line_of at line ≡ Err number → IsLineFault at line number
 
--- the fault is that of the line, or memory was refused
+-- if a fault, then that of the line
 abbrev pub IsFaultOfLine : ℕ → List ℕ → Refused → Type 0
-IsFaultOfLine at line faults.Memory = Unit {0}
-IsFaultOfLine at line (faults.Fault number found_at) = (found_at ≡ at) × IsLineFault at line number
+IsFaultOfLine at line fault = IfBroken (λ broken. (broken.line ≡ at) × IsLineFault at line broken.number) fault
 
--- the fault is the one that the reading of tokens meets, or memory was refused
+-- if a fault, then the one that the reading of tokens meets
 abbrev pub IsMeaningFault : ℕ → Result (Option Line) ℕ → Refused → Type 0
-IsMeaningFault at meaning faults.Memory = Unit {0}
-IsMeaningFault at meaning (faults.Fault number found_at) = (found_at ≡ at) × (meaning ≡ Err number)
+IsMeaningFault at meaning fault = IfBroken (λ broken. (broken.line ≡ at) × (meaning ≡ Err broken.number)) fault

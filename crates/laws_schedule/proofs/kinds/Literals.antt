@@ -24,10 +24,9 @@ use Rattle.ir_instruction.specs.Spelled.{is_spelled, is_parted_from, are_spelled
 use Rattle.ir_instruction.specs.Spelling.{Atom, Token, Blank, a_register, a_word, a_mark, operand_symbol, operand_atom, width_word, operator_atoms}
 use Rattle.ir_instruction.specs.Symbols.{fits_i64}
 use Rattle.types.specs.declared.names.address.WholeObject.{WholeObject}
-use Rattle.refusal.specs.declared.refused.Refused.{Refused as TypeFault}
-use Rattle.refusal.specs.declared.refused.Refused.TheVariants.{Fault}
+use Rattle.refusal.specs.declared.broken.Broken.{Broken as TypeFault}
 use Rattle.types.specs.names.Address.{Items, object_of}
-use Rattle.types.specs.names.Fault.{both_of, made_of, unless_of}
+use Rattle.types.specs.names.Fault.{both_of, breaks, made_of, unless_of}
 use Rattle.types.specs.names.Operand.{fits_width, operand_of, register_passing}
 use Rattle.types.specs.names.Scope.{Scope, is_number_of}
 use Rattle.types.proofs.names.Inversion.{made_ok, then_ok, both_ok, unless_ok}
@@ -75,9 +74,9 @@ IsWritten written = IsKeptItem (item.Instruction written)
 module _ (items : Items) (functions : List FunctionText) (named : Named) (scope : Scope) where
   operand_fits : (line : ℕ) (width : Width) (written : OperandText) (y : Operand) → is_spelled (operand_symbol written) ≡ true → operand_of scope line width written ≡ Ok y → FitsText width y
   operand_fits line width (operand_text.Number z) y spelled e =
-      let made = made_ok (λ (u : Unit {0}). operand.Number z) (unless_of (fits_width width z) (Fault 202 line)) y e in
+      let made = made_ok (λ (u : Unit {0}). operand.Number z) (unless_of (fits_width width z) (breaks 202 line)) y e in
       let P : Operand → Type 0 = λ x. FitsText width x in
-      subst P made.2 (text_fits width z spelled (unless_ok (fits_width width z) (Fault 202 line) made.0 made.1))
+      subst P made.2 (text_fits width z spelled (unless_ok (fits_width width z) (breaks 202 line) made.0 made.1))
   operand_fits line width (operand_text.Register name) y spelled e =
       let made = made_ok (λ (r : RegisterId). operand.Register r) (register_passing (is_number_of width) scope line name) y e in
       let P : Operand → Type 0 = λ x. FitsText width x in
@@ -91,7 +90,7 @@ module _ (items : Items) (functions : List FunctionText) (named : Named) (scope 
   numbers_fit f b line (text.Compare register predicate width left right) what kept e = let made = made_ok _ _ what e in subst NumbersFit made.2 tt
   numbers_fit f b line (text.Convert register conversion value) what kept e = let made = made_ok _ _ what e in subst NumbersFit made.2 tt
   numbers_fit f b line (text.Alloca register size) what kept e =
-      let entry : Result (Unit {0}) TypeFault = unless_of (nat_eq b 0) (Fault 204 line) in
+      let entry : Result (Unit {0}) TypeFault = unless_of (nat_eq b 0) (breaks 204 line) in
       let part = then_ok (λ (p : RegisterId × AllocaId). made_of (λ (u : Unit {0}). instruction.Alloca p.0 p.1) entry)
       (both_of (defined_of scope line register) (alloca_id_of scope line register)) what e in
       subst NumbersFit (made_ok (λ (u : Unit {0}). instruction.Alloca part.0.0 part.0.1) entry what part.2).2 tt
@@ -99,8 +98,8 @@ module _ (items : Items) (functions : List FunctionText) (named : Named) (scope 
   numbers_fit f b line (text.Load register at) what kept e = let made = made_ok _ _ what e in subst NumbersFit made.2 tt
   numbers_fit f b line (text.Store value at) what kept e = let made = made_ok _ _ what e in subst NumbersFit made.2 tt
   numbers_fit f b line (text.StoreZeros cells at) what kept e =
-      let part = then_ok (λ (found : WholeObject). made_of (λ (u : Unit {0}). instruction.StoreZeros cells found.name) (unless_of (nat_eq found.cells cells) (Fault 204 line))) (object_of items scope line at) what e in
-      subst NumbersFit (made_ok (λ (u : Unit {0}). instruction.StoreZeros cells part.0.name) (unless_of (nat_eq part.0.cells cells) (Fault 204 line)) what part.2).2 tt
+      let part = then_ok (λ (found : WholeObject). made_of (λ (u : Unit {0}). instruction.StoreZeros cells found.name) (unless_of (nat_eq found.cells cells) (breaks 204 line))) (object_of items scope line at) what e in
+      subst NumbersFit (made_ok (λ (u : Unit {0}). instruction.StoreZeros cells part.0.name) (unless_of (nat_eq part.0.cells cells) (breaks 204 line)) what part.2).2 tt
   numbers_fit f b line (text.AtomicAdd at value) what kept e = let made = made_ok _ _ what e in subst NumbersFit made.2 tt
   numbers_fit f b line (text.Call register callee arguments) what kept e = let made = made_ok _ _ what e in subst NumbersFit made.2 tt
   numbers_fit f b line (text.StartRegion register) what kept e = let made = made_ok _ _ what e in subst NumbersFit made.2 tt

@@ -21,8 +21,8 @@ use Rattle.syntax.specs.declared.terminator.Terminator.{Terminator as Terminator
 use Rattle.syntax.specs.declared.terminator.Terminator.TheVariants as text
 use Rattle.laws_phases.specs.cfg.declared.structure.Way.{Way}
 use Rattle.laws_phases.specs.cfg.declared.structure.Way.TheVariants as way
-use Rattle.refusal.specs.declared.refused.Refused.{Refused as TypeFault}
-use Rattle.refusal.specs.declared.refused.Refused.TheVariants.{Fault}
+use Rattle.refusal.specs.declared.broken.Broken.{Broken as TypeFault}
+use Rattle.types.specs.names.Fault.{breaks}
 use Rattle.types.specs.declared.names.scope.Named.{Named}
 use Rattle.types.specs.declared.names.scope.Named.TheVariants as named
 use Rattle.types.specs.names.Layout.{layout_of}
@@ -143,7 +143,7 @@ module _ (function : FunctionText) where
       let made = made_ok (λ (v : Operand). terminator.Return (Some v)) (operand_of scope line Bits64 value) t e in
       subst P made.2 (tt, tt)
   return_fits line Void (Some value) t e =
-      let bad : Operand → Result Terminator TypeFault = λ v. Err (Fault 202 line) in
+      let bad : Operand → Result Terminator TypeFault = λ v. Err (breaks 202 line) in
       absurd (err_not_ok _ t (then_ok bad (operand_of scope line Bits64 value) t e).2)
 
   terminator_fits : (line : ℕ) (written : TerminatorText) (t : Terminator) → terminator_of scope line function.result_type written ≡ Ok t → Fits t

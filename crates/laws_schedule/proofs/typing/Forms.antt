@@ -19,13 +19,12 @@ use Rattle.syntax.specs.declared.annotation.Relation.TheVariants.{AtMost, AtLeas
 use Rattle.syntax.specs.declared.annotation.Term.{Term as TermText}
 use Rattle.syntax.specs.declared.module.Function.{Function as FunctionText}
 use Rattle.syntax.specs.declared.operator.Width.TheVariants.{Bits64}
-use Rattle.refusal.specs.declared.refused.Refused.TheVariants.{Fault}
 use Rattle.types.specs.declared.names.form.AnnotationPlace.{AnnotationPlace}
 use Rattle.types.specs.declared.names.form.AnnotationPlace.TheVariants as place
 use Rattle.types.specs.declared.names.scope.Named.{Named}
 use Rattle.types.specs.declared.names.scope.Named.TheVariants as named
 use Rattle.types.specs.declared.names.scope.Register.{Register}
-use Rattle.types.specs.names.Fault.{unless_of}
+use Rattle.types.specs.names.Fault.{breaks, unless_of}
 use Rattle.types.specs.names.Form.{as_parameter, parameter_of, parameter_term_of, as_outcome, guarantee_term_of, term_register_of, term_of, within_bounds, with_one, with_all, form_in_scope, inequality_between, inequality_of, inequalities_of}
 use Rattle.types.specs.names.Layout.{layout_of}
 use Rattle.types.specs.names.Note.{measure_of}
@@ -137,15 +136,15 @@ module _ (function : FunctionText) where
       from None is k = absurd (err_not_ok _ register k)
       from (Some (named.Label block)) is k = absurd (err_not_ok _ register k)
       from (Some (named.Register other)) is k =
-          let made = made_ok (λ (u : Unit {0}). other) (unless_of (is_parameter other.origin) (Fault 201 line)) register k in
+          let made = made_ok (λ (u : Unit {0}). other) (unless_of (is_parameter other.origin) (breaks 201 line)) register k in
           let right = named_found (IsNamedRight function (length (layout_of function).registers) (layout_of function).allocas) scope name (named.Register other) (layout_right function).entries is in
           let Q : Register → Type 0 = λ x. IsParameter x.id.0 in
-          subst Q made.2 (right.parameter (unless_ok (is_parameter other.origin) (Fault 201 line) made.0 made.1))
+          subst Q made.2 (right.parameter (unless_ok (is_parameter other.origin) (breaks 201 line) made.0 made.1))
 
   pub parameter_term_below : (line : ℕ) (name : List ℕ) (id : RegisterId) → parameter_term_of scope line name ≡ Ok id → IsParameter id.0
   parameter_term_below line name id e =
       let part = then_ok (passing (is_number_of Bits64) line) (parameter_of scope line name) id e in
-      let made = made_ok (λ (u : Unit {0}). part.0.id) (unless_of (is_number_of Bits64 part.0.holding) (Fault 202 line)) id part.2 in
+      let made = made_ok (λ (u : Unit {0}). part.0.id) (unless_of (is_number_of Bits64 part.0.holding) (breaks 202 line)) id part.2 in
       let Q : RegisterId → Type 0 = λ x. IsParameter x.0 in
       subst Q made.2 (parameter_below line name part.0 part.1)
 

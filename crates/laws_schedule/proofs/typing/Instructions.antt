@@ -17,12 +17,11 @@ use Rattle.syntax.specs.declared.instruction.Instruction.TheVariants as text
 use Rattle.syntax.specs.declared.instruction.Phi.{Phi as PhiText}
 use Rattle.syntax.specs.declared.module.Function.{Function as FunctionText}
 use Rattle.types.specs.declared.names.address.WholeObject.{WholeObject}
-use Rattle.refusal.specs.declared.refused.Refused.{Refused as TypeFault}
-use Rattle.refusal.specs.declared.refused.Refused.TheVariants.{Fault}
+use Rattle.refusal.specs.declared.broken.Broken.{Broken as TypeFault}
 use Rattle.types.specs.declared.names.scope.Named.TheVariants as named_as
 use Rattle.types.specs.declared.names.scope.Register.{Register}
 use Rattle.types.specs.names.Address.{Items, address_of, object_of}
-use Rattle.types.specs.names.Fault.{both_of, made_of, unless_of}
+use Rattle.types.specs.names.Fault.{both_of, breaks, made_of, unless_of}
 use Rattle.types.specs.names.Operand.{register_of}
 use Rattle.types.specs.names.Scope.{Scope}
 use Rattle.types.specs.names.Table.{look_up}
@@ -127,9 +126,9 @@ module _ (items : Items) (functions : List FunctionText) (scope : Scope) where
     passed_fits : (caller line : ℕ) (has_result : Bool) (texts : List ArgumentText) (id g : FunctionId) (callee : FunctionText) (given arguments : List Argument) → slice_get functions id.0 ≡ Some callee →
         fitting_arguments items scope line has_result callee texts ≡ Ok given → passed_call named caller line id given ≡ Ok (record { callee = g; arguments = arguments }) → Fitting caller line has_result texts g arguments
     passed_fits caller line has_result texts id g callee given arguments at fits e =
-        let first = then_ok _ (unless_of (are_distinct given) (Fault 204 line)) _ e in
-        let second = then_ok _ (unless_of (not (is_any_named (slice_get named id.0) given)) (Fault 204 line)) _ first.2 in
-        let third = made_ok _ (unless_of (nat_le id.0 caller) (Fault 205 line)) _ second.2 in
+        let first = then_ok _ (unless_of (are_distinct given) (breaks 204 line)) _ e in
+        let second = then_ok _ (unless_of (not (is_any_named (slice_get named id.0) given)) (breaks 204 line)) _ first.2 in
+        let third = made_ok _ (unless_of (nat_le id.0 caller) (breaks 205 line)) _ second.2 in
         let made = made_ok _ _ given fits in
         let parts = both_ok _ _ made.0 made.1 in
         let tests = both_ok _ _ made.0.1 parts.1 in
@@ -197,7 +196,7 @@ module _ (items : Items) (functions : List FunctionText) (scope : Scope) where
         subst P made.2 (record { defined = by_name scope (text.Convert register conversion value) line register made.0.0 refl (both_ok _ _ made.0 made.1).0; uses = tt })
     is_meant f b line (text.Alloca register size) meant e =
         let P : Instruction → Type 0 = λ x. Meant f b (text.Alloca register size) x in
-        let entry : Result (Unit {0}) TypeFault = unless_of (nat_eq b 0) (Fault 204 line) in
+        let entry : Result (Unit {0}) TypeFault = unless_of (nat_eq b 0) (breaks 204 line) in
         let part = then_ok (λ (p : RegisterId × AllocaId). made_of (λ (u : Unit {0}). instruction.Alloca p.0 p.1) entry)
         (both_of (defined_of scope line register) (alloca_id_of scope line register)) meant e in
         subst P (made_ok (λ (u : Unit {0}). instruction.Alloca part.0.0 part.0.1) entry meant part.2).2
@@ -224,9 +223,9 @@ module _ (items : Items) (functions : List FunctionText) (scope : Scope) where
         subst P made.2 (record { defined = never (text.Store value at); uses = record { line = line; written = at; is = (both_ok _ _ made.0 made.1).1 } })
     is_meant f b line (text.StoreZeros cells at) meant e =
         let P : Instruction → Type 0 = λ x. Meant f b (text.StoreZeros cells at) x in
-        let part = then_ok (λ (found : WholeObject). made_of (λ (u : Unit {0}). instruction.StoreZeros cells found.name) (unless_of (nat_eq found.cells cells) (Fault 204 line)))
+        let part = then_ok (λ (found : WholeObject). made_of (λ (u : Unit {0}). instruction.StoreZeros cells found.name) (unless_of (nat_eq found.cells cells) (breaks 204 line)))
         (object_of items scope line at) meant e in
-        let last = made_ok (λ (u : Unit {0}). instruction.StoreZeros cells part.0.name) (unless_of (nat_eq part.0.cells cells) (Fault 204 line)) meant part.2 in
+        let last = made_ok (λ (u : Unit {0}). instruction.StoreZeros cells part.0.name) (unless_of (nat_eq part.0.cells cells) (breaks 204 line)) meant part.2 in
         subst P last.2 (record {
           defined = never (text.StoreZeros cells at);
           uses = (part.0, record { line = line; written = at; is = part.1 }, refl, eq_of part.0.cells cells (unless_ok _ _ last.0 last.1));

@@ -40,14 +40,13 @@ use Rattle.syntax.specs.declared.terminator.Terminator.{Terminator as Terminator
 use Rattle.syntax.specs.declared.terminator.Terminator.TheVariants as ending
 use Rattle.ir_reader.specs.Kept.{IsKeptModule}
 use Rattle.types.specs.declared.names.address.WholeObject.{WholeObject}
-use Rattle.refusal.specs.declared.refused.Refused.{Refused as TypeFault}
-use Rattle.refusal.specs.declared.refused.Refused.TheVariants.{Fault}
+use Rattle.refusal.specs.declared.broken.Broken.{Broken as TypeFault}
 use Rattle.types.specs.declared.names.scope.Holding.{Holding}
 use Rattle.types.specs.declared.names.scope.Holding.TheVariants as holding
 use Rattle.types.specs.declared.names.scope.Named.TheVariants as named_as
 use Rattle.types.specs.declared.names.scope.Register.{Register}
 use Rattle.types.specs.names.Address.{Items, object_of}
-use Rattle.types.specs.names.Fault.{both_of, made_of, unless_of}
+use Rattle.types.specs.names.Fault.{both_of, breaks, made_of, unless_of}
 use Rattle.types.specs.names.Item.{items_of}
 use Rattle.types.specs.names.Layout.{kind_of, layout_of}
 use Rattle.types.specs.names.Operand.{fits_width, operand_of, passing, register_of, register_passing}
@@ -108,16 +107,16 @@ module _ (function : FunctionText) where
   tested : (test : Holding → Bool) (k : RegisterKind) → ((held : Holding) → test held ≡ true → kind_of held ≡ k) → (line : ℕ) (name : List ℕ) (id : RegisterId) → register_passing test scope line name ≡ Ok id → IsOfKind registers id.0 k
   tested test k says line name id e =
       let part = then_ok (passing test line) (register_of scope line name) id e in
-      let made = made_ok (λ (u : Unit {0}). part.0.id) (unless_of (test part.0.holding) (Fault 202 line)) id part.2 in
+      let made = made_ok (λ (u : Unit {0}). part.0.id) (unless_of (test part.0.holding) (breaks 202 line)) id part.2 in
       let has = (register_kind function name part.0 (register_found scope line name part.0 part.1)).has in
       let P : RegisterId → Type 0 = λ x. IsOfKind registers x.0 k in
-      subst P made.2 (has ∙ ap (λ (x : RegisterKind). Some x) (says part.0.holding (unless_ok (test part.0.holding) (Fault 202 line) made.0 made.1)))
+      subst P made.2 (has ∙ ap (λ (x : RegisterKind). Some x) (says part.0.holding (unless_ok (test part.0.holding) (breaks 202 line) made.0 made.1)))
 
   number : (line : ℕ) (width : Width) (written : OperandText) (x : Operand) → operand_of scope line width written ≡ Ok x → IsNumber registers width x
   number line width (operand_text.Number z) x e =
-      let made = made_ok (λ (u : Unit {0}). operand.Number z) (unless_of (fits_width width z) (Fault 202 line)) x e in
+      let made = made_ok (λ (u : Unit {0}). operand.Number z) (unless_of (fits_width width z) (breaks 202 line)) x e in
       let P : Operand → Type 0 = λ y. IsNumber registers width y in
-      subst P made.2 (unless_ok (fits_width width z) (Fault 202 line) made.0 made.1)
+      subst P made.2 (unless_ok (fits_width width z) (breaks 202 line) made.0 made.1)
   number line width (operand_text.Register name) x e =
       let made = made_ok (λ (r : RegisterId). operand.Register r) (register_passing (is_number_of width) scope line name) x e in
       let P : Operand → Type 0 = λ y. IsNumber registers width y in
@@ -136,13 +135,13 @@ module _ (function : FunctionText) where
     argument_kinded : (line : ℕ) (wanted : Option Parameter) (written : ArgumentText) (given : Argument) → argument_of items scope line wanted written ≡ Ok given → IsArgument registers given
     argument_kinded line wanted (passed.Number value) given e =
         let part = then_ok _ (operand_of scope line Bits64 value) given e in
-        let made = made_ok (λ (u : Unit {0}). argument.Number part.0) (unless_of (takes_number wanted) (Fault 202 line)) given part.2 in
+        let made = made_ok (λ (u : Unit {0}). argument.Number part.0) (unless_of (takes_number wanted) (breaks 202 line)) given part.2 in
         let P : Argument → Type 0 = λ x. IsArgument registers x in
         subst P made.2 (number line Bits64 value part.0 part.1)
     argument_kinded line wanted (passed.Pointer written) given e =
-        let part = then_ok (λ (p : WholeObject × Unit {0}). made_of (λ (u : Unit {0}). argument.Object p.0.name) (unless_of (fits_extent p.0.cells wanted) (Fault 204 line)))
-        (both_of (object_of items scope line written) (unless_of (takes_object wanted) (Fault 202 line))) given e in
-        let made = made_ok (λ (u : Unit {0}). argument.Object part.0.0.name) (unless_of (fits_extent part.0.0.cells wanted) (Fault 204 line)) given part.2 in
+        let part = then_ok (λ (p : WholeObject × Unit {0}). made_of (λ (u : Unit {0}). argument.Object p.0.name) (unless_of (fits_extent p.0.cells wanted) (breaks 204 line)))
+        (both_of (object_of items scope line written) (unless_of (takes_object wanted) (breaks 202 line))) given e in
+        let made = made_ok (λ (u : Unit {0}). argument.Object part.0.0.name) (unless_of (fits_extent part.0.0.cells wanted) (breaks 204 line)) given part.2 in
         let P : Argument → Type 0 = λ x. IsArgument registers x in
         subst P made.2 tt
 
@@ -182,7 +181,7 @@ module _ (function : FunctionText) where
         subst P made.2 (of_kind made.0.0 g.0 _ g.1 g.2, number line _ value made.0.1 parts.1)
     kinded f b line (text.Alloca register size) what given e =
         let P : Instruction → Type 0 = λ x. IsKinded registers x in
-        let entry : Result (Unit {0}) TypeFault = unless_of (nat_eq b 0) (Fault 204 line) in
+        let entry : Result (Unit {0}) TypeFault = unless_of (nat_eq b 0) (breaks 204 line) in
         let part = then_ok (λ (p : RegisterId × AllocaId). made_of (λ (u : Unit {0}). instruction.Alloca p.0 p.1) entry)
         (both_of (defined_of scope line register) (alloca_id_of scope line register)) what e in
         let g = given line register part.0.0 refl (both_ok _ _ part.0 part.1).0 in
@@ -204,9 +203,9 @@ module _ (function : FunctionText) where
         subst P made.2 (number line Bits64 value made.0.0 (both_ok _ _ made.0 made.1).0)
     kinded f b line (text.StoreZeros cells at) what given e =
         let P : Instruction → Type 0 = λ x. IsKinded registers x in
-        let part = then_ok (λ (found : WholeObject). made_of (λ (u : Unit {0}). instruction.StoreZeros cells found.name) (unless_of (nat_eq found.cells cells) (Fault 204 line)))
+        let part = then_ok (λ (found : WholeObject). made_of (λ (u : Unit {0}). instruction.StoreZeros cells found.name) (unless_of (nat_eq found.cells cells) (breaks 204 line)))
         (object_of items scope line at) what e in
-        subst P (made_ok (λ (u : Unit {0}). instruction.StoreZeros cells part.0.name) (unless_of (nat_eq part.0.cells cells) (Fault 204 line)) what part.2).2 tt
+        subst P (made_ok (λ (u : Unit {0}). instruction.StoreZeros cells part.0.name) (unless_of (nat_eq part.0.cells cells) (breaks 204 line)) what part.2).2 tt
     kinded f b line (text.AtomicAdd at value) what given e =
         let P : Instruction → Type 0 = λ x. IsKinded registers x in
         let made = made_ok _ _ what e in
@@ -233,7 +232,7 @@ module _ (function : FunctionText) where
       let made = made_ok (λ (v : Operand). terminator.Return (Some v)) (operand_of scope line Bits64 value) t e in
       subst P made.2 (number line Bits64 value made.0 made.1)
   return_kinded line Void (Some value) t e =
-      let bad : Operand → Result Terminator TypeFault = λ v. Err (Fault 202 line) in
+      let bad : Operand → Result Terminator TypeFault = λ v. Err (breaks 202 line) in
       absurd (err_not_ok _ t (then_ok bad (operand_of scope line Bits64 value) t e).2)
 
   end_kinded : (line : ℕ) (written : TerminatorText) (t : Terminator) → terminator_of scope line function.result_type written ≡ Ok t → IsKindedEnd registers t

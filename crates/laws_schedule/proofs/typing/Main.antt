@@ -11,10 +11,9 @@ use Rattle.syntax.specs.declared.module.Parameter.{Parameter as ParameterText}
 use Rattle.syntax.specs.declared.module.ResultType.{ResultType}
 use Rattle.syntax.specs.declared.module.ResultType.TheVariants.{Number, Void}
 use Rattle.ir_reader.specs.Kept.{IsKeptModule}
-use Rattle.refusal.specs.declared.refused.Refused.TheVariants.{Fault}
 use Rattle.types.specs.declared.names.item.Item.{Item}
 use Rattle.types.specs.declared.names.item.Item.TheVariants as item
-use Rattle.types.specs.names.Fault.{unless_of}
+use Rattle.types.specs.names.Fault.{breaks, unless_of}
 use Rattle.types.specs.names.Item.{items_of}
 use Rattle.types.specs.names.Table.{look_up}
 use Rattle.types.proofs.names.Inversion.{made_ok, both_ok, unless_ok, err_not_ok}
@@ -43,7 +42,7 @@ module _ (functions : List FunctionText) (id : FunctionId) where
   as_text : (found : FunctionId) (o : Option FunctionText) → slice_get functions found.0 ≡ o → as_main found o ≡ Ok id → MainText functions id
   as_text found None at e = absurd (err_not_ok _ id e)
   as_text found (Some text) at e =
-      let made = made_ok (λ (u : Unit {0}). found) (unless_of (main_form text.result_type text.parameters) (Fault 202 text.line)) id e in
+      let made = made_ok (λ (u : Unit {0}). found) (unless_of (main_form text.result_type text.parameters) (breaks 202 text.line)) id e in
       let P : FunctionId → Type 0 = λ x. MainText functions x in
       subst P made.2 (record { text = text; at = at; number = form_number text.result_type text.parameters (unless_ok _ _ made.0 made.1); numbers = form_numbers text.result_type text.parameters (unless_ok _ _ made.0 made.1) })
 

@@ -28,7 +28,6 @@ use Rattle.syntax.specs.declared.module.Module.{Module}
 use Rattle.syntax.specs.declared.module.Parameter.{Parameter as ParameterText}
 use Rattle.syntax.specs.declared.operator.Width.TheVariants.{Bits64}
 use Rattle.types.specs.declared.names.address.WholeObject.{WholeObject}
-use Rattle.refusal.specs.declared.refused.Refused.TheVariants.{Fault}
 use Rattle.types.specs.declared.names.item.Item.{Item}
 use Rattle.types.specs.declared.names.item.Item.TheVariants as item
 use Rattle.types.specs.declared.names.scope.Holding.{Holding}
@@ -36,7 +35,7 @@ use Rattle.types.specs.declared.names.scope.Holding.TheVariants as holding
 use Rattle.types.specs.declared.names.scope.Named.TheVariants as named
 use Rattle.types.specs.declared.names.scope.Register.{Register}
 use Rattle.types.specs.names.Address.{Items, as_global, as_object, object_of, as_address, address_of}
-use Rattle.types.specs.names.Fault.{unless_of}
+use Rattle.types.specs.names.Fault.{breaks, unless_of}
 use Rattle.types.specs.names.Item.{with_globals, with_functions, items_of}
 use Rattle.types.specs.names.Layout.{layout_of}
 use Rattle.types.specs.names.Operand.{register_of, operand_of}
@@ -145,14 +144,14 @@ module _ (whole : Module) (function : FunctionText) where
       from holding.Element is k =
           let Q : Holding → Type 0 = λ x. HoldsRight function (layout_of function).allocas name register.origin x in
           let P : Address → Type 0 = λ x. IsAddress block x in
-          let made = made_ok (λ (u : Unit {0}). address.Element register.id) (unless_of (is_step_of block register.origin) (Fault 204 line)) at k in
+          let made = made_ok (λ (u : Unit {0}). address.Element register.id) (unless_of (is_step_of block register.origin) (breaks 204 line)) at k in
           subst P made.2 (record {
             name = name;
             register = register;
             found = register_found scope line name register e;
             same = refl;
             step = subst Q is (register_right line name register e).holds;
-            here = unless_ok (is_step_of block register.origin) (Fault 204 line) made.0 made.1;
+            here = unless_ok (is_step_of block register.origin) (breaks 204 line) made.0 made.1;
           })
       from (holding.Number width) is k = absurd (err_not_ok _ at k)
       from holding.Truth is k = absurd (err_not_ok _ at k)
@@ -182,13 +181,13 @@ module _ (whole : Module) (function : FunctionText) where
   pub argument_is : (line : ℕ) (wanted : Option Parameter) (written : ArgumentText) (given : Argument) → argument_of (items_of whole) scope line wanted written ≡ Ok given → IsArgument wanted given
   argument_is line wanted (passed.Number value) given e =
       let part = then_ok _ (operand_of scope line Bits64 value) given e in
-      let made = made_ok (λ (u : Unit {0}). argument.Number part.0) (unless_of (takes_number wanted) (Fault 202 line)) given part.2 in
+      let made = made_ok (λ (u : Unit {0}). argument.Number part.0) (unless_of (takes_number wanted) (breaks 202 line)) given part.2 in
       let P : Argument → Type 0 = λ x. IsArgument wanted x in
       subst P made.2 tt
   argument_is line wanted (passed.Pointer written) given e =
       let part = then_ok _ _ given e in
       let object = (both_ok _ _ part.0 part.1).0 in
-      let made = made_ok (λ (u : Unit {0}). argument.Object part.0.0.name) (unless_of (fits_extent part.0.0.cells wanted) (Fault 204 line)) given part.2 in
+      let made = made_ok (λ (u : Unit {0}). argument.Object part.0.0.name) (unless_of (fits_extent part.0.0.cells wanted) (breaks 204 line)) given part.2 in
       let P : Argument → Type 0 = λ x. IsArgument wanted x in
       subst P made.2 (part.0.0.cells, object_is line written part.0.0 object, fits_cells wanted part.0.0.cells (unless_ok _ _ made.0 made.1))
 

@@ -29,12 +29,11 @@ use Rattle.syntax.specs.declared.module.Parameter.{Parameter as ParameterText}
 use Rattle.syntax.specs.declared.module.Parameter.TheVariants as parameter_text
 use Rattle.syntax.specs.declared.operator.Width.TheVariants.{Bits64}
 use Rattle.types.specs.declared.names.address.WholeObject.{WholeObject}
-use Rattle.refusal.specs.declared.refused.Refused.TheVariants.{Fault}
 use Rattle.types.specs.declared.names.layout.Layout.{Layout}
 use Rattle.types.specs.declared.names.scope.Origin.{Origin}
 use Rattle.types.specs.declared.names.scope.Origin.TheVariants as origin
 use Rattle.types.specs.names.Address.{Items}
-use Rattle.types.specs.names.Fault.{unless_of}
+use Rattle.types.specs.names.Fault.{breaks, unless_of}
 use Rattle.types.specs.names.Item.{items_of}
 use Rattle.types.specs.names.Layout.{with_parameter, with_phi, with_call, with_instruction, with_step, with_phis, with_steps, with_block, with_parameters, with_blocks, with_label, with_labels, no_layout, layout_of}
 use Rattle.types.specs.names.Operand.{operand_of}
@@ -135,13 +134,13 @@ object_passed (parameter.Pointer cells) name h = tt
 argument_passed : (items : Items) (scope : Scope) (line : ℕ) (wanted : Parameter) (written : ArgumentText) (given : Argument) → argument_of items scope line (Some wanted) written ≡ Ok given → IsPassed wanted given
 argument_passed items scope line wanted (passed.Number value) given e =
     let part = then_ok _ (operand_of scope line Bits64 value) given e in
-    let made = made_ok (λ (u : Unit {0}). argument.Number part.0) (unless_of (takes_number (Some wanted)) (Fault 202 line)) given part.2 in
+    let made = made_ok (λ (u : Unit {0}). argument.Number part.0) (unless_of (takes_number (Some wanted)) (breaks 202 line)) given part.2 in
     let P : Argument → Type 0 = λ x. IsPassed wanted x in
-    subst P made.2 (number_passed wanted part.0 (unless_ok (takes_number (Some wanted)) (Fault 202 line) made.0 made.1))
+    subst P made.2 (number_passed wanted part.0 (unless_ok (takes_number (Some wanted)) (breaks 202 line) made.0 made.1))
 argument_passed items scope line wanted (passed.Pointer written) given e =
     let part = then_ok {A = WholeObject × Unit {0}} _ _ given e in
-    let takes = unless_ok (takes_object (Some wanted)) (Fault 202 line) part.0.1 (both_ok _ _ part.0 part.1).1 in
-    let made = made_ok (λ (u : Unit {0}). argument.Object part.0.0.name) (unless_of (fits_extent part.0.0.cells (Some wanted)) (Fault 204 line)) given part.2 in
+    let takes = unless_ok (takes_object (Some wanted)) (breaks 202 line) part.0.1 (both_ok _ _ part.0 part.1).1 in
+    let made = made_ok (λ (u : Unit {0}). argument.Object part.0.0.name) (unless_of (fits_extent part.0.0.cells (Some wanted)) (breaks 204 line)) given part.2 in
     let P : Argument → Type 0 = λ x. IsPassed wanted x in
     subst P made.2 (object_passed wanted part.0.0.name takes)
 

@@ -12,7 +12,7 @@ use Rattle.syntax.specs.declared.annotation.Zone.{Zone as ZoneText}
 use Rattle.syntax.specs.declared.instruction.Address.{Address as AddressText}
 use Rattle.syntax.specs.declared.instruction.Address.TheVariants as text
 use Rattle.syntax.specs.declared.module.Function.{Function as FunctionText}
-use Rattle.refusal.specs.declared.refused.Refused.{Refused as TypeFault}
+use Rattle.refusal.specs.declared.broken.Broken.{Broken as TypeFault}
 use Rattle.types.specs.declared.names.form.AnnotationPlace.{AnnotationPlace}
 use Rattle.types.specs.declared.names.form.AnnotationPlace.TheVariants as place
 use Rattle.types.specs.declared.names.item.Item.{Item}

@@ -12,8 +12,8 @@ use Rattle.linear.specs.Forms.{constant_form}
 use Rattle.linear.specs.Made.{is_below, is_bounded, coefficient_at, placed_at, placed, with_terms, with_term}
 use Rattle.syntax.specs.declared.annotation.Form.{Form as FormText}
 use Rattle.syntax.specs.declared.annotation.Term.{Term as TermText}
-use Rattle.refusal.specs.declared.refused.Refused.TheVariants.{Fault}
 use Rattle.ir_annotation.specs.Canonical.{IsCanonical}
+use Rattle.types.specs.names.Fault.{breaks}
 use Rattle.types.specs.declared.names.form.AnnotationPlace.{AnnotationPlace}
 use Rattle.types.specs.names.Form.{is_small_coefficient, keeps_limits, term_of, within_bounds, with_one, with_all, form_in_scope}
 use Rattle.types.specs.names.Scope.{Scope}
@@ -128,7 +128,7 @@ module _ (scope : Scope) (stands : AnnotationPlace) (line : ℕ) where
   term_small : (text : TermText) (term : Term) → term_of scope stands line text ≡ Ok term → unsigned_abs term.coefficient ≤ 1000000
   term_small text term e =
       let made = made_ok _ _ term e in
-      let low = small text.coefficient (unless_ok (is_small_coefficient text.coefficient) (Fault 206 line) made.0.1 (both_ok _ _ made.0 made.1).1) in
+      let low = small text.coefficient (unless_ok (is_small_coefficient text.coefficient) (breaks 206 line) made.0.1 (both_ok _ _ made.0 made.1).1) in
       let same : unsigned_abs text.coefficient ≡ unsigned_abs term.coefficient = ap (λ (t : Term). unsigned_abs t.coefficient) made.2 in
       omega (arith, low, same)
 
@@ -146,7 +146,7 @@ module _ (scope : Scope) (stands : AnnotationPlace) (line : ℕ) where
   form_limited text form canonical e =
       let part = then_ok _ _ form e in
       let both = both_ok _ _ part.0 part.1 in
-      let kept : keeps_limits text ≡ true = unless_ok (keeps_limits text) (Fault 206 line) part.0.1 both.1 in
+      let kept : keeps_limits text ≡ true = unless_ok (keeps_limits text) (breaks 206 line) part.0.1 both.1 in
       let few = leb-true (length text.terms) 4 (and_parts (nat_le (length text.terms) 4) (int_le (negsuc 9223372036854775806) text.constant) kept).0 in
       let terms = terms_small 0 text.terms part.0.0 (each_of (λ (k : ℕ). term_of scope stands line) text.terms part.0.0 both.0) in
       let grown = grown_all line part.0.0 (constant_form text.constant) form part.2 in

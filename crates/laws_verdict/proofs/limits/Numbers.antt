@@ -15,11 +15,10 @@ use Rattle.syntax.specs.declared.instruction.Operand.TheVariants as operand_text
 use Rattle.syntax.specs.declared.instruction.PhiEntry.{PhiEntry as EntryText}
 use Rattle.syntax.specs.declared.operator.Width.{Width}
 use Rattle.syntax.specs.declared.terminator.Case.{Case as CaseText}
-use Rattle.refusal.specs.declared.refused.Refused.TheVariants.{Fault}
 use Rattle.ir_instruction.specs.Spelled.{is_spelled, is_parted_from, are_spelled}
 use Rattle.ir_instruction.specs.Spelling.{Atom, Token, Blank, operand_symbol, argument_atoms, entry_atoms, other_atoms, parted, spelled_cases, cases_atoms}
 use Rattle.ir_instruction.specs.Symbols.{fits_i64}
-use Rattle.types.specs.names.Fault.{unless_of}
+use Rattle.types.specs.names.Fault.{breaks, unless_of}
 use Rattle.types.specs.names.Operand.{fits_width, operand_of, register_passing}
 use Rattle.types.specs.names.Scope.{Scope, is_number_of}
 use Rattle.types.proofs.names.Inversion.{made_ok}
@@ -61,7 +60,7 @@ IsOperandSpelled text = is_spelled (operand_symbol text) ≡ true
 
 pub word_of : (scope : Scope) (line : ℕ) (width : Width) (text : OperandText) (x : Operand) → IsOperandSpelled text → operand_of scope line width text ≡ Ok x → IsWord x
 word_of scope line width (operand_text.Number z) x h e =
-    let made = made_ok (λ (u : Unit {0}). operand.Number z) (unless_of (fits_width width z) (Fault 202 line)) x e in
+    let made = made_ok (λ (u : Unit {0}). operand.Number z) (unless_of (fits_width width z) (breaks 202 line)) x e in
     subst IsWord made.2 (number_fits z h)
 word_of scope line width (operand_text.Register name) x h e =
     let made = made_ok (λ (r : RegisterId). operand.Register r) (register_passing (is_number_of width) scope line name) x e in

@@ -24,7 +24,7 @@ use Rattle.syntax.specs.declared.module.Module.{Module}
 use Rattle.syntax.specs.declared.module.Parameter.{Parameter as ParameterText}
 use Rattle.syntax.specs.declared.module.Parameter.TheVariants as parameter_text
 use Rattle.syntax.specs.declared.module.ResultType.{ResultType}
-use Rattle.refusal.specs.declared.refused.Refused.{Refused}
+use Rattle.refusal.specs.declared.broken.Broken.{Broken}
 use Rattle.ir_reader.specs.declared.item.item.Item.TheVariants as item
 use Rattle.ir_reader.specs.item.Printed.{IsKeptItem}
 use Rattle.ir_instruction.specs.Spelling.{Blank, a_mark, define_atoms, global_atoms, instruction_atoms, parameter_atoms, parted}
@@ -181,7 +181,7 @@ pub objects_few : (whole : Module) → IsKeptModule whole → (program : Program
 objects_few whole kept program m f function at =
     let made = made_ok _ _ program m.2 in
     let are : functions_of (items_of whole) whole.functions m.0 ≡ Ok program.functions = (both_ok _ _ made.0 made.1).1 ∙ ap (λ (p : Program). Ok p.functions) made.2 in
-    let g : ℕ → FunctionText → Result Function Refused = function_of (items_of whole) whole.functions m.0 in
+    let g : ℕ → FunctionText → Result Function Broken = function_of (items_of whole) whole.functions m.0 in
     let all : All HasFewCells program.functions = meant_from g IsKeptFunction HasFewCells (λ n x y h k. function_few (items_of whole) whole.functions m.0 n x y h k) 0 whole.functions program.functions kept.functions (each_of g whole.functions program.functions are) in
     let P : Program → Type 0 = λ p. All IsFewGlobal p.globals in
     cells_few program function (All-contains HasFewCells program.functions function all (at_within program.functions f function at)) (subst P made.2 (globals_few whole.globals kept.globals))

@@ -29,7 +29,7 @@ use Rattle.syntax.specs.declared.module.Module.{Module}
 use Rattle.syntax.specs.declared.module.ResultType.{ResultType}
 use Rattle.syntax.specs.declared.operator.Mode.{Mode}
 use Rattle.syntax.specs.declared.terminator.Ending.{Ending as EndingText}
-use Rattle.refusal.specs.declared.refused.Refused.{Refused}
+use Rattle.refusal.specs.declared.broken.Broken.{Broken}
 use Rattle.ir_annotation.specs.Annotations.{IsInequality, IsZone, IsPending, IsLeft}
 use Rattle.ir_reader.specs.Kept.{IsZoneOf, AreFunctionNotesWritten, IsPhiWritten, IsStepWritten, IsEndingWritten, IsEndingWrittenIfAny, IsBlockWritten, IsKeptFunction, IsKeptModule}
 use Rattle.ir_reader.proofs.Keeping.{answers_kept}
@@ -73,7 +73,7 @@ module _ (scope : Scope) (stands : AnnotationPlace) where
 
   pub inequalities_limited : (texts : List InequalityText) (qs : List Inequality) → All IsInequality texts → inequalities_of scope stands texts ≡ Ok qs → All AreSidesLimited qs
   inequalities_limited texts qs kept e =
-      let f : ℕ → InequalityText → Result Inequality Refused = λ _. inequality_of scope stands in
+      let f : ℕ → InequalityText → Result Inequality Broken = λ _. inequality_of scope stands in
       meant_from f IsInequality AreSidesLimited (λ n x y h k. sides_limited x y h k) 0 texts qs kept (each_of f texts qs e)
 
   module _ (items : Items) where
@@ -85,10 +85,10 @@ module _ (scope : Scope) (stands : AnnotationPlace) where
         (record { low = form_limited scope stands text.line text.low made.0.1.0 kept.low forms.0; high = form_limited scope stands text.line text.high made.0.1.1 kept.high forms.1 })
 
     -- behind others that are
-    pub more_limited : (before : Result (List Zone) Refused) (texts : List ZoneText) (zs : List Zone) → All IsZone texts → ((xs : List Zone) → before ≡ Ok xs → All AreEndsLimited xs) →
+    pub more_limited : (before : Result (List Zone) Broken) (texts : List ZoneText) (zs : List Zone) → All IsZone texts → ((xs : List Zone) → before ≡ Ok xs → All AreEndsLimited xs) →
         more_zones items scope stands before texts ≡ Ok zs → All AreEndsLimited zs
     more_limited before texts zs kept rest e =
-        let f : ℕ → ZoneText → Result Zone Refused = λ _. zone_of items scope stands in
+        let f : ℕ → ZoneText → Result Zone Broken = λ _. zone_of items scope stands in
         let whole = all_from_ok f 0 before texts zs e in
         let more : All AreEndsLimited whole.1 = meant_from f IsZone AreEndsLimited (λ n x y h k. ends_limited x y h k) 0 texts whole.1 kept whole.4 in
         subst (All AreEndsLimited) (sym whole.3) (All-append AreEndsLimited whole.0 whole.1 (rest whole.0 whole.2) more)
@@ -154,9 +154,9 @@ module _ (items : Items) (functions : List FunctionText) (named : Named) (scope 
       let bodies = both_ok _ _ body.0 body.1 in
       let rest = both_ok _ _ body.0.1 bodies.1 in
       let left = left_limited text.notes.left head.0.1.0 kept.notes.left back.0 in
-      let p : ℕ → PendingText → Result Pending Refused = λ _. pending_of items scope b in
-      let q : ℕ → PhiText → Result Phi Refused = λ _. phi_of scope in
-      let s : ℕ → StepText → Result Step Refused = λ _. step_of items functions named scope f b in
+      let p : ℕ → PendingText → Result Pending Broken = λ _. pending_of items scope b in
+      let q : ℕ → PhiText → Result Phi Broken = λ _. phi_of scope in
+      let s : ℕ → StepText → Result Step Broken = λ _. step_of items functions named scope f b in
       let by_head = ap (λ h. block_with text.line h made.0.1) head.2 ∙ made.2 in
       let by_body = ap (block_with text.line made.0.0) body.2 ∙ made.2 in
       record {
@@ -193,7 +193,7 @@ module _ (items : Items) (functions : List FunctionText) (named : Named) where
       let measure = made_ok _ _ head.0.1.1 back.1 in
       let layout : Layout = layout_of text in
       let notes = kept.written.notes in
-      let g : ℕ → BlockText → Result Block Refused = block_of items functions named layout.scope f text.result_type in
+      let g : ℕ → BlockText → Result Block Broken = block_of items functions named layout.scope f text.result_type in
       subst IsFunctionLimited (ap (λ (g : List Block → Function). g made.0.1) (ap (function_with text layout) head.2) ∙ made.2)
       (record {
         requirements = inequalities_limited layout.scope place.Head text.notes.requirements head.0.0.0 notes.requirements front.0;
@@ -207,7 +207,7 @@ pub means_limited : (whole : Module) → IsKeptModule whole → (program : Progr
 means_limited whole kept program m =
     let made = made_ok _ _ program m.2 in
     let are : functions_of (items_of whole) whole.functions m.0 ≡ Ok program.functions = (both_ok _ _ made.0 made.1).1 ∙ ap (λ (p : Program). Ok p.functions) made.2 in
-    let f : ℕ → FunctionText → Result Function Refused = function_of (items_of whole) whole.functions m.0 in
+    let f : ℕ → FunctionText → Result Function Broken = function_of (items_of whole) whole.functions m.0 in
     meant_from f IsKeptFunction IsFunctionLimited (λ n x y h k. function_limited (items_of whole) whole.functions m.0 n x y h k) 0 whole.functions program.functions kept.functions (each_of f whole.functions program.functions are)
 
 pub forms_are_limited : FormsAreLimited

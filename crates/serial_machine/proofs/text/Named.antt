@@ -25,15 +25,14 @@ use Rattle.syntax.specs.declared.module.Global.{Global as GlobalText}
 use Rattle.syntax.specs.declared.module.Module.{Module}
 use Rattle.laws_schedule.specs.ir_reader.Kept.{IsGlobalWritten, IsKeptModule}
 use Rattle.laws_schedule.proofs.ir_reader.Keeping.{answers_kept}
-use Rattle.laws_schedule.specs.refusal.declared.refused.Refused.{Refused as TypeFault}
-use Rattle.laws_schedule.specs.refusal.declared.refused.Refused.TheVariants.{Fault}
+use Rattle.laws_schedule.specs.refusal.declared.broken.Broken.{Broken as TypeFault}
 use Rattle.laws_schedule.specs.types.declared.names.scope.Holding.{Holding}
 use Rattle.laws_schedule.specs.types.declared.names.scope.Holding.TheVariants as holding
 use Rattle.laws_schedule.specs.types.declared.names.scope.Named.TheVariants as named_as
 use Rattle.laws_schedule.specs.types.declared.names.scope.Register.{Register}
 use Rattle.laws_schedule.specs.types.declared.names.address.WholeObject.{WholeObject}
 use Rattle.laws_schedule.specs.types.names.Address.{object_of}
-use Rattle.laws_schedule.specs.types.names.Fault.{both_of, made_of, unless_of}
+use Rattle.laws_schedule.specs.types.names.Fault.{both_of, breaks, made_of, unless_of}
 use Rattle.laws_schedule.specs.types.names.Item.{items_of}
 use Rattle.laws_schedule.specs.types.names.Layout.{layout_of}
 use Rattle.laws_schedule.specs.types.names.Operand.{register_of}
@@ -129,7 +128,7 @@ module _ (function : FunctionText) where
     meant_alloca (text.Compare register predicate width left right) meant e = let made = made_ok _ _ meant e in subst P made.2 tt
     meant_alloca (text.Convert register conversion value) meant e = let made = made_ok _ _ meant e in subst P made.2 tt
     meant_alloca (text.Alloca register size) meant e =
-        let entry : Result (Unit {0}) TypeFault = unless_of (nat_eq b 0) (Fault 204 line) in
+        let entry : Result (Unit {0}) TypeFault = unless_of (nat_eq b 0) (breaks 204 line) in
         let part = then_ok (λ (p : RegisterId × AllocaId). made_of (λ (u : Unit {0}). instruction.Alloca p.0 p.1) entry)
         (both_of (defined_of scope line register) (alloca_id_of scope line register)) meant e in
         subst P (made_ok (λ (u : Unit {0}). instruction.Alloca part.0.0 part.0.1) entry meant part.2).2 (alloca_there line register part.0.1 (both_ok _ _ part.0 part.1).1)
@@ -137,9 +136,9 @@ module _ (function : FunctionText) where
     meant_alloca (text.Load register at) meant e = let made = made_ok _ _ meant e in subst P made.2 tt
     meant_alloca (text.Store value at) meant e = let made = made_ok _ _ meant e in subst P made.2 tt
     meant_alloca (text.StoreZeros cells at) meant e =
-        let part = then_ok (λ (found : WholeObject). made_of (λ (u : Unit {0}). instruction.StoreZeros cells found.name) (unless_of (nat_eq found.cells cells) (Fault 204 line)))
+        let part = then_ok (λ (found : WholeObject). made_of (λ (u : Unit {0}). instruction.StoreZeros cells found.name) (unless_of (nat_eq found.cells cells) (breaks 204 line)))
         (object_of (items_of whole) scope line at) meant e in
-        subst P (made_ok (λ (u : Unit {0}). instruction.StoreZeros cells part.0.name) (unless_of (nat_eq part.0.cells cells) (Fault 204 line)) meant part.2).2 tt
+        subst P (made_ok (λ (u : Unit {0}). instruction.StoreZeros cells part.0.name) (unless_of (nat_eq part.0.cells cells) (breaks 204 line)) meant part.2).2 tt
     meant_alloca (text.AtomicAdd at value) meant e = let made = made_ok _ _ meant e in subst P made.2 tt
     meant_alloca (text.Call register callee arguments) meant e = let made = made_ok _ _ meant e in subst P made.2 tt
     meant_alloca (text.StartRegion register) meant e = let made = made_ok _ _ meant e in subst P made.2 tt

@@ -2,75 +2,67 @@
 use Rattle.std.proofs.Common.{◌≡◌, ℕ, ◌+◌, ◌<◌, List, [], ◌∷◌, ◌++◌, length, get_or, take, refl, ap, ◌∙◌, sym, subst, arith, Result, Ok, Err}
 use Rattle.std.proofs.lemmas.List.{take_more}
 use lib.ListN.{length-take}
-use Rattle.refusal.specs.declared.refused.Refused.{Refused as TypeFault}
+use Rattle.refusal.specs.declared.broken.Broken.{Broken as TypeFault}
+use Rattle.refusal.specs.declared.refused.Refused.{Refused}
 use Rattle.refusal.specs.declared.refused.Refused.TheVariants.{Fault, Memory}
-use Rattle.types.specs.names.Fault.{earlier_fault_of, both_of, and_then, made_of, joined_of, all_from, all_of, Gives}
+use Rattle.types.specs.names.Fault.{both_of, and_then, made_of, joined_of, all_from, all_of}
+use Rattle.types.specs.names.Told.{told_of, Gives, both_answers, pushed, Joins}
 
 -- what takes no memory
-pub gives_self : {A : Type 0} (r : Result A TypeFault) → Gives r r
-gives_self (Ok a) = refl
-gives_self (Err Memory) = tt
-gives_self (Err (Fault number line)) = refl
+pub gives_told : {A : Type 0} (r : Result A Refused) (part x : Result A TypeFault) → r ≡ told_of part → part ≡ x → Gives r x
+gives_told {A} r part x e same = subst (λ (s : Result A TypeFault). Gives r s) same (subst (λ (s : Result A Refused). Gives s part) (sym e) (by part))
+  where
+    by : (part : Result A TypeFault) → Gives (told_of part) part
+    by (Ok a) = refl
+    by (Err fault) = refl
 
-pub gives_equal : {A : Type 0} (r s : Result A TypeFault) → r ≡ s → Gives r s
-gives_equal {A} r s e = let P : Result A TypeFault → Type 0 = λ t. Gives r t in subst P e (gives_self r)
+pub gives_same : {A : Type 0} (r : Result A Refused) (x y : Result A TypeFault) → x ≡ y → Gives r x → Gives r y
+gives_same {A} r x y e g = subst (λ (s : Result A TypeFault). Gives r s) e g
 
-earlier_memory : (fault : TypeFault) → earlier_fault_of fault Memory ≡ Memory
-earlier_memory Memory = refl
-earlier_memory (Fault number line) = refl
-
-gives_memory : {A : Type 0} (fault : TypeFault) (s : Result A TypeFault) → fault ≡ Memory → Gives (Err fault) s
-gives_memory {A} fault s e = let P : TypeFault → Type 0 = λ f. Gives (Err f) s in subst P (sym e) tt
-
-pub both_gives : {A B : Type 0} (a x : Result A TypeFault) (b y : Result B TypeFault) → Gives a x → Gives b y → Gives (both_of a b) (both_of x y)
+pub both_gives : {A B : Type 0} (a : Result A Refused) (x : Result A TypeFault) (b : Result B Refused) (y : Result B TypeFault) → Gives a x → Gives b y → Gives (both_answers a b) (both_of x y)
 both_gives (Ok a) x (Ok b) y g h = ap (λ r. both_of r y) g ∙ ap (λ r. both_of (Ok a) r) h
 both_gives (Ok a) x (Err Memory) y g h = tt
 both_gives (Ok a) x (Err (Fault n l)) y g h = ap (λ r. both_of r y) g ∙ ap (λ r. both_of (Ok a) r) h
 both_gives (Err Memory) x (Ok b) y g h = tt
 both_gives (Err Memory) x (Err f) y g h = tt
-both_gives (Err (Fault n l)) x (Ok b) y g h = ap (λ r. both_of r y) g ∙ ap (λ r. both_of (Err (Fault n l)) r) h
+both_gives (Err (Fault n l)) x (Ok b) y g h = ap (λ r. both_of r y) g ∙ ap (λ r. both_of (Err (record { line = l; number = n })) r) h
 both_gives (Err (Fault n l)) x (Err Memory) y g h = tt
-both_gives (Err (Fault n l)) x (Err (Fault n' l')) y g h =
-    let e : both_of x y ≡ Err (earlier_fault_of (Fault n l) (Fault n' l')) = ap (λ r. both_of r y) g ∙ ap (λ r. both_of (Err (Fault n l)) r) h in
-    gives_equal _ _ (sym e)
-
-pub made_gives : {A B : Type 0} (f : A → B) (a x : Result A TypeFault) → Gives a x → Gives (made_of f a) (made_of f x)
-made_gives f (Ok a) x g = ap (made_of f) g
-made_gives f (Err Memory) x g = tt
-made_gives f (Err (Fault n l)) x g = ap (made_of f) g
+both_gives (Err (Fault n l)) x (Err (Fault n' l')) y g h = ap (λ r. both_of r y) g ∙ ap (λ r. both_of (Err (record { line = l; number = n })) r) h
 
 -- the good part, and what is made of it
-pub good : {A B : Type 0} (f : A → B) (r x : Result A TypeFault) (a : A) → r ≡ Ok a → Gives r x → made_of f x ≡ Ok (f a)
-good {A} f r x a e g = let P : Result A TypeFault → Type 0 = λ s. Gives s x in ap (made_of f) (subst P e g)
+pub good : {A B : Type 0} (f : A → B) (r : Result A Refused) (x : Result A TypeFault) (a : A) → r ≡ Ok a → Gives r x → made_of f x ≡ Ok (f a)
+good {A} f r x a e g = let P : Result A Refused → Type 0 = λ s. Gives s x in ap (made_of f) (subst P e g)
 
 -- a fault goes on
-pub bad : {A B : Type 0} (f : A → Result B TypeFault) (r x : Result A TypeFault) (fault : TypeFault) → r ≡ Err fault → Gives r x → Gives (Err fault) (and_then x f)
+pub bad : {A B : Type 0} (f : A → Result B TypeFault) (r : Result A Refused) (x : Result A TypeFault) (fault : Refused) → r ≡ Err fault → Gives r x → Gives (Err fault) (and_then x f)
 bad {A} f r x Memory e g = tt
 bad {A} {B} f r x (Fault n l) e g =
-    let P : Result A TypeFault → Type 0 = λ s. Gives s x in
-    let h : x ≡ Err (Fault n l) = subst P e g in
+    let P : Result A Refused → Type 0 = λ s. Gives s x in
+    let h : x ≡ Err (record { line = l; number = n }) = subst P e g in
     ap (λ s. and_then s f) h
 
-pub bad_made : {A B : Type 0} (f : A → B) (r x : Result A TypeFault) (fault : TypeFault) → r ≡ Err fault → Gives r x → Gives (Err fault) (made_of f x)
+pub bad_made : {A B : Type 0} (f : A → B) (r : Result A Refused) (x : Result A TypeFault) (fault : Refused) → r ≡ Err fault → Gives r x → Gives (Err fault) (made_of f x)
 bad_made {A} f r x Memory e g = tt
 bad_made {A} {B} f r x (Fault n l) e g =
-    let P : Result A TypeFault → Type 0 = λ s. Gives s x in
-    let h : x ≡ Err (Fault n l) = subst P e g in
+    let P : Result A Refused → Type 0 = λ s. Gives s x in
+    let h : x ≡ Err (record { line = l; number = n }) = subst P e g in
     ap (made_of f) h
 
--- a meaning that itself was given
-pub gives_trans : {A : Type 0} (r s x : Result A TypeFault) → Gives r s → Gives s x → Gives r x
-gives_trans {A} r s x g h = by r g
-  where
-    by : (r : Result A TypeFault) → Gives r s → Gives r x
-    by (Ok a) g = let P : Result A TypeFault → Type 0 = λ t. Gives t x in subst P g h
-    by (Err Memory) g = tt
-    by (Err (Fault n l)) g = let P : Result A TypeFault → Type 0 = λ t. Gives t x in subst P g h
+-- one more part behind a list
+pushed_gives : {A : Type 0} (both : Result (List A × A) Refused) (x : Result (List A × A) TypeFault) → Gives both x → Gives (pushed both) (made_of (λ p. p.0 ++ p.1 ∷ []) x)
+pushed_gives (Ok p) x g = ap (made_of (λ q. q.0 ++ q.1 ∷ [])) g
+pushed_gives (Err Memory) x g = tt
+pushed_gives (Err (Fault n l)) x g = ap (made_of (λ q. q.0 ++ q.1 ∷ [])) g
 
-pub joined_gives : {A : Type 0} (next list x : Result (List A) TypeFault) (part y : Result A TypeFault) →
-    Gives next (joined_of list part) → Gives list x → Gives part y → Gives next (joined_of x y)
+join_gives : {A : Type 0} (next : Result (List A) Refused) (both : Result (List A × A) Refused) (x : Result (List A) TypeFault) → Joins next both → Gives (pushed both) x → Gives next x
+join_gives {A} (Ok list) both x j g = let P : Result (List A) Refused → Type 0 = λ s. Gives s x in subst P j g
+join_gives (Err Memory) both x j g = tt
+join_gives {A} (Err (Fault n l)) both x j g = let P : Result (List A) Refused → Type 0 = λ s. Gives s x in subst P j g
+
+pub joined_gives : {A : Type 0} (next list : Result (List A) Refused) (x : Result (List A) TypeFault) (part : Result A Refused) (y : Result A TypeFault) →
+    Joins next (both_answers list part) → Gives list x → Gives part y → Gives next (joined_of x y)
 joined_gives next list x part y n g h =
-    gives_trans next (joined_of list part) (joined_of x y) n (made_gives _ (both_of list part) (both_of x y) (both_gives list x part y g h))
+    join_gives next (both_answers list part) (joined_of x y) n (pushed_gives (both_answers list part) (both_of x y) (both_gives list x part y g h))
 
 all_from-append : {A B : Type 0} (f : ℕ → A → Result B TypeFault) (n : ℕ) (d : Result (List B) TypeFault) (xs : List A) (x : A) →
     all_from f n d (xs ++ x ∷ []) ≡ joined_of (all_from f n d xs) (f (n + length xs) x)
@@ -88,41 +80,27 @@ all_from-more {A} f d xs i x within is =
     ∙ ap (λ k. joined_of (all_from f 0 d (take i xs)) (f k x)) (omega (arith, length-take i xs))
 
 -- one more element behind what is done already
-pub more_step : {A B : Type 0} (f : ℕ → A → Result B TypeFault) (d : Result (List B) TypeFault) (xs : List A) (i : ℕ) (x : A) (next done : Result (List B) TypeFault) (part : Result B TypeFault) →
-    i < length xs → x ≡ get_or xs i x → Gives next (joined_of done part) → Gives done (all_from f 0 d (take i xs)) → Gives part (f i x) →
+pub more_step : {A B : Type 0} (f : ℕ → A → Result B TypeFault) (d : Result (List B) TypeFault) (xs : List A) (i : ℕ) (x : A) (next done : Result (List B) Refused) (part : Result B Refused) →
+    i < length xs → x ≡ get_or xs i x → Joins next (both_answers done part) → Gives done (all_from f 0 d (take i xs)) → Gives part (f i x) →
     Gives next (all_from f 0 d (take (i + 1) xs))
 more_step {A} {B} f d xs i x next done part within is n g p =
     let P : Result (List B) TypeFault → Type 0 = λ s. Gives next s in
     subst P (sym (all_from-more f d xs i x within is)) (joined_gives next done (all_from f 0 d (take i xs)) part (f i x) n g p)
 
 -- one more element of a list
-pub all_step : {A B : Type 0} (f : ℕ → A → Result B TypeFault) (xs : List A) (i : ℕ) (x : A) (next done : Result (List B) TypeFault) (part : Result B TypeFault) →
-    i < length xs → x ≡ get_or xs i x → Gives next (joined_of done part) → Gives done (all_of f (take i xs)) → Gives part (f i x) →
+pub all_step : {A B : Type 0} (f : ℕ → A → Result B TypeFault) (xs : List A) (i : ℕ) (x : A) (next done : Result (List B) Refused) (part : Result B Refused) →
+    i < length xs → x ≡ get_or xs i x → Joins next (both_answers done part) → Gives done (all_of f (take i xs)) → Gives part (f i x) →
     Gives next (all_of f (take (i + 1) xs))
 all_step f xs i x next done part within is n g p = more_step f (Ok []) xs i x next done part within is n g p
 
--- what is done already may itself have been given
-pub more_gives : {A B : Type 0} (f : ℕ → A → Result B TypeFault) (n : ℕ) (a x : Result (List B) TypeFault) (xs : List A) → Gives a x → Gives (all_from f n a xs) (all_from f n x xs)
-more_gives f n a x [] g = g
-more_gives f n a x (y ∷ ys) g =
-    more_gives f (n + 1) (joined_of a (f n y)) (joined_of x (f n y)) ys
-    (joined_gives (joined_of a (f n y)) a x (f n y) (f n y) (gives_self _) g (gives_self _))
-
 -- what follows from a good part
-pub then_gives : {A B : Type 0} (f : A → Result B TypeFault) (r x : Result A TypeFault) (a : A) (out : Result B TypeFault) → r ≡ Ok a → Gives r x → Gives out (f a) → Gives out (and_then x f)
+pub then_gives : {A B : Type 0} (f : A → Result B TypeFault) (r : Result A Refused) (x : Result A TypeFault) (a : A) (out : Result B Refused) → r ≡ Ok a → Gives r x → Gives out (f a) → Gives out (and_then x f)
 then_gives {A} {B} f r x a out e g h =
-    let P : Result A TypeFault → Type 0 = λ s. Gives s x in
+    let P : Result A Refused → Type 0 = λ s. Gives s x in
     let is : x ≡ Ok a = subst P e g in
     let Q : Result B TypeFault → Type 0 = λ s. Gives out s in
     subst Q (sym (ap (λ s. and_then s f) is)) h
 
--- a list behind another whose meaning was given
-pub behind_gives : {A B : Type 0} (f : ℕ → A → Result B TypeFault) (before x out : Result (List B) TypeFault) (xs ys : List A) →
-    xs ≡ ys → Gives before x → Gives out (all_from f 0 before xs) → Gives out (all_from f 0 x ys)
-behind_gives {A} {B} f before x out xs ys same g h =
-    let P : List A → Type 0 = λ zs. Gives out (all_from f 0 before zs) in
-    gives_trans out (all_from f 0 before ys) (all_from f 0 x ys) (subst P same h) (more_gives f 0 before x ys g)
-
 -- the meaning of an equal value
-pub gives_from : {A B : Type 0} (meaning : A → Result B TypeFault) (r : Result B TypeFault) (x y : A) → x ≡ y → Gives r (meaning x) → Gives r (meaning y)
+pub gives_from : {A B : Type 0} (meaning : A → Result B TypeFault) (r : Result B Refused) (x y : A) → x ≡ y → Gives r (meaning x) → Gives r (meaning y)
 gives_from {A} meaning r x y same g = let P : A → Type 0 = λ z. Gives r (meaning z) in subst P same g

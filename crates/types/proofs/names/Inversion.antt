@@ -1,7 +1,7 @@
 -- What a good whole says of its parts.
 use Rattle.std.proofs.Common.{◌≡◌, ℕ, zero, suc, ◌+◌, Bool, true, false, List, [], ◌∷◌, ◌++◌, refl, sym, ap, ◌∙◌, arith, true≢false, Result, Ok, Err, is_ok, Some, None, is_some}
 use Rattle.std.specs.Prelude.{slice_get, unwrap_or}
-use Rattle.refusal.specs.declared.refused.Refused.{Refused as TypeFault}
+use Rattle.refusal.specs.declared.broken.Broken.{Broken as TypeFault}
 use Rattle.types.specs.names.Fault.{both_of, and_then, made_of, unless_of, joined_of, all_from, all_of}
 
 pub err_not_ok : {A : Type 0} (fault : TypeFault) (a : A) → Err fault ≡ Ok a → ⊥

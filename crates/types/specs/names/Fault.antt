@@ -1,26 +1,18 @@
 -- Parts that are judged together: each rule stands alone, and of all faults the earliest is named.
-use Rattle.std.specs.Prelude.{◌≡◌, ℕ, ◌+◌, Bool, if◌then◌else◌, List, [], ◌∷◌, ◌++◌, Result, Ok, Err}
-use Rattle.refusal.specs.declared.broken.Broken.{Broken}
-use Rattle.refusal.specs.declared.refused.Refused.{Refused as TypeFault}
-use Rattle.refusal.specs.declared.refused.Refused.TheVariants.{Fault, Memory}
+use Rattle.std.specs.Prelude.{ℕ, ◌+◌, Bool, if◌then◌else◌, List, [], ◌∷◌, ◌++◌, Result, Ok, Err}
+use Rattle.refusal.specs.declared.broken.Broken.{Broken as TypeFault}
 use Rattle.refusal.specs.Earliest.{earlier_of}
 
-abbrev pub fault_of : Broken → TypeFault
-fault_of broken = Fault broken.number broken.line
-
--- the earlier fault of two; want of memory comes first
-abbrev pub earlier_fault_of : TypeFault → TypeFault → TypeFault
-earlier_fault_of Memory other = Memory
-earlier_fault_of (Fault number line) Memory = Memory
-earlier_fault_of (Fault number line) (Fault number' line') =
-    fault_of (earlier_of (record { line = line; number = number }) (record { line = line'; number = number' }))
+-- this rule, broken at this line
+abbrev pub breaks : ℕ → ℕ → TypeFault
+breaks number line = record { line = line; number = number }
 
 -- both parts, else the earlier of their faults
 abbrev pub both_of : {A B : Type 0} → Result A TypeFault → Result B TypeFault → Result (A × B) TypeFault
 both_of (Ok a) (Ok b) = Ok (a, b)
 both_of (Ok a) (Err fault) = Err fault
 both_of (Err fault) (Ok b) = Err fault
-both_of (Err fault) (Err other) = Err (earlier_fault_of fault other)
+both_of (Err fault) (Err other) = Err (earlier_of fault other)
 
 -- what follows from a part, where it is good
 abbrev pub and_then : {A B : Type 0} → Result A TypeFault → (A → Result B TypeFault) → Result B TypeFault
@@ -48,9 +40,3 @@ all_from f place done (x ∷ xs) = all_from f (place + 1) (joined_of done (f pla
 -- what each element of a list means, by its place; else the earliest fault of all
 abbrev pub all_of : {A B : Type 0} → (ℕ → A → Result B TypeFault) → List A → Result (List B) TypeFault
 all_of f xs = all_from f 0 (Ok []) xs
-
--- the answer is the meaning, unless memory was refused
-abbrev pub Gives : {A : Type 0} → Result A TypeFault → Result A TypeFault → Type 0
-Gives (Ok a) meaning = meaning ≡ Ok a
-Gives (Err Memory) meaning = Unit {0}
-Gives (Err (Fault number line)) meaning = meaning ≡ Err (Fault number line)

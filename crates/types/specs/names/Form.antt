@@ -15,23 +15,22 @@ use Rattle.syntax.specs.declared.annotation.Relation.{Relation}
 use Rattle.syntax.specs.declared.annotation.Relation.TheVariants.{AtMost, AtLeast}
 use Rattle.syntax.specs.declared.annotation.Term.{Term as TermText}
 use Rattle.syntax.specs.declared.operator.Width.TheVariants.{Bits64}
-use Rattle.refusal.specs.declared.refused.Refused.{Refused as TypeFault}
-use Rattle.refusal.specs.declared.refused.Refused.TheVariants.{Fault}
+use Rattle.refusal.specs.declared.broken.Broken.{Broken as TypeFault}
 use Rattle.types.specs.declared.names.form.AnnotationPlace.{AnnotationPlace}
 use Rattle.types.specs.declared.names.form.AnnotationPlace.TheVariants as place
 use Rattle.types.specs.declared.names.scope.Named.{Named}
 use Rattle.types.specs.declared.names.scope.Named.TheVariants as named
 use Rattle.types.specs.declared.names.scope.Register.{Register}
-use Rattle.types.specs.names.Fault.{all_of, and_then, both_of, made_of, unless_of}
+use Rattle.types.specs.names.Fault.{all_of, and_then, both_of, breaks, made_of, unless_of}
 use Rattle.types.specs.names.Operand.{passing, register_of}
 use Rattle.types.specs.names.Scope.{Scope, is_number, is_number_of, is_parameter, is_step_of}
 use Rattle.types.specs.names.Table.{look_up}
 
 -- the parameter: 201 where no parameter has the name
 abbrev pub as_parameter : ℕ → Option Named → Result Register TypeFault
-as_parameter line None = Err (Fault 201 line)
-as_parameter line (Some (named.Label block)) = Err (Fault 201 line)
-as_parameter line (Some (named.Register register)) = made_of (λ _. register) (unless_of (is_parameter register.origin) (Fault 201 line))
+as_parameter line None = Err (breaks 201 line)
+as_parameter line (Some (named.Label block)) = Err (breaks 201 line)
+as_parameter line (Some (named.Register register)) = made_of (λ _. register) (unless_of (is_parameter register.origin) (breaks 201 line))
 
 abbrev pub parameter_of : Scope → ℕ → List ℕ → Result Register TypeFault
 parameter_of scope line name = as_parameter line (look_up scope name)
@@ -42,7 +41,7 @@ parameter_term_of scope line name = and_then (parameter_of scope line name) (pas
 
 -- `%.ret`, which a function that returns nothing has not
 abbrev pub as_outcome : ℕ → Option RegisterId → Result RegisterId TypeFault
-as_outcome line None = Err (Fault 201 line)
+as_outcome line None = Err (breaks 201 line)
 as_outcome line (Some register) = Ok register
 
 abbrev pub guarantee_term_of : Scope → ℕ → Option RegisterId → List ℕ → Result RegisterId TypeFault
@@ -52,11 +51,11 @@ guarantee_term_of scope line outcome name =
 -- a register that holds a number of either width, else 202
 abbrev pub number_of : Scope → ℕ → List ℕ → Result Register TypeFault
 number_of scope line name =
-    and_then (register_of scope line name) (λ register. made_of (λ _. register) (unless_of (is_number register.holding) (Fault 202 line)))
+    and_then (register_of scope line name) (λ register. made_of (λ _. register) (unless_of (is_number register.holding) (breaks 202 line)))
 
 -- 206: an instruction of the block itself defines the register
 abbrev pub made_before : ℕ → ℕ → Register → Result (Unit {0}) TypeFault
-made_before line block register = unless_of (not (is_step_of block register.origin)) (Fault 206 line)
+made_before line block register = unless_of (not (is_step_of block register.origin)) (breaks 206 line)
 
 -- the register of a form's term
 abbrev pub term_register_of : Scope → AnnotationPlace → ℕ → List ℕ → Result RegisterId TypeFault
@@ -73,7 +72,7 @@ is_small_coefficient coefficient = int_le (negsuc 999999) coefficient && int_le 
 abbrev pub term_of : Scope → AnnotationPlace → ℕ → TermText → Result Term TypeFault
 term_of scope place line term =
     made_of (λ p. record { register = p.0; coefficient = term.coefficient })
-    (both_of (term_register_of scope place line term.register) (unless_of (is_small_coefficient term.coefficient) (Fault 206 line)))
+    (both_of (term_register_of scope place line term.register) (unless_of (is_small_coefficient term.coefficient) (breaks 206 line)))
 
 -- the number of registers and the constant of a form keep their limits
 abbrev pub keeps_limits : FormText → Bool
@@ -81,7 +80,7 @@ keeps_limits form = nat_le (length form.terms) 4 && int_le (negsuc 9223372036854
 
 -- 206 where the coefficient of a register would pass the bounds of a form
 abbrev pub within_bounds : ℕ → Option Form → Result Form TypeFault
-within_bounds line None = Err (Fault 206 line)
+within_bounds line None = Err (breaks 206 line)
 within_bounds line (Some form) = Ok form
 
 -- a form with one more term, at its place among the registers
@@ -100,7 +99,7 @@ ordered_form line terms constant = with_all line (constant_form constant) terms
 -- `F`
 abbrev pub form_in_scope : Scope → AnnotationPlace → ℕ → FormText → Result Form TypeFault
 form_in_scope scope place line form =
-    and_then (both_of (all_of (λ _. term_of scope place line) form.terms) (unless_of (keeps_limits form) (Fault 206 line)))
+    and_then (both_of (all_of (λ _. term_of scope place line) form.terms) (unless_of (keeps_limits form) (breaks 206 line)))
     (λ p. ordered_form line p.0 form.constant)
 
 -- what a register is multiplied by
@@ -143,7 +142,7 @@ inequality_between line AtLeast left right = record { line = line; low = right; 
 abbrev pub limited_inequality : InequalityText → Form → Form → Result Inequality TypeFault
 limited_inequality text left right =
     made_of (λ _. inequality_between text.line text.relation left right)
-    (unless_of (is_difference_within left.terms text.left.constant right.terms text.right.constant) (Fault 206 text.line))
+    (unless_of (is_difference_within left.terms text.left.constant right.terms text.right.constant) (breaks 206 text.line))
 
 -- `F R F`
 abbrev pub inequality_of : Scope → AnnotationPlace → InequalityText → Result Inequality TypeFault

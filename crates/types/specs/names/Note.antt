@@ -13,15 +13,14 @@ use Rattle.syntax.specs.declared.annotation.Pending.{Pending as PendingText}
 use Rattle.syntax.specs.declared.annotation.Zone.{Zone as ZoneText}
 use Rattle.syntax.specs.declared.instruction.Address.{Address as AddressText}
 use Rattle.syntax.specs.declared.instruction.Address.TheVariants as text
-use Rattle.refusal.specs.declared.refused.Refused.{Refused as TypeFault}
-use Rattle.refusal.specs.declared.refused.Refused.TheVariants.{Fault}
+use Rattle.refusal.specs.declared.broken.Broken.{Broken as TypeFault}
 use Rattle.types.specs.declared.names.form.AnnotationPlace.{AnnotationPlace}
 use Rattle.types.specs.declared.names.form.AnnotationPlace.TheVariants as place
 use Rattle.types.specs.declared.names.item.Item.{Item}
 use Rattle.types.specs.declared.names.item.Item.TheVariants as item
 use Rattle.types.specs.declared.names.scope.Register.{Register}
 use Rattle.types.specs.names.Address.{Items, as_object}
-use Rattle.types.specs.names.Fault.{all_from, all_of, and_then, both_of, made_of}
+use Rattle.types.specs.names.Fault.{all_from, all_of, and_then, both_of, breaks, made_of}
 use Rattle.types.specs.names.Form.{form_in_scope, made_before, parameter_of}
 use Rattle.types.specs.names.Operand.{region_of, register_of}
 use Rattle.types.specs.names.Scope.{Scope}
@@ -29,9 +28,9 @@ use Rattle.types.specs.names.Table.{look_up}
 
 -- a global; a function's name is an unknown one here (201)
 abbrev pub noted_global : ℕ → Option Item → Result ObjectName TypeFault
-noted_global line None = Err (Fault 201 line)
+noted_global line None = Err (breaks 201 line)
 noted_global line (Some (item.Global id cells)) = Ok (object.Global id)
-noted_global line (Some (item.Function id)) = Err (Fault 201 line)
+noted_global line (Some (item.Function id)) = Err (breaks 201 line)
 
 -- the object that a register holds: a `getelementptr` result is 204, what is no pointer 202
 abbrev pub noted_holding : ℕ → Register → Result ObjectName TypeFault

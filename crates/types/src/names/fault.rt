@@ -1,16 +1,16 @@
-ghost use Rattle.std.specs.Prelude.{◌≡◌, Ok};
-ghost use Rattle.types.specs.names.Fault.{both_of, earlier_fault_of, joined_of, unless_of, Gives};
-ghost use Rattle.refusal.specs.declared.refused.Refused.TheVariants.{Fault, Memory};
+ghost use Rattle.std.specs.Prelude.{◌≡◌};
+ghost use Rattle.types.specs.names.Fault.{both_of, breaks, unless_of};
+ghost use Rattle.types.specs.names.Told.{both_answers, earlier_answer, told_of, Joins};
 
 use crate::names::TypeFault;
 use lists::Seq;
-use refusal::{Broken, rule};
+use refusal::{Broken, Refused, rule};
 
 /// 201: nothing has this name.
 pub fn unknown_name(line: u32) -> TypeFault
-    ensures { result ≡ Fault 201 line }
+    ensures { result ≡ breaks 201 line }
 {
-    TypeFault::Fault {
+    TypeFault {
         number: rule::UNKNOWN_NAME,
         line,
     }
@@ -18,9 +18,9 @@ pub fn unknown_name(line: u32) -> TypeFault
 
 /// 202: what has this name is of another type than stands here.
 pub fn type_mismatch(line: u32) -> TypeFault
-    ensures { result ≡ Fault 202 line }
+    ensures { result ≡ breaks 202 line }
 {
-    TypeFault::Fault {
+    TypeFault {
         number: rule::WRONG_TYPE,
         line,
     }
@@ -28,9 +28,9 @@ pub fn type_mismatch(line: u32) -> TypeFault
 
 /// 203: a call with more or fewer arguments than the callee has parameters.
 pub fn wrong_count(line: u32) -> TypeFault
-    ensures { result ≡ Fault 203 line }
+    ensures { result ≡ breaks 203 line }
 {
-    TypeFault::Fault {
+    TypeFault {
         number: rule::ARGUMENT_COUNT,
         line,
     }
@@ -38,9 +38,9 @@ pub fn wrong_count(line: u32) -> TypeFault
 
 /// 204: a pointer is used as none may be.
 pub fn pointer_misuse(line: u32) -> TypeFault
-    ensures { result ≡ Fault 204 line }
+    ensures { result ≡ breaks 204 line }
 {
-    TypeFault::Fault {
+    TypeFault {
         number: rule::MISUSED_POINTER,
         line,
     }
@@ -48,9 +48,9 @@ pub fn pointer_misuse(line: u32) -> TypeFault
 
 /// 205: a call of a function that stands below.
 pub fn downward_call(line: u32) -> TypeFault
-    ensures { result ≡ Fault 205 line }
+    ensures { result ≡ breaks 205 line }
 {
-    TypeFault::Fault {
+    TypeFault {
         number: rule::CALLEE_BELOW,
         line,
     }
@@ -58,9 +58,9 @@ pub fn downward_call(line: u32) -> TypeFault
 
 /// 206: a form over a limit, or a note that names what its own block defines.
 pub fn form_limit(line: u32) -> TypeFault
-    ensures { result ≡ Fault 206 line }
+    ensures { result ≡ breaks 206 line }
 {
-    TypeFault::Fault {
+    TypeFault {
         number: rule::FORM_LIMIT,
         line,
     }
@@ -71,28 +71,6 @@ pub fn unless(holds: bool, fault: TypeFault) -> Result<(), TypeFault>
     ensures { result ≡ unless_of holds fault }
 {
     if holds { Ok(()) } else { Err(fault) }
-}
-
-/// The fault of the lower line, and on one line of the lower number. Want of memory comes first.
-fn earlier(first: TypeFault, second: TypeFault) -> TypeFault
-    ensures { result ≡ earlier_fault_of first second }
-{
-    match (first, second) {
-        (
-            TypeFault::Fault { number, line },
-            TypeFault::Fault {
-                number: other_number,
-                line: other_line,
-            },
-        ) => {
-            let other = Broken {
-                line: other_line,
-                number: other_number,
-            };
-            TypeFault::from(Broken { line, number }.earlier(other))
-        }
-        _ => TypeFault::Memory,
-    }
 }
 
 /// Both parts, else the earlier fault of the two.
@@ -109,19 +87,73 @@ pub fn both<A: Drop, B: Drop>(
         },
         Err(fault) => match second {
             Ok(_) => Err(fault),
+            Err(other) => Err(fault.earlier(other)),
+        },
+    }
+}
+
+/// A part that takes no memory, beside those that do.
+pub fn told<A: Drop>(part: Result<A, TypeFault>) -> Result<A, Refused>
+    ensures { result ≡ told_of part }
+{
+    match part {
+        Ok(a) => Ok(a),
+        Err(fault) => Err(Refused::Fault {
+            number: fault.number,
+            line: fault.line,
+        }),
+    }
+}
+
+/// The fault of the lower line, and on one line of the lower number. Want of memory comes first.
+fn earlier(first: Refused, second: Refused) -> Refused
+    ensures { result ≡ earlier_answer first second }
+{
+    match (first, second) {
+        (
+            Refused::Fault { number, line },
+            Refused::Fault {
+                number: other_number,
+                line: other_line,
+            },
+        ) => {
+            let other = Broken {
+                line: other_line,
+                number: other_number,
+            };
+            Refused::from(Broken { line, number }.earlier(other))
+        }
+        _ => Refused::Memory,
+    }
+}
+
+/// Both answers, else the earlier of their refusals.
+pub fn both_answers<A: Drop, B: Drop>(
+    first: Result<A, Refused>,
+    second: Result<B, Refused>,
+) -> Result<(A, B), Refused>
+    ensures { result ≡ both_answers first second }
+{
+    match first {
+        Ok(a) => match second {
+            Ok(b) => Ok((a, b)),
+            Err(fault) => Err(fault),
+        },
+        Err(fault) => match second {
+            Ok(_) => Err(fault),
             Err(other) => Err(earlier(fault, other)),
         },
     }
 }
 
-/// The list with one more part at its end, else the earlier fault of the two.
+/// The list with one more part at its end, else the earlier refusal of the two.
 pub fn joined<A: Drop>(
-    list: Result<Seq<A>, TypeFault>,
-    part: Result<A, TypeFault>,
-) -> Result<Seq<A>, TypeFault>
-    ensures { Gives result (joined_of list part) }
+    list: Result<Seq<A>, Refused>,
+    part: Result<A, Refused>,
+) -> Result<Seq<A>, Refused>
+    ensures { Joins result (both_answers list part) }
 {
-    let (mut list, part) = both(list, part)?;
+    let (mut list, part) = both_answers(list, part)?;
     list.push(part)?;
     Ok(list)
 }

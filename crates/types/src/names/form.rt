@@ -2,15 +2,18 @@
 
 ghost use Rattle.std.specs.Prelude.{◌≡◌, count_by};
 ghost use Rattle.std.specs.List.{list_all};
-ghost use Rattle.types.specs.names.Fault.{Gives, all_of};
+ghost use Rattle.types.specs.names.Fault.{all_of};
+ghost use Rattle.types.specs.names.Told.{Gives};
 ghost use Rattle.types.specs.names.Form as spec;
 
-use crate::names::TypeFault;
-use crate::names::fault::{both, form_limit, joined, type_mismatch, unknown_name, unless};
+use crate::names::fault::{
+    both, both_answers, form_limit, joined, told, type_mismatch, unknown_name, unless,
+};
 use crate::names::operand::resolve_register;
 use crate::names::scope::{
     Named, Register, Scope, is_number, is_number_of, is_parameter, is_step_of,
 };
+use crate::names::{Refused, TypeFault};
 use linear::FormFault;
 use lists::{Name, Seq};
 use program::{Form, Inequality, RegisterId, Term, Width};
@@ -145,29 +148,29 @@ fn terms(
     place: AnnotationPlace,
     line: u32,
     items: &[syntax::Term],
-) -> Result<Seq<Term>, TypeFault>
+) -> Result<Seq<Term>, Refused>
     ensures { Gives result (all_of (λ _. spec.term_of scope.now place line) items.now) }
 {
     let mut resolved = Ok(Seq::new(alloc));
     for item in items {
-        resolved = joined(resolved, term(scope, place, line, item));
+        resolved = joined(resolved, told(term(scope, place, line, item)));
     }
     resolved
 }
 
 /// The form with one more term: 206 past the bounds of a form.
-fn with_one(line: u32, form: Form, term: Term) -> Result<Form, TypeFault>
+fn with_one(line: u32, form: Form, term: Term) -> Result<Form, Refused>
     ensures { Gives result (spec.with_one line form term) }
 {
     match form.plus_term(term.register, term.coefficient) {
         Ok(form) => Ok(form),
-        Err(FormFault::Bounds) => Err(form_limit(line)),
-        Err(FormFault::Memory) => Err(TypeFault::Memory),
+        Err(FormFault::Bounds) => told(Err(form_limit(line))),
+        Err(FormFault::Memory) => Err(Refused::Memory),
     }
 }
 
 /// The form with these terms, put in the order of their registers.
-fn make_form(alloc: Global, line: u32, terms: &[Term], constant: i64) -> Result<Form, TypeFault>
+fn make_form(alloc: Global, line: u32, terms: &[Term], constant: i64) -> Result<Form, Refused>
     ensures { Gives result (spec.ordered_form line terms.now constant) }
 {
     let mut form = Form::from_constant(alloc, constant as i128);
@@ -191,12 +194,12 @@ pub fn resolve_form(
     place: AnnotationPlace,
     line: u32,
     form: &syntax::Form,
-) -> Result<Form, TypeFault>
+) -> Result<Form, Refused>
     ensures { Gives result (spec.form_in_scope scope.now place line form.now) }
 {
     let within = keeps_limits(form);
     let terms = terms(alloc, scope, place, line, form.terms.as_slice());
-    let (terms, ()) = both(terms, unless(within, form_limit(line)))?;
+    let (terms, ()) = both_answers(terms, told(unless(within, form_limit(line))))?;
     make_form(alloc, line, terms.as_slice(), form.constant)
 }
 
@@ -323,13 +326,13 @@ pub fn resolve_inequality(
     scope: &Scope,
     place: AnnotationPlace,
     item: &syntax::Inequality,
-) -> Result<Inequality, TypeFault>
+) -> Result<Inequality, Refused>
     ensures { Gives result (spec.inequality_of scope.now place item.now) }
 {
     let left = resolve_form(alloc, scope, place, item.line, &item.left);
     let right = resolve_form(alloc, scope, place, item.line, &item.right);
-    let (left, right) = both(left, right)?;
-    limited_inequality(item, left, right)
+    let (left, right) = both_answers(left, right)?;
+    told(limited_inequality(item, left, right))
 }
 
 /// The lines of one kind, in their order.
@@ -338,7 +341,7 @@ pub fn resolve_inequalities(
     scope: &Scope,
     place: AnnotationPlace,
     items: &[syntax::Inequality],
-) -> Result<Seq<Inequality>, TypeFault>
+) -> Result<Seq<Inequality>, Refused>
     ensures { Gives result (spec.inequalities_of scope.now place items.now) }
 {
     let mut resolved = Ok(Seq::new(alloc));

@@ -1,17 +1,19 @@
 //! Zones, what is pending, and what is left.
 
-ghost use Rattle.std.specs.Prelude.{◌≡◌};
-ghost use Rattle.types.specs.names.Fault.{Gives};
+ghost use Rattle.std.specs.Prelude.{◌≡◌, List, Result};
+ghost use Rattle.program.specs.declared.annotation.Zone.{Zone as ZoneMeaning};
+ghost use Rattle.refusal.specs.declared.broken.Broken.{Broken as FaultMeaning};
+ghost use Rattle.types.specs.names.Told.{Gives};
 ghost use Rattle.types.specs.names.Note as spec;
 ghost use Rattle.types.specs.names.Table.{look_up};
 
-use crate::names::TypeFault;
 use crate::names::address::held_object;
-use crate::names::fault::{both, joined, unknown_name};
+use crate::names::fault::{both_answers, joined, told, unknown_name};
 use crate::names::form::{AnnotationPlace, made_before, resolve_form, resolve_parameter};
 use crate::names::item::{Item, Items};
 use crate::names::operand::{resolve_region, resolve_register};
 use crate::names::scope::{Register, Scope};
+use crate::names::{Refused, TypeFault};
 use lists::{Name, Seq};
 use program::{Left, Measure, ObjectName, Pending, RegisterId, Zone};
 use std::alloc::Global;
@@ -90,14 +92,14 @@ pub fn resolve_zone(
     scope: &Scope,
     place: AnnotationPlace,
     zone: &syntax::Zone,
-) -> Result<Zone, TypeFault>
+) -> Result<Zone, Refused>
     ensures { Gives result (spec.zone_of items.now scope.now place zone.now) }
 {
     let line = zone.line;
-    let object = noted_object(items, scope, place, line, &zone.object);
+    let object = told(noted_object(items, scope, place, line, &zone.object));
     let low = resolve_form(alloc, scope, place, line, &zone.low);
     let high = resolve_form(alloc, scope, place, line, &zone.high);
-    let (object, (low, high)) = both(object, both(low, high))?;
+    let (object, (low, high)) = both_answers(object, both_answers(low, high))?;
     Ok(Zone {
         line,
         mode: zone.mode,
@@ -113,10 +115,11 @@ pub fn resolve_zones(
     items: &Items,
     scope: &Scope,
     place: AnnotationPlace,
-    before: Result<Seq<Zone>, TypeFault>,
+    before: Result<Seq<Zone>, Refused>,
     zones: &[syntax::Zone],
-) -> Result<Seq<Zone>, TypeFault>
-    ensures { Gives result (spec.more_zones items.now scope.now place before zones.now) }
+) -> Result<Seq<Zone>, Refused>
+    ensures { (meaning : Result (List ZoneMeaning) FaultMeaning) → Gives before meaning
+        → Gives result (spec.more_zones items.now scope.now place meaning zones.now) }
 {
     let mut resolved = before;
     for zone in zones {
@@ -132,7 +135,7 @@ pub fn resolve_first_zones(
     scope: &Scope,
     place: AnnotationPlace,
     zones: &[syntax::Zone],
-) -> Result<Seq<Zone>, TypeFault>
+) -> Result<Seq<Zone>, Refused>
     ensures { Gives result (spec.zones_of items.now scope.now place zones.now) }
 {
     let none = Ok(Seq::new(alloc));
@@ -160,11 +163,11 @@ fn resolve_pending(
     scope: &Scope,
     block: usize,
     pending: &syntax::Pending,
-) -> Result<Pending, TypeFault>
+) -> Result<Pending, Refused>
     ensures { Gives result (spec.pending_of items.now scope.now block pending.now) }
 {
     let line = pending.zone.line;
-    let region = pending_region(scope, block, line, &pending.region);
+    let region = told(pending_region(scope, block, line, &pending.region));
     let zone = resolve_zone(
         alloc,
         items,
@@ -172,7 +175,7 @@ fn resolve_pending(
         AnnotationPlace::Start(block),
         &pending.zone,
     );
-    let (region, zone) = both(region, zone)?;
+    let (region, zone) = both_answers(region, zone)?;
     Ok(Pending { region, zone })
 }
 
@@ -183,7 +186,7 @@ pub fn resolve_all_pending(
     scope: &Scope,
     block: usize,
     lines: &[syntax::Pending],
-) -> Result<Seq<Pending>, TypeFault>
+) -> Result<Seq<Pending>, Refused>
     ensures { Gives result (spec.all_pending_of items.now scope.now block lines.now) }
 {
     let mut resolved = Ok(Seq::new(alloc));
@@ -199,14 +202,14 @@ pub fn resolve_left(
     scope: &Scope,
     block: usize,
     left: &syntax::Left,
-) -> Result<Left, TypeFault>
+) -> Result<Left, Refused>
     ensures { Gives result (spec.left_of scope.now block left.now) }
 {
     let line = left.line;
     let place = AnnotationPlace::Start(block);
     let self_calls = resolve_form(alloc, scope, place, line, &left.self_calls);
     let instructions = resolve_form(alloc, scope, place, line, &left.instructions);
-    let (self_calls, instructions) = both(self_calls, instructions)?;
+    let (self_calls, instructions) = both_answers(self_calls, instructions)?;
     Ok(Left {
         line,
         self_calls,
@@ -219,7 +222,7 @@ pub fn resolve_measure(
     alloc: Global,
     scope: &Scope,
     measure: &syntax::Measure,
-) -> Result<Measure, TypeFault>
+) -> Result<Measure, Refused>
     ensures { Gives result (spec.measure_of scope.now measure.now) }
 {
     let line = measure.line;

@@ -1,10 +1,10 @@
-use Rattle.std.specs.Prelude.{true}
 use Rattle.std.proofs.Common.{subst}
 use Rattle.ranges.specs.declared.unverified.Unverified.{Unverified}
 use Rattle.refusal.specs.declared.refused.Refused.{Refused}
+use Rattle.refusal.specs.Refusals.{IfBroken}
 use Rattle.verifier.specs.Accepted.{IsRefused, IsUnverified}
 use Rattle.kernel_c.proofs.judge.rejection.Goals as goal
 
 pub returns-in-Refused-clause-refused : goal.returns-in-Refused-clause-refused
-returns-in-Refused-clause-refused c = λ text h status.
-    subst (λ (r : Refused). IsRefused text r) (c.refusal.ensures.fault status) (subst (λ (why : Unverified). IsUnverified text true why) c.in-Refused.is h)
+returns-in-Refused-clause-refused c = λ text effort h status.
+    subst (λ (r : Refused). IfBroken (IsRefused text) r) (c.refusal.ensures.fault status) (subst (λ (why : Unverified). IsUnverified text effort why) c.in-Refused.is h)

@@ -9,11 +9,11 @@ use Rattle.types.proofs.block.resolve_head.Goals as goal
 pub returns-in_err-keeps : goal.returns-in_err-keeps
 returns-in_err-keeps c =
     let p = err_from_is_err_and c.from_residual.result c.from_residual.ensures.1 in
-    rw (p.1, p.2) (bad_made _ c.both-3.result _ c.in_err-keeps.field-0.0 c.in_err-keeps.was (
+    rw (p.1, p.2) (bad_made _ c.both_answers-3.result _ c.in_err-keeps.field-0.0 c.in_err-keeps.was (
     let items = c.args.world.now.items.now in
     let scope = c.args.scope.now in
     let block = c.args.block in
-    four_give _ _ _ _ _ _ _ _ c.both.result c.both-2.result c.both-3.result c.both.ensures c.both-2.ensures c.both-3.ensures
+    four_give _ _ _ _ _ _ _ _ c.both_answers.result c.both_answers-2.result c.both_answers-3.result c.both_answers.ensures c.both_answers-2.ensures c.both_answers-3.ensures
     (gives_from (inequalities_of scope (place.Start block)) c.resolve_inequalities-keeps.result c.as_slice.result.now c.args.notes.now.keeps c.as_slice.ensures c.resolve_inequalities-keeps.ensures)
     (gives_from (all_pending_of items scope block) c.resolve_all_pending-pending.result c.as_slice-2.result.now c.args.notes.now.pending c.as_slice-2.ensures c.resolve_all_pending-pending.ensures)
     c.resolve_left-left.ensures
@@ -21,11 +21,11 @@ returns-in_err-keeps c =
 
 pub returns : goal.returns
 returns c =
-    good _ c.both-3.result _ _ c.in_ok-keeps.was (
+    good _ c.both_answers-3.result _ _ c.in_ok-keeps.was (
     let items = c.args.world.now.items.now in
     let scope = c.args.scope.now in
     let block = c.args.block in
-    four_give _ _ _ _ _ _ _ _ c.both.result c.both-2.result c.both-3.result c.both.ensures c.both-2.ensures c.both-3.ensures
+    four_give _ _ _ _ _ _ _ _ c.both_answers.result c.both_answers-2.result c.both_answers-3.result c.both_answers.ensures c.both_answers-2.ensures c.both_answers-3.ensures
     (gives_from (inequalities_of scope (place.Start block)) c.resolve_inequalities-keeps.result c.as_slice.result.now c.args.notes.now.keeps c.as_slice.ensures c.resolve_inequalities-keeps.ensures)
     (gives_from (all_pending_of items scope block) c.resolve_all_pending-pending.result c.as_slice-2.result.now c.args.notes.now.pending c.as_slice-2.ensures c.resolve_all_pending-pending.ensures)
     c.resolve_left-left.ensures

@@ -1,5 +1,6 @@
 use Rattle.std.proofs.Common.{take}
-use Rattle.types.specs.names.Fault.{Gives, all_of}
+use Rattle.types.specs.names.Fault.{all_of}
+use Rattle.types.specs.names.Told.{Gives}
 use Rattle.types.specs.Function as spec
 use Rattle.types.proofs.function.resolve_functions.Given as goal
 

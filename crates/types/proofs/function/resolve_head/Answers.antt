@@ -10,11 +10,11 @@ use Rattle.types.proofs.function.resolve_head.Goals as goal
 pub returns-in_err-requirements : goal.returns-in_err-requirements
 returns-in_err-requirements c =
     let p = err_from_is_err_and c.from_residual.result c.from_residual.ensures.1 in
-    rw (p.1, p.2) (bad_made _ c.both-3.result _ c.in_err-requirements.field-0.0 c.in_err-requirements.was (
+    rw (p.1, p.2) (bad_made _ c.both_answers-3.result _ c.in_err-requirements.field-0.0 c.in_err-requirements.was (
     let items = c.args.world.now.items.now in
     let scope = c.args.layout.now.scope in
     let register = c.result_register.ensures ∙ ap (result_register c.args.result_type) c.len.ensures in
-    four_give _ _ _ _ _ _ _ _ c.both.result c.both-2.result c.both-3.result c.both.ensures c.both-2.ensures c.both-3.ensures
+    four_give _ _ _ _ _ _ _ _ c.both_answers.result c.both_answers-2.result c.both_answers-3.result c.both_answers.ensures c.both_answers-2.ensures c.both_answers-3.ensures
     (gives_from (inequalities_of scope place.Head) c.resolve_inequalities-requirements.result c.as_slice-requirements.result.now c.args.notes.now.requirements c.as_slice-requirements.ensures c.resolve_inequalities-requirements.ensures)
     (gives_from (λ r. inequalities_of scope (place.Guarantee r) c.args.notes.now.guarantees) c.resolve_inequalities-guarantees.result c.result_register.result _ register
     (gives_from (inequalities_of scope (place.Guarantee c.result_register.result)) c.resolve_inequalities-guarantees.result c.as_slice.result.now c.args.notes.now.guarantees c.as_slice.ensures c.resolve_inequalities-guarantees.ensures))
@@ -22,11 +22,11 @@ returns-in_err-requirements c =
 
 pub returns : goal.returns
 returns c =
-    good _ c.both-3.result _ _ c.in_ok-requirements.was (
+    good _ c.both_answers-3.result _ _ c.in_ok-requirements.was (
     let items = c.args.world.now.items.now in
     let scope = c.args.layout.now.scope in
     let register = c.result_register.ensures ∙ ap (result_register c.args.result_type) c.len.ensures in
-    four_give _ _ _ _ _ _ _ _ c.both.result c.both-2.result c.both-3.result c.both.ensures c.both-2.ensures c.both-3.ensures
+    four_give _ _ _ _ _ _ _ _ c.both_answers.result c.both_answers-2.result c.both_answers-3.result c.both_answers.ensures c.both_answers-2.ensures c.both_answers-3.ensures
     (gives_from (inequalities_of scope place.Head) c.resolve_inequalities-requirements.result c.as_slice-requirements.result.now c.args.notes.now.requirements c.as_slice-requirements.ensures c.resolve_inequalities-requirements.ensures)
     (gives_from (λ r. inequalities_of scope (place.Guarantee r) c.args.notes.now.guarantees) c.resolve_inequalities-guarantees.result c.result_register.result _ register
     (gives_from (inequalities_of scope (place.Guarantee c.result_register.result)) c.resolve_inequalities-guarantees.result c.as_slice.result.now c.args.notes.now.guarantees c.as_slice.ensures c.resolve_inequalities-guarantees.ensures))

@@ -1,5 +1,5 @@
 use Rattle.std.proofs.Common.{take}
-use Rattle.types.specs.names.Fault.{Gives}
+use Rattle.types.specs.names.Told.{Gives}
 use Rattle.types.specs.Instruction as spec
 use Rattle.types.proofs.instruction.resolve_steps.Given as goal
 

@@ -34,30 +34,30 @@ returns-in_err-typed-clause-refused c = err_from _ _ _ c.from_residual-in_err-ty
 
 pub returns-in_err-graph-clause-refused : goal.returns-in_err-graph-clause-refused
 returns-in_err-graph-clause-refused c = err_from _ _ _ c.from_residual-in_err-graph.ensures.1
-    (refused_after _ _ c.in_ok-typed.typed _ _ refl c.in_ok-module.ensures.exact c.in_ok-typed.ensures.judged
-    (inl c.in_err-graph.ensures.fault))
+    (refused_after _ _ c.in_ok-typed.typed _ _ _ refl c.in_ok-module.ensures.exact c.in_ok-typed.ensures.judged
+    (λ b h. inl h) c.in_err-graph.ensures.fault)
 
 pub returns-in_err-regions-clause-refused : goal.returns-in_err-regions-clause-refused
 returns-in_err-regions-clause-refused c = err_from _ _ _ c.from_residual-in_err-regions.ensures.1
-    (refused_after _ _ c.in_ok-typed.typed _ _ c.in_ok-graph.ensures.same c.in_ok-module.ensures.exact c.in_ok-typed.ensures.judged
-    (inr (rw c.in_ok-graph.ensures.same c.in_ok-graph.ensures.right, inl c.in_err-regions.ensures.fault)))
+    (refused_after _ _ c.in_ok-typed.typed _ _ _ c.in_ok-graph.ensures.same c.in_ok-module.ensures.exact c.in_ok-typed.ensures.judged
+    (λ b h. inr (rw c.in_ok-graph.ensures.same c.in_ok-graph.ensures.right, inl h)) c.in_err-regions.ensures.fault)
 
 pub returns-in_err-defined-clause-refused : goal.returns-in_err-defined-clause-refused
 returns-in_err-defined-clause-refused c = err_from _ _ _ c.from_residual-in_err-defined.ensures.1
-    (refused_after _ _ c.in_ok-typed.typed _ _ c.in_ok-graph.ensures.same c.in_ok-module.ensures.exact c.in_ok-typed.ensures.judged
-    (inr (rw c.in_ok-graph.ensures.same c.in_ok-graph.ensures.right, inr (c.in_ok-regions.ensures.right, inl c.in_err-defined.ensures.fault))))
+    (refused_after _ _ c.in_ok-typed.typed _ _ _ c.in_ok-graph.ensures.same c.in_ok-module.ensures.exact c.in_ok-typed.ensures.judged
+    (λ b h. inr (rw c.in_ok-graph.ensures.same c.in_ok-graph.ensures.right, inr (c.in_ok-regions.ensures.right, inl h))) c.in_err-defined.ensures.fault)
 
 pub returns-in_err-facts-clause-refused : goal.returns-in_err-facts-clause-refused
 returns-in_err-facts-clause-refused c = err_from _ _ _ c.from_residual-in_err-facts.ensures.1
-    (unverified_by _ _ (IsRangeBroken c.in_ok-graph.graph.program) _ c.in_err-facts.ensures.fault (λ refused named. (refused_after _ _ c.in_ok-typed.typed _ _ c.in_ok-graph.ensures.same c.in_ok-module.ensures.exact c.in_ok-typed.ensures.judged
-    (inr (rw c.in_ok-graph.ensures.same c.in_ok-graph.ensures.right, inr (c.in_ok-regions.ensures.right, inr (c.in_ok-defined.ensures.right, inl named)))))))
+    (unverified_by _ _ (IsRangeBroken c.in_ok-graph.graph.program) _ c.in_err-facts.ensures.fault (λ refused named. (refused_after _ _ c.in_ok-typed.typed _ _ _ c.in_ok-graph.ensures.same c.in_ok-module.ensures.exact c.in_ok-typed.ensures.judged
+    (λ b h. inr (rw c.in_ok-graph.ensures.same c.in_ok-graph.ensures.right, inr (c.in_ok-regions.ensures.right, inr (c.in_ok-defined.ensures.right, inl h)))) named)))
 
 pub returns-in_err-check_zones-clause-refused : goal.returns-in_err-check_zones-clause-refused
 returns-in_err-check_zones-clause-refused c = err_from _ _ _ c.from_residual-in_err-check_zones.ensures.1
-    (unverified_by _ _ (IsZoneBroken c.in_ok-graph.graph.program c.in_ok-regions.regions) _ c.in_err-check_zones.ensures.fault (λ refused named. (refused_after _ _ c.in_ok-typed.typed _ _ c.in_ok-graph.ensures.same c.in_ok-module.ensures.exact c.in_ok-typed.ensures.judged
-    (inr (rw c.in_ok-graph.ensures.same c.in_ok-graph.ensures.right, inr (c.in_ok-regions.ensures.right, inr (c.in_ok-defined.ensures.right, inr (c.in_ok-facts.ensures.right, inl (c.in_ok-regions.regions, by_tasks c.in_ok-graph.graph.program c.in_ok-graph.graph.functions c.in_ok-regions.regions c.in_ok-graph.graph.edges c.in_ok-regions.ensures.tasks, named)))))))))
+    (unverified_by _ _ (IsZoneBroken c.in_ok-graph.graph.program c.in_ok-regions.regions) _ c.in_err-check_zones.ensures.fault (λ refused named. (refused_after _ _ c.in_ok-typed.typed _ _ _ c.in_ok-graph.ensures.same c.in_ok-module.ensures.exact c.in_ok-typed.ensures.judged
+    (λ b h. inr (rw c.in_ok-graph.ensures.same c.in_ok-graph.ensures.right, inr (c.in_ok-regions.ensures.right, inr (c.in_ok-defined.ensures.right, inr (c.in_ok-facts.ensures.right, inl (c.in_ok-regions.regions, by_tasks c.in_ok-graph.graph.program c.in_ok-graph.graph.functions c.in_ok-regions.regions c.in_ok-graph.graph.edges c.in_ok-regions.ensures.tasks, h)))))) named)))
 
 pub returns-in_err-table-clause-refused : goal.returns-in_err-table-clause-refused
 returns-in_err-table-clause-refused c = err_from _ _ _ c.from_residual-in_err-table.ensures.1
-    (unverified_by _ _ (IsCostBroken c.in_ok-graph.graph.program) _ c.in_err-table.ensures.fault (λ refused named. (refused_after _ _ c.in_ok-typed.typed _ _ c.in_ok-graph.ensures.same c.in_ok-module.ensures.exact c.in_ok-typed.ensures.judged
-    (inr (rw c.in_ok-graph.ensures.same c.in_ok-graph.ensures.right, inr (c.in_ok-regions.ensures.right, inr (c.in_ok-defined.ensures.right, inr (c.in_ok-facts.ensures.right, inr ((c.in_ok-regions.regions, by_tasks c.in_ok-graph.graph.program c.in_ok-graph.graph.functions c.in_ok-regions.regions c.in_ok-graph.graph.edges c.in_ok-regions.ensures.tasks, c.in_ok-check_zones.ensures.right), named)))))))))
+    (unverified_by _ _ (IsCostBroken c.in_ok-graph.graph.program) _ c.in_err-table.ensures.fault (λ refused named. (refused_after _ _ c.in_ok-typed.typed _ _ _ c.in_ok-graph.ensures.same c.in_ok-module.ensures.exact c.in_ok-typed.ensures.judged
+    (λ b h. inr (rw c.in_ok-graph.ensures.same c.in_ok-graph.ensures.right, inr (c.in_ok-regions.ensures.right, inr (c.in_ok-defined.ensures.right, inr (c.in_ok-facts.ensures.right, inr ((c.in_ok-regions.regions, by_tasks c.in_ok-graph.graph.program c.in_ok-graph.graph.functions c.in_ok-regions.regions c.in_ok-graph.graph.edges c.in_ok-regions.ensures.tasks, c.in_ok-check_zones.ensures.right), h)))))) named)))

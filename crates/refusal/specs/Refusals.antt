@@ -1,0 +1,9 @@
+-- What a contract says of a refusal. Only contracts speak of memory: what a text means, and which rule it breaks, has none.
+use Rattle.refusal.specs.declared.broken.Broken.{Broken}
+use Rattle.refusal.specs.declared.refused.Refused.{Refused}
+use Rattle.refusal.specs.declared.refused.Refused.TheVariants.{Fault, Memory}
+
+-- where a broken rule is named, so much of it; nothing is said where memory was refused
+abbrev pub IfBroken : (Broken → Type 0) → Refused → Type 0
+IfBroken Says Memory = Unit {0}
+IfBroken Says (Fault number line) = Says (record { line = line; number = number })
