@@ -1,6 +1,6 @@
 //! Forwards and backwards through a schedule.
 
-ghost use Rattle.std.specs.Prelude.{◌≡◌, ◌≤◌, ◌-◌, ◌+◌, None, IfOk, IfSome, IfNone, OnOk, OnErr, length, min};
+ghost use Rattle.std.specs.Prelude.{◌≡◌, ◌≢◌, ◌≤◌, ◌-◌, ◌+◌, Err, None, IfOk, IfSome, IfNone, OnOk, OnErr, length, min};
 ghost use Rattle.schedule_core.specs.store.Made.{IsMadeFor};
 ghost use Rattle.schedule_core.specs.Admission.{IsAdmitted};
 ghost use Rattle.schedule_core.specs.Stages.{global_named};
@@ -78,6 +78,7 @@ impl<'v> Debugger<'v> {
             in IfOk result (Debugs s) }
         ensures first { IfOk result (λ d. d.position ≡ 0) }
         ensures admitted { IsAdmitted verified.now arguments.now memory workers result }
+        ensures not_stopped { result ≢ Err RunFault.Stopped }
     {
         let first = Machine::start(alloc, verified, arguments, memory, workers)?;
         let Ok(machine) = first.copy() else {

@@ -69,8 +69,8 @@ pub(crate) fn run_by<L: Bench + Send + Sync, G: Gate + Sync, R: Threads + Wait +
             }
             (Err(_), Outlook::OutOfMemory) => return Err(RunFault::OutOfMemory),
             (Err(_), Outlook::Stopped) => return Err(RunFault::Stopped),
-            (Err((board, all)), Outlook::Again) => {
-                shared = board;
+            (Err((unended, all)), Outlook::Again) => {
+                shared = unended.share();
                 seats = all;
             }
         }

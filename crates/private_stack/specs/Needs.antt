@@ -1,5 +1,5 @@
 -- The cell for which a pile pauses.
-use Rattle.std.specs.Prelude.{◌≡◌, ⊤, Some, None, true, ℤ}
+use Rattle.std.specs.Prelude.{◌≡◌, ⊤, Some, None, true, false, ℤ}
 use Rattle.semantics.specs.Cells.{Cell}
 use Rattle.semantics.specs.Frames.{Does, cell_at, item_at}
 use Rattle.linear.specs.declared.form.RegisterId.{RegisterId}
@@ -14,6 +14,8 @@ use Rattle.private_stack.specs.frame_strand.declared.cells.Stop.{Stop}
 use Rattle.private_stack.specs.frame_strand.declared.cells.Stop.TheVariants as stop
 use Rattle.private_stack.specs.pages.Logs.{has_place, value_at}
 use Rattle.private_stack.specs.pages.Tables.{log_of}
+use Rattle.laws_strands.specs.Strands as strands
+use Rattle.laws_strands.specs.Strands.{access_of}
 use Rattle.laws_strands.specs.stacks.Deep.{DeepStrand, IsDeep}
 use Rattle.private_stack.specs.Shown.{CanGo, Deeper, ShowsPile}
 use Rattle.private_stack.specs.Layouts.{Segment}
@@ -32,10 +34,24 @@ pub record NeedsCell (prog : Program) (l : Layout) (d : DeepStrand) (b : PileCel
   pub new : value_at (log_of b.log) at ≡ None
   pub room : has_place (log_of b.log) at ≡ true
 
+-- the cell of an access
+abbrev pub Reaches : strands.Access → Cell → Type 0
+Reaches strands.Nowhere c = ⊥
+Reaches (strands.Loads x) c = x ≡ c
+Reaches (strands.Stores x) c = x ≡ c
+Reaches (strands.Adds x) c = x ≡ c
+
+-- the strand loads next a cell of an object of the machine, stores to it or adds to it, and there is no place for the cell's page
+pub record LacksPage (prog : Program) (l : Layout) (d : DeepStrand) (b : PileCells) : Type 0 where
+  pub cell : Cell
+  pub living : IsIn l cell
+  pub next : Reaches (access_of prog d.top.frame) cell
+  pub full : has_place (log_of b.log) (address l cell) ≡ false
+
 abbrev pub PausesAt : Program → Layout → DeepStrand → PileCells → engine.Pause Stop → Type 0
 PausesAt prog l d b engine_pause.Border = ⊤
 PausesAt prog l d b engine_pause.Limit = ⊤
-PausesAt prog l d b (engine_pause.Stopped stop.Full) = ⊤
+PausesAt prog l d b (engine_pause.Stopped stop.Full) = LacksPage prog l d b
 PausesAt prog l d b (engine_pause.Stopped (stop.Need at)) = NeedsCell prog l d b at
 
 -- the strand goes on to this pause

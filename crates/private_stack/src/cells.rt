@@ -1,10 +1,11 @@
-ghost use Rattle.std.specs.Prelude.{◌≡◌, ◌≢◌, ◌<◌, ◌≤◌, ◌+◌, ◌+ℤ◌, ◌↔◌, ℕ, ℤ, pos, true, IfNone, IfSome, IsTrue, None, Some, length, slice_get};
+ghost use Rattle.std.specs.Prelude.{◌≡◌, ◌≢◌, ◌<◌, ◌≤◌, ◌+◌, ◌+ℤ◌, ◌↔◌, ℕ, ℤ, pos, false, true, min, IfNone, IfSome, IsTrue, None, Some, length, slice_get};
 ghost use Rattle.frame_engine.specs.Flat.{is_cell};
 ghost use Rattle.private_stack.specs.pages.Committing.{Agrees};
-ghost use Rattle.private_stack.specs.pages.Logs.{IsWider};
+ghost use Rattle.private_stack.specs.pages.Logs.{IsWider, has_place};
 ghost use Rattle.private_stack.specs.pages.Tables.{log_of};
 ghost use Rattle.semantics.specs.Arithmetic.{wrapped};
 ghost use Rattle.syntax.specs.declared.operator.Width.TheVariants.{Bits64};
+ghost use Rattle.private_stack.specs.Boards.{LacksPages};
 ghost use Rattle.private_stack.specs.OwnCells.{CanStore, CellsDo, CellsRefuse, any_cell, may_be, own_cell};
 ghost use Rattle.private_stack.specs.Putting.{ArePutInto, IsCopiedTo};
 
@@ -56,6 +57,7 @@ impl PileCells {
         ensures only { self.new ≡ record self.old { log = self.new.log } }
         ensures wider { IsWider (log_of self.old.log) (log_of self.new.log) }
         ensures yes { result ≡ true → CanStore self.new at.now }
+        ensures no { result ≡ false → (own_cell self.new at.now ≡ None) × (has_place (log_of self.new.log) at.now ≡ false) }
     {
         match self.place(at) {
             Some(_) => true,
@@ -68,6 +70,7 @@ impl PileCells {
         ensures only { self.new ≡ record self.old { log = self.new.log } }
         ensures wider { IsWider (log_of self.old.log) (log_of self.new.log) }
         ensures yes { result ≡ true → (i : ℕ) → i < count → CanStore self.new (wrapped Bits64 (at.now +ℤ pos i)) }
+        ensures no { result ≡ false → LacksPages self.new at.now count }
     {
         let mut next = *at;
         for _index in 0..count {
@@ -83,7 +86,7 @@ impl PileCells {
 impl PileCells {
     /// The address behind the segment.
     pub(crate) fn limit(&self) -> u64
-        ensures { result ≤ self.now.start + length self.now.own.items }
+        ensures { result ≡ min (self.now.start + length self.now.own.items) 18446744073709551615 }
     {
         self.start.saturating_add(self.own.len() as u64)
     }

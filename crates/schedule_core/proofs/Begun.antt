@@ -1,5 +1,5 @@
 -- The stage before the first event.
-use Rattle.std.proofs.Common.{◌≡◌, ℕ, zero, suc, ◌+◌, ◌<◌, List, [], ◌∷◌, ◌++◌, length, map, take, Some, None, Bool, refl, sym, ap, ◌∙◌, subst, arith, slice_get, append_assoc, ℤ}
+use Rattle.std.proofs.Common.{◌≡◌, ℕ, zero, suc, ◌+◌, ◌<◌, ◌≤◌, List, [], ◌∷◌, ◌++◌, length, map, take, Some, None, Bool, refl, sym, ap, ◌∙◌, subst, arith, slice_get, append_assoc, ℤ}
 use Rattle.std.specs.Prelude.{sum, Result, Ok, Err, OnOk}
 use Rattle.std.specs.List.{fold}
 use Rattle.std.proofs.lemmas.List.{length-append}
@@ -17,7 +17,7 @@ use Rattle.frame_engine.specs.Fits.{HasMoves}
 use Rattle.schedule_workers.specs.Starts.{ArePlaces, Begins, IsRowOf}
 use Rattle.frame.specs.declared.event.Event.{Event}
 use Rattle.schedule_core.specs.declared.stage.Stage.{Stage}
-use Rattle.schedule_core.specs.Replaying.{IsMachine, KeepsItsSchedule, KeepsItWith, Replays, StaysLow, first_state, state_after}
+use Rattle.schedule_core.specs.Replaying.{IsMachine, KeepsItsSchedule, KeepsSchedules, Replays, first_state}
 use Rattle.laws_workers.specs.store.Made.{IsMadeFor}
 use Rattle.schedule_core.specs.Stages.{IsState, given, program_of, workers_of}
 use Rattle.schedule_core.proofs.Grounds.{FromStart, laws}
@@ -121,20 +121,7 @@ pub kept_by : (prog : Program) (arguments : List ℤ) (globals : List NamedCells
 kept_by prog arguments globals workers stage m r none made some events =
     (laws.from_start prog (subst (λ q. IsAccepted q) r.program m.accepted) arguments none globals made workers (omega (arith, some))).keeps events
 
--- and so with an event more
-pub kept_with : (stage : Stage) (event : Event) (r : Result Bool OutOfMemory) → OnOk r (KeepsItWith stage event)
-kept_with stage event (Err refused) = tt
-kept_with stage event (Ok done) = λ prog arguments globals workers events replays k. record {
-  serial = k.serial;
-  is_serial = k.is_serial;
-  within_budget = k.within_budget;
-  within_depth = k.within_depth;
-  schedule = k.onwards (event ∷ []);
-  low = k.low_onwards (event ∷ []);
-  onwards = λ more.
-      subst (λ (l : List Event). KeepsSchedule prog workers k.serial (state_after prog arguments globals workers l)) (sym (append_assoc events (event ∷ []) more))
-      (k.onwards (event ∷ more));
-  low_onwards = λ more.
-      subst (λ (l : List Event). StaysLow k.serial (state_after prog arguments globals workers l)) (sym (append_assoc events (event ∷ []) more))
-      (k.low_onwards (event ∷ more));
-}
+-- and so of whatever led to a stage
+pub kept_all : (stage : Stage) → IsAccepted (program_of stage) → KeepsSchedules stage
+kept_all stage accepted prog arguments globals workers events none made r =
+    (laws.from_start prog (subst (λ q. IsAccepted q) r.program accepted) arguments none globals made workers (subst (λ (n : ℕ). 1 ≤ n) r.as_many r.state.manned)).keeps events

@@ -1,13 +1,13 @@
 -- The paths of the living frames, taken slot by slot.
-use Rattle.std.proofs.Common.{◌≡◌, ℕ, List, [], ◌∷◌, ◌++◌, Contains, reverse, Option, Some, None, ◌⊎◌, inl, inr, refl, sym, ap, ◌∙◌, subst, arith}
-use Rattle.std.specs.Prelude.{IsSome, is_some}
+use Rattle.std.proofs.Common.{◌≡◌, ℕ, ◌+◌, List, [], ◌∷◌, ◌++◌, length, length-append, Contains, reverse, Option, Some, None, ◌⊎◌, inl, inr, refl, sym, ap, ◌∙◌, subst, arith}
+use Rattle.std.specs.Prelude.{IsSome, is_some, count_by}
 use Rattle.std.proofs.lemmas.List.{reverse-reverse}
 use Rattle.std.proofs.lemmas.List.Elements.{Contains-append_left, Contains-append_right, Contains-push, Contains-push_cases}
 use Rattle.semantics.specs.Frames.{Frame}
 use Rattle.semantics.specs.Events.{Machine}
 use Rattle.frame.specs.declared.path.Path.{Path}
 use Rattle.slab.specs.Slab.{entries_from}
-use Rattle.slab.proofs.SlabLemmas.{Contains-cons_cases, Contains-entries}
+use Rattle.slab.proofs.SlabLemmas.{Contains-cons_cases, Contains-entries, length-entries_from}
 use Rattle.cactus.specs.declared.node.Node.{Node}
 use Rattle.cactus.specs.Frames.{Frames, node_at}
 use Rattle.cactus.specs.ByPath.{named}
@@ -21,6 +21,7 @@ use Rattle.schedule_core.specs.FrameViews.{AreLiving}
 use Rattle.schedule_core.specs.Stages.{IsState, program_of}
 use Rattle.schedule_core.specs.Viewed.{place_in}
 use Rattle.schedule_core.proofs.Firsts.{listed_node}
+use Rattle.schedule_core.proofs.Living.{counts_frames}
 
 -- a frame of this path stands in some slot
 pub record Stands (frames : Frames Activation) (path : Path) : Type 0 where
@@ -34,6 +35,7 @@ pub record Takes (frames : Frames Activation) (left : List (ℕ × Node Activati
   pub stand : (slot : ℕ) (node : Node Activation) → Contains left (slot, node) → node_at frames slot ≡ Some node
   pub taken : (path : Path) → Contains paths path → Stands frames path
   pub remain : (slot : ℕ) (node : Node Activation) → node_at frames slot ≡ Some node → Contains left (slot, node) ⊎ Contains paths node.path
+  pub count : length paths + length left ≡ count_by is_some frames.nodes
 
 none_in : {X : Type 0} (x : X) → Contains [] x → ⊥
 none_in x there = let (k, below, is) = there in absurd (omega arith)
@@ -44,6 +46,7 @@ begins frames left all =
       stand = λ slot node there. (Contains-entries (record { slots = frames.nodes; vacant_key = 0; capacity = 0 }) slot node).0 (subst (λ (l : List (ℕ × Node Activation)). Contains l (slot, node)) all there);
       taken = λ path there. absurd (none_in path there);
       remain = λ slot node stands. inl (subst (λ (l : List (ℕ × Node Activation)). Contains l (slot, node)) (sym all) (listed_node frames slot node stands));
+      count = let long = ap (λ (l : List (ℕ × Node Activation)). length l) all in let each = length-entries_from 0 frames.nodes in omega (arith, long, each);
     }
 
 module _ (frames : Frames Activation) (left more : List (ℕ × Node Activation)) (slot : ℕ) (node : Node Activation) (paths after : List Path)
@@ -80,6 +83,12 @@ module _ (frames : Frames Activation) (left more : List (ℕ × Node Activation)
         stand = λ s n there. in_left s n (Contains-append_right ((slot, node) ∷ []) more (s, n) there);
         taken = taken_next;
         remain = remain_next;
+        count =
+            let was = t.count in
+            let one = ap (λ (l : List (ℕ × Node Activation)). length l) steps in
+            let more_paths = ap (λ (l : List Path). length l) pushed in
+            let each = length-append paths (node.path ∷ []) in
+            omega (arith, was, one, more_paths, each);
       }
 
 module _ (stage : Stage) (m : Machine) (s : IsState stage m) (paths : List Path) (t : Takes stage.run.cactus [] paths) where
@@ -108,4 +117,4 @@ module _ (stage : Stage) (m : Machine) (s : IsState stage m) (paths : List Path)
           ]
 
   pub all_taken : AreLiving m paths
-  all_taken = record { live = live; listed = listed }
+  all_taken = record { live = live; listed = listed; once = counts_frames stage m (length paths) s (let all = t.count in omega (arith, all)) }

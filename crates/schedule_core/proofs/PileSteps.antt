@@ -10,7 +10,7 @@ use Rattle.frame_engine.specs.declared.activation.Places.{Places}
 use Rattle.schedule_workers.specs.declared.activation.Activation.{Activation}
 use Rattle.schedule_workers.specs.declared.run.Run.{Run}
 use Rattle.schedule_workers.specs.Follows.{Follows}
-use Rattle.schedule_workers.specs.Lent.{IsFree}
+use Rattle.schedule_workers.specs.Lent.{IsPartFor}
 use Rattle.schedule_workers.specs.Scheduling.{hand_of}
 use Rattle.schedule_commit.specs.private_stack.pages.Tables.{log_of}
 use Rattle.laws_strands.specs.stacks.Law.{absorbed}
@@ -59,9 +59,9 @@ module _ (old : Stage) (k : Run) (many : length k.hands.items ≡ length old.run
 -- ---- a frame that is loaded
 
 module _ (stage : Stage) (kept : ∥ IsMachine stage ∥₁) (worker slot : ℕ) (node : Node Activation) (x : Pile) (hand : hand_of stage.run.hands.items worker ≡ Some slot) (stands : node_at stage.run.cactus slot ≡ Some node) where
-  pub is_begun : x.base.path.items ≡ node.path.numbers → IsCopy node.frame.frame x.base.frame → (x.base.childless ≡ true → HasNoChild node.frame) → x.done ≡ 0 → ((a : ℤ) → (log_of x.cells.log).reads a ≡ None) →
-      IsFree (program_of stage) stage.run (segment_block x.cells) → ∥ IsUnderWay (program_of stage) stage.places x ∥₁ → IsBegun stage worker x
-  is_begun path copy childless done reads free way = record {
+  pub is_begun : x.base.path.items ≡ node.path.numbers → IsCopy node.frame.frame x.base.frame → (x.base.childless ≡ true → HasNoChild node.frame) → (HasNoChild node.frame → x.base.childless ≡ true) → x.done ≡ 0 → ((a : ℤ) → (log_of x.cells.log).reads a ≡ None) →
+      IsPartFor (program_of stage) stage.run worker (segment_block x.cells) → ∥ IsUnderWay (program_of stage) stage.places x ∥₁ → IsBegun stage worker x
+  is_begun path copy childless none done reads part way = record {
     way = λ places are. subst (λ (q : Places). ∥ IsUnderWay (program_of stage) q x ∥₁) (sym (same_places stage kept places are)) way;
     fits = (
       slot,
@@ -73,9 +73,11 @@ module _ (stage : Stage) (kept : ∥ IsMachine stage ∥₁) (worker slot : ℕ)
         frame = copy_back node.frame.frame x.base.frame copy;
         childless = childless;
         reads = λ a v read. absurd (let none : None ≡ Some v = sym (reads a) ∙ read in cc);
-        free = free;
+        free = part.free;
       },
     );
+    childless = none;
+    part = part;
     done = done;
     reads = reads;
   }

@@ -1,10 +1,11 @@
 -- What the views of single frames and cells show, in the definitions of running.
-use Rattle.std.specs.Prelude.{◌≡◌, ℕ, ℤ, List, Contains, Option, Some, IsSome, slice_get}
+use Rattle.std.specs.Prelude.{◌≡◌, ℕ, ℤ, List, length, Contains, Option, Some, IsSome, slice_get}
 use Rattle.std.specs.Int.{cast_signed, w64}
 use Rattle.semantics.specs.Arithmetic.{cell_sum}
 use Rattle.semantics.specs.Cells.{Cell, Local}
 use Rattle.semantics.specs.Frames.{Frame}
 use Rattle.semantics.specs.Events as running
+use Rattle.semantics.specs.Replay.{CountsFrames}
 use Rattle.frame.specs.declared.path.Path.{Path}
 use Rattle.frame_engine.specs.Activation.{allocas_of}
 use Rattle.frame_engine.specs.declared.activation.Places.{Places}
@@ -28,10 +29,11 @@ pub record IsFrameAt (stage : Stage) (m : running.Machine) (path : Path) (view :
   pub stands : m.core.frames (place_in path) ≡ Some frame
   pub shown : ShowsNode (layout_in stage m) stage.places (place_in path) frame view.frame.now
 
--- the paths are those of the living frames
+-- the paths are those of the living frames, and as many as these, so none is listed twice
 pub record AreLiving (m : running.Machine) (paths : List Path) : Type 0 where
   pub live : (path : Path) → Contains paths path → IsSome (m.core.frames (place_in path))
   pub listed : (path : Path) → IsSome (m.core.frames (place_in path)) → Contains paths path
+  pub once : CountsFrames m.core (length paths)
 
 -- the address is that of a cell of the frame's alloca: so far behind where the alloca begins
 pub record IsAddressIn (places : Places) (frame : machine.Frame) (alloca index : ℕ) (at : ℤ) : Type 0 where

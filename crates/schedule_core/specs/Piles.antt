@@ -1,5 +1,5 @@
 -- What piles are to a stage: stacks of frames that went on apart, from a worker's frame on.
-use Rattle.std.specs.Prelude.{◌≡◌, ℕ, ℤ, length, None}
+use Rattle.std.specs.Prelude.{◌≡◌, ℕ, ℤ, length, None, true}
 use Rattle.semantics.specs.Events as running
 use Rattle.program.specs.declared.function.Program.{Program}
 use Rattle.frame_engine.specs.declared.activation.Places.{Places}
@@ -8,7 +8,8 @@ use Rattle.schedule_workers.specs.Starts.{ArePlaces}
 use Rattle.schedule_commit.specs.private_stack.pages.Tables.{log_of}
 use Rattle.schedule_commit.specs.private_stack.Along.{IsUnderWay}
 use Rattle.schedule_commit.specs.private_stack.declared.pile.Pile.{Pile}
-use Rattle.schedule_commit.specs.deep.Fitting.{FitsDeep}
+use Rattle.schedule_workers.specs.Lent.{IsPartFor}
+use Rattle.schedule_commit.specs.deep.Fitting.{FitsDeep, HasNoChild, segment_block}
 use Rattle.schedule_core.specs.declared.stage.Stage.{Stage}
 use Rattle.schedule_core.specs.Stages.{IsState, program_of}
 
@@ -26,10 +27,13 @@ pub record IsPileOf (program : Program) (x : Pile) : Type 0 where
 abbrev pub FitsStack : Stage → ℕ → Pile → Type 0
 FitsStack stage worker x = (slot : ℕ) × FitsDeep (program_of stage) stage.run worker x slot
 
--- the base is the worker's frame, before its first instruction
+-- The base is the worker's frame, before its first instruction. It is said to have no child where it has none. Its segment is the larger free part at an
+-- end of the worker's piece of the cells that are lent.
 pub record IsBegun (stage : Stage) (worker : ℕ) (x : Pile) : Type 0 where
   pub way : (places : Places) → ArePlaces (program_of stage) places → ∥ IsUnderWay (program_of stage) places x ∥₁
   pub fits : FitsStack stage worker x
+  pub childless : HasNoChild fits.1.node.frame → x.base.childless ≡ true
+  pub part : IsPartFor (program_of stage) stage.run worker (segment_block x.cells)
   pub done : x.done ≡ 0
   pub reads : (a : ℤ) → (log_of x.cells.log).reads a ≡ None
 

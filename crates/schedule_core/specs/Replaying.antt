@@ -136,12 +136,12 @@ pub record KeepsItsSchedule (prog : Program) (arguments : List ℤ) (globals : L
   pub onwards : (more : List Event) → KeepsSchedule prog workers serial (state_after prog arguments globals workers (events ++ more))
   pub low_onwards : (more : List Event) → StaysLow serial (state_after prog arguments globals workers (events ++ more))
 
--- the theorem of a schedule that led to the stage holds with this event more
-abbrev pub KeepsItWith : Stage → Event → Type 0
-KeepsItWith stage event =
+-- whatever arguments that `main` takes, memory that was made for the module, and events led to the stage: the theorem of them
+abbrev pub KeepsSchedules : Stage → Type 0
+KeepsSchedules stage =
     (prog : Program) (arguments : List ℤ) (globals : List NamedCells) (workers : ℕ) (events : List Event) →
-    Replays prog arguments globals workers events stage → KeepsItsSchedule prog arguments globals workers events →
-    KeepsItsSchedule prog arguments globals workers (events ++ event ∷ [])
+    unmet_in prog arguments ≡ None → IsMadeFor prog globals → Replays prog arguments globals workers events stage →
+    KeepsItsSchedule prog arguments globals workers events
 
 -- ---- lines
 

@@ -1,4 +1,4 @@
-ghost use Rattle.std.specs.Prelude.{◌≡◌, ◌<◌, [], None, Ok, false, IfOk, OnOk, OnErr};
+ghost use Rattle.std.specs.Prelude.{◌≡◌, ◌≢◌, ◌<◌, [], Err, None, Ok, false, IfOk, OnOk, OnErr};
 ghost use Rattle.semantics.specs.Events.{Machine};
 ghost use Rattle.laws_workers.specs.store.Requirements.{unmet_in};
 ghost use Rattle.schedule_core.specs.Admission.{IsAdmitted};
@@ -55,6 +55,7 @@ pub(crate) fn begin<'v>(
     ensures machine { IfOk result IsMachine }
     ensures replays { IfOk result (Replays verified.now arguments.now memory workers []) }
     ensures admitted { IsAdmitted verified.now arguments.now memory workers result }
+    ensures not_stopped { result ≢ Err RunFault.Stopped }
 {
     if let Some(requirement) = unmet_requirement(verified.program(), arguments) {
         return Err(RunFault::BadArguments {

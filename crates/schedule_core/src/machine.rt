@@ -1,9 +1,9 @@
-ghost use Rattle.std.specs.Prelude.{◌↔◌, ◌≡◌, [], Ok, IsSome, IsTrue, IfOk, true, false, OnErr, OnOk};
+ghost use Rattle.std.specs.Prelude.{◌↔◌, ◌≡◌, ◌≢◌, [], Err, Ok, IsSome, IsTrue, IfOk, true, false, OnErr, OnOk};
 ghost use Rattle.semantics.specs.Events as running;
 ghost use Rattle.semantics.specs.Replay.{CountsFrames, has_ended};
 ghost use Rattle.schedule_core.specs.Admission.{IsAdmitted};
 ghost use Rattle.schedule_core.specs.Spots.{KeepsSpots};
-ghost use Rattle.schedule_core.specs.Replaying.{GrowsOnly, Happens, IsMachine, KeepsItsSchedule, KeepsItWith, LeavesAsBefore};
+ghost use Rattle.schedule_core.specs.Replaying.{GrowsOnly, Happens, IsMachine, KeepsItsSchedule, KeepsSchedules, LeavesAsBefore};
 ghost use Rattle.schedule_core.specs.Replaying.{Replays, ReplaysOneMore, StandsAsWell, event_of};
 ghost use Rattle.laws_workers.specs.store.Made.{IsMadeFor};
 ghost use Rattle.schedule_core.specs.Stages.{IsState, program_of};
@@ -41,6 +41,7 @@ impl<'v> Machine<'v> {
         ensures replays { IfOk result (λ m. Replays verified.now arguments.now memory workers [] m.stage) }
         ensures schedule { OnOk result (KeepsItsSchedule verified.now arguments.now memory workers []) }
         ensures admitted { IsAdmitted verified.now arguments.now memory workers result }
+        ensures not_stopped { result ≢ Err RunFault.Stopped }
     {
         let stage = begin(alloc, verified, arguments, memory, workers)?;
         Ok(Machine { stage })
@@ -58,11 +59,18 @@ impl<'v> Machine<'v> {
         ensures only { OnErr result ((m : running.Machine) → IsState self.old.stage m → GrowsOnly (program_of self.old.stage) m event.now) }
         ensures over { (m : running.Machine) → IsState self.old.stage m → has_ended m ≡ true → result ≡ Ok false }
         ensures keeps { OnOk result (ReplaysOneMore self.old.stage self.new.stage event.now) }
-        ensures schedule { OnOk result (KeepsItWith self.old.stage event.now) }
         ensures spots { KeepsSpots self.old.stage.run.cactus self.new.stage.run.cactus }
         ensures names { self.new.stage.memory ≡ self.old.stage.memory }
     {
         apply_to(&mut self.stage, event)
+    }
+
+    /// The schedule theorem of whatever events led here, and of every list that goes on from them.
+    pub fn keeps_schedules(&self)
+        ensures { KeepsSchedules self.now.stage }
+    {
+        // for what it says of the module: that it is accepted
+        let _accepted = self.stage.verified.program();
     }
 
     /// A copy of the machine.

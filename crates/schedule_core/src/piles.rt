@@ -6,7 +6,9 @@ ghost use Rattle.frame_engine.specs.Flat.{cell_in};
 ghost use Rattle.schedule_commit.specs.private_stack.pages.Logs.{filled_log, page_around};
 ghost use Rattle.schedule_commit.specs.private_stack.pages.Tables.{log_of};
 ghost use Rattle.schedule_commit.specs.private_stack.Along.{IsUnderWay};
+ghost use Rattle.schedule_commit.specs.private_stack.Boards.{NeedsBoard};
 ghost use Rattle.schedule_commit.specs.private_stack.Going.{IsGoing};
+ghost use Rattle.schedule_commit.specs.private_stack.serial_stack.Shown.{item_here};
 ghost use Rattle.schedule_core.specs.Piles.{FitsStack, HasRoomFor, IsBegun, IsPileOf, RunsNothing};
 ghost use Rattle.schedule_core.specs.Replaying.{IsMachine};
 ghost use Rattle.schedule_core.specs.Spots.{KeepsSpots};
@@ -52,7 +54,8 @@ pub fn advance_pile(
     ensures base { OnOk result (pile.new.base ≡ pile.old.base) }
     ensures room { OnOk result (pile.new.done ≤ limit) }
     ensures more { OnOk result (pile.old.done ≤ pile.new.done) }
-    ensures limit { IfOk result (λ pause. pause ≡ Pause.Limit → pile.new.done ≡ limit) }
+    ensures board { IfOk result (λ pause. pause ≡ Pause.Border → NeedsBoard verified.now places.now pile.new (item_here verified.now pile.new.top.value)) }
+    ensures limit { IfOk result (λ pause. (pause ≡ Pause.Limit) ↔ (pile.new.done ≡ limit)) }
     ensures going { IfOk result (λ pause. ∥ IsGoing verified.now places.now pile.new pause ∥₁) }
 {
     pile.go(verified.program(), places, limit)

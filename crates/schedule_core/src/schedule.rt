@@ -1,4 +1,4 @@
-ghost use Rattle.std.specs.Prelude.{IfOk, OnOk};
+ghost use Rattle.std.specs.Prelude.{◌≢◌, Err, IfOk, OnOk};
 ghost use Rattle.schedule_core.specs.Admission.{IsAdmitted};
 ghost use Rattle.schedule_core.specs.Replaying.{KeepsItsSchedule, Replays};
 ghost use Rattle.laws_workers.specs.store.Made.{IsMadeFor};
@@ -27,6 +27,7 @@ pub fn replay<'v>(
     ensures replays { IfOk result (λ m. Replays verified.now arguments.now memory workers events.now m.stage) }
     ensures keeps { OnOk result (KeepsItsSchedule verified.now arguments.now memory workers events.now) }
     ensures admitted { IsAdmitted verified.now arguments.now memory workers result }
+    ensures not_stopped { result ≢ Err RunFault.Stopped }
 {
     let mut stage = begin(alloc, verified, arguments, memory, workers)?;
     match apply_all(&mut stage, events) {

@@ -1,6 +1,6 @@
 -- What a private stack keeps, and what a publication answers.
 use Rattle.std.proofs.Common.{◌≡◌, ◌≢◌, ℕ, ℤ, refl, sym, ap, ◌∙◌, subst, length, Bool, true, false, List}
-use Rattle.std.specs.Prelude.{IsSome}
+use Rattle.std.specs.Prelude.{◌↔◌, IsSome}
 use Rattle.std.proofs.Math.Logic.{∥∥₁_map}
 use Rattle.program.specs.declared.function.Program.{Program}
 use Rattle.schedule_workers.specs.Starts.{ArePlaces}
@@ -9,14 +9,16 @@ use Rattle.schedule_core.specs.frame_engine.Flat.{cell_in}
 use Rattle.schedule_core.specs.private_stack.pages.Logs.{filled_log, page_around}
 use Rattle.schedule_core.specs.private_stack.pages.Tables.{log_of}
 use Rattle.schedule_core.specs.private_stack.Along.{IsUnderWay}
+use Rattle.schedule_core.specs.private_stack.Boards.{NeedsBoard}
 use Rattle.schedule_core.specs.private_stack.Going.{IsGoing}
+use Rattle.schedule_core.specs.private_stack.serial_stack.Shown.{item_here}
 use Rattle.schedule_core.specs.private_stack.declared.pile.Pile.{Pile}
 use Rattle.schedule_core.specs.private_stack.declared.going.Pause.{Pause}
 use Rattle.schedule_core.specs.private_stack.declared.going.Pause.TheVariants as pause
 use Rattle.schedule_core.specs.Piles.{HasRoomFor, IsPileOf}
 use Rattle.shared_run.specs.declared.stack.Standing.{Standing}
 use Rattle.shared_run.specs.declared.stack.Standing.TheVariants.{Blank, Going, Border, Full, Need, Spoilt}
-use Rattle.shared_run.specs.Stacks.{Apart, FillsAhead, Holds, IsUp, Onward}
+use Rattle.shared_run.specs.Stacks.{Apart, FillsAhead, Holds, IsUp, Onward, StandsSo}
 use Rattle.shared_run.specs.Story.{Story}
 
 module _ (prog : Program) (places : Places) (x : Pile) where
@@ -24,7 +26,7 @@ module _ (prog : Program) (places : Places) (x : Pile) where
   under_way Blank h up = absurd up
   under_way Going h up = h.1
   under_way Border h up = h.1
-  under_way Full h up = h.1
+  under_way Full h up = ∥∥₁_map h.1 (λ g. g.way)
   under_way (Need at) h up = ∥∥₁_map h.1 (λ g. g.way)
   under_way Spoilt h up = absurd up
 
@@ -37,15 +39,26 @@ module _ (prog : Program) (places : Places) (x : Pile) where
   has_room Spoilt h off = absurd (off refl)
 
   -- at a pause
-  pub holds_onward : (r : Pause) (s : Standing) → Onward r s → HasRoomFor prog x → ∥ IsGoing prog places x r ∥₁ → Holds prog places x s
-  holds_onward pause.Border s is room going = subst (λ y. Holds prog places x y) (sym is) (room, ∥∥₁_map going (λ g. g.way))
-  holds_onward pause.Limit s is room going = subst (λ y. Holds prog places x y) (sym is) (room, ∥∥₁_map going (λ g. g.way))
-  holds_onward pause.Full s is room going = subst (λ y. Holds prog places x y) (sym is) (room, ∥∥₁_map going (λ g. g.way))
-  holds_onward (pause.Need at) s is room going = subst (λ y. Holds prog places x y) (sym is) (room, going)
+  pub holds_onward : (r : Pause) (s : Standing) → Onward r s → HasRoomFor prog x → (r ≡ pause.Border → NeedsBoard prog places x (item_here prog x.top.value)) → ∥ IsGoing prog places x r ∥₁ → Holds prog places x s
+  holds_onward pause.Border s is room board going = subst (λ y. Holds prog places x y) (sym is) (room, ∥∥₁_map going (λ g. g.way), board refl)
+  holds_onward pause.Limit s is room board going = subst (λ y. Holds prog places x y) (sym is) (room, ∥∥₁_map going (λ g. g.way))
+  holds_onward pause.Full s is room board going = subst (λ y. Holds prog places x y) (sym is) (room, going)
+  holds_onward (pause.Need at) s is room board going = subst (λ y. Holds prog places x y) (sym is) (room, going)
 
   pub pile_of : (code : Program) (s : Standing) → prog ≡ code → ArePlaces prog places → Holds prog places x s → IsUp s → IsPileOf code x
   pile_of code s is are h up =
       subst (λ (q : Program). IsPileOf q x) is (record { places = places; places_are = are; way = under_way s h up })
+
+-- wherever the module's objects begin, a stack that holds stands so
+pub stands_so : (prog code : Program) (places : Places) (y : Apart) → prog ≡ code → ArePlaces prog places → Holds prog places y.pile y.standing → StandsSo code y
+stands_so prog code places y is are holds = subst (λ (q : Program). StandsSo q y) is (places, are, holds)
+
+-- it can go on just where it did all that it was to do
+pub goes_at : (r : Pause) (s : Standing) (n limit : ℕ) → Onward r s → (r ≡ pause.Limit) ↔ (n ≡ limit) → (s ≡ Going) ↔ (n ≡ limit)
+goes_at pause.Border s n limit is at = (λ e. absurd (let h : Border ≡ Going = sym is ∙ e in cc), λ e. absurd (let h : pause.Border ≡ pause.Limit = at.1 e in cc))
+goes_at pause.Limit s n limit is at = (λ e. at.0 refl, λ e. is)
+goes_at pause.Full s n limit is at = (λ e. absurd (let h : Full ≡ Going = sym is ∙ e in cc), λ e. absurd (let h : pause.Full ≡ pause.Limit = at.1 e in cc))
+goes_at (pause.Need a) s n limit is at = (λ e. absurd (let h : Need a ≡ Going = sym is ∙ e in cc), λ e. absurd (let h : pause.Need a ≡ pause.Limit = at.1 e in cc))
 
 -- ---- a page that is given ahead
 

@@ -1,5 +1,5 @@
 -- A worker's private stack, and what the calls of a board do with it.
-use Rattle.std.specs.Prelude.{◌≡◌, ◌≢◌, ⊤, ℕ, ℤ, ◌++◌, replicate, IsSome, None, Bool, true, false, List, reverse}
+use Rattle.std.specs.Prelude.{◌≡◌, ◌≢◌, ◌≤◌, ◌↔◌, ◌+◌, ⊤, ℕ, ℤ, ◌++◌, min, replicate, IsSome, None, Bool, true, false, List, reverse}
 use Rattle.program.specs.declared.function.Program.{Program}
 use Rattle.frame.specs.declared.event.Event.TheVariants.{Step}
 use Rattle.schedule_core.specs.frame_engine.declared.activation.Places.{Places}
@@ -7,7 +7,10 @@ use Rattle.schedule_core.specs.frame_engine.Flat.{cell_in}
 use Rattle.schedule_core.specs.private_stack.pages.Logs.{filled_log, page_around}
 use Rattle.schedule_core.specs.private_stack.pages.Tables.{log_of}
 use Rattle.schedule_core.specs.private_stack.Along.{IsUnderWay}
+use Rattle.schedule_core.specs.private_stack.Boards.{NeedsBoard}
 use Rattle.schedule_core.specs.private_stack.Going.{IsGoing}
+use Rattle.schedule_core.specs.private_stack.serial_stack.Shown.{item_here}
+use Rattle.schedule_workers.specs.Starts.{ArePlaces}
 use Rattle.schedule_core.specs.private_stack.declared.pile.Pile.{Pile}
 use Rattle.schedule_core.specs.private_stack.declared.going.Pause.{Pause}
 use Rattle.schedule_core.specs.private_stack.declared.going.Pause.TheVariants as pause
@@ -38,14 +41,27 @@ IsUp Full = ⊤
 IsUp (Need at) = ⊤
 IsUp Spoilt = ⊥
 
--- what is kept of the pile where it stands so
+-- What is kept of the pile where it stands so: a border is what only the board can do; where it is full, or needs a cell, the next instruction is one of
+-- a cell for whose page there is no place, or of one that is not at hand (`Stopped`).
 abbrev pub Holds : Program → Places → Pile → Standing → Type 0
 Holds prog places x Blank = HasRoomFor prog x
 Holds prog places x Going = HasRoomFor prog x × ∥ IsUnderWay prog places x ∥₁
-Holds prog places x Border = HasRoomFor prog x × ∥ IsUnderWay prog places x ∥₁
-Holds prog places x Full = HasRoomFor prog x × ∥ IsUnderWay prog places x ∥₁
+Holds prog places x Border = HasRoomFor prog x × ∥ IsUnderWay prog places x ∥₁ × NeedsBoard prog places x (item_here prog x.top.value)
+Holds prog places x Full = HasRoomFor prog x × ∥ IsGoing prog places x pause.Full ∥₁
 Holds prog places x (Need at) = HasRoomFor prog x × ∥ IsGoing prog places x (pause.Need at) ∥₁
 Holds prog places x Spoilt = ⊤
+
+-- wherever the module's objects begin, the stack stands so
+abbrev pub StandsSo : Program → Apart → Type 0
+StandsSo prog y = (places : Places) × ArePlaces prog places × Holds prog places y.pile y.standing
+
+-- It went on by so many instructions at most, and no further than a strand may. It did all of them where nothing stands in its way, and else is told
+-- what does.
+pub record GoesOnBy (count : ℕ) (x y : Apart) : Type 0 where
+  pub within : y.pile.done ≤ x.pile.done + count
+  pub short : y.pile.done ≤ 65536
+  pub more : x.pile.done ≤ y.pile.done
+  pub all : (y.standing ≡ Going) ↔ (y.pile.done ≡ min (x.pile.done + count) 65536)
 
 -- how it stands at a pause
 abbrev pub Onward : Pause → Standing → Type 0

@@ -23,11 +23,11 @@ pub enum Stepped {
 pub enum Fetched {
     /// The frame that the seat's worker runs next.
     Frame,
-    /// The cell that it needs.
+    /// What stands at the address of the cell that it needs.
     Cell,
     /// Nothing: the worker runs no task.
     Idle,
-    /// Nothing: the cell is gone, or the strand is neither blank nor in need.
+    /// Nothing: no cell stands at that address any more, or the strand is neither blank nor in need.
     Stranger,
 }
 

@@ -34,7 +34,7 @@ pub use schedule_core::{
     places_of, replay, steps_of,
 };
 pub use seat::Seat;
-pub use shared::Shared;
+pub use shared::{Shared, Unended};
 pub use stack::{MOST_INSTRUCTIONS, PrivateStack, Standing};
 pub use start::Start;
 pub use ticket::Ticket;

@@ -1,9 +1,9 @@
-ghost use Rattle.std.specs.Prelude.{◌≡◌, ◌<◌, length, vec_len, sum_by, IfOk, IfErr};
+ghost use Rattle.std.specs.Prelude.{◌≡◌, ◌≢◌, ◌<◌, Err, None, length, vec_len, sum_by, IfOk, IfErr};
 ghost use Rattle.schedule_workers.specs.Starts.{ArePlaces};
 ghost use Rattle.schedule_core.specs.Admission.{IsAdmitted};
 ghost use Rattle.schedule_core.specs.store.Made.{IsMadeFor};
 ghost use Rattle.shared_run.specs.Answer.{IsSerialAnswer, LeadTo};
-ghost use Rattle.shared_run.specs.Story.{AreSeats, origin};
+ghost use Rattle.shared_run.specs.Story.{AreSeats, origin, state_of};
 
 use crate::bench::Bench;
 use crate::board::Board;
@@ -69,6 +69,7 @@ impl<'a, L: Bench> Shared<'a, L> {
         ensures start { IfOk result (λ made. made.0 ≡ origin verified.now arguments.now memory workers) }
         ensures seats { IfOk result (λ made. AreSeats workers made.1.items) }
         ensures admitted { IsAdmitted verified.now arguments.now memory workers result }
+        ensures not_stopped { result ≢ Err RunFault.Stopped }
     {
         let (board, seats) = Board::new(alloc, verified, arguments, memory, workers, blank)?;
         let Ok(places) = board.machine().share_places() else {
@@ -91,27 +92,60 @@ impl<'a, L: Bench> Shared<'a, L> {
     }
 
     /// The answer of the run that has ended, with its history: [`Board::finish`]. It takes all its seats and waits for nobody. Else, where
-    /// the run of the board in the lock has not ended, all is given back.
+    /// the run of the board in the lock has not ended, all is given back, the board out of its lock.
     pub fn finish(
         self,
         seats: Vec<Seat<L>>,
-    ) -> Result<(Finished, History), (Shared<'a, L>, Vec<Seat<L>>)>
+    ) -> Result<(Finished, History), (Unended<'a, L>, Vec<Seat<L>>)>
         requires all { (vec_len seats ≡ L.parts) × (0 < L.parts) }
         ensures answer { IfOk result (λ done. IsSerialAnswer self.entry done.0) }
         ensures replays { IfOk result (λ done. LeadTo self.entry done.1.events done.0) }
         ensures shares { IfOk result (λ done. length done.1.events ≡ sum_by (λ seat. seat.share) seats.items) }
-        ensures same { IfErr result (λ back. (back.0 ≡ self.entry) × (back.1 ≡ seats)) }
+        ensures same { IfErr result (λ back. (back.0.start ≡ self.entry) × (back.1 ≡ seats)) }
+        ensures refused { IfErr result (λ back. (state_of back.0).core.result ≡ None) }
     {
         let Shared { board, places } = self;
         match board.into_inner().answer(seats) {
             Ok(done) => Ok(done),
-            Err((board, seats)) => Err((
-                Shared {
-                    board: Mutex::new(board),
-                    places,
-                },
-                seats,
-            )),
+            Err((board, seats)) => Err((Unended { board, places }, seats)),
+        }
+    }
+}
+
+/// What was in a [`Shared`] whose run has not ended. Contracts see the board: no contract tells what stands in a lock.
+pub struct Unended<'a, L: Bench> {
+    board: Board<'a, L>,
+    places: SharedPlaces,
+}
+
+/// Written out, so that no crate above proves it anew.
+impl<L: Bench> Drop for Unended<'_, L> {
+    fn drop(self) {
+        let Unended {
+            board: _,
+            places: _,
+        } = self;
+    }
+}
+
+impl<'a, L: Bench> Model for Unended<'a, L> {
+    ghost use Rattle.schedule_workers.specs.Starts.{ArePlaces};
+    ghost use Rattle.shared_run.specs.Story.{Story};
+
+    ghost Value = { Story };
+
+    ghost view = { λ u. u.board };
+
+    ghost invariant = { λ u. ArePlaces L.code u.places };
+}
+
+impl<'a, L: Bench> Unended<'a, L> {
+    /// The board in a lock again.
+    pub fn share(self) -> Shared<'a, L> {
+        let Unended { board, places } = self;
+        Shared {
+            board: Mutex::new(board),
+            places,
         }
     }
 }

@@ -1,4 +1,4 @@
-ghost use Rattle.std.specs.Prelude.{◌≡◌, ◌↔◌, IfOk, IsTrue};
+ghost use Rattle.std.specs.Prelude.{◌≡◌, ◌≢◌, ◌↔◌, Err, IfOk, IsTrue};
 ghost use Rattle.schedule_core.specs.Admission.{IsAdmitted};
 ghost use Rattle.shared_run.specs.Story.{origin};
 
@@ -77,6 +77,7 @@ pub(crate) fn admitted(
 ) -> Result<Memory, RunFault>
     ensures same { IfOk result (λ m. m ≡ memory) }
     ensures admitted { IsAdmitted verified.now arguments.now memory workers result }
+    ensures not_stopped { result ≢ Err RunFault.Stopped }
 {
     if let Some(requirement) = unmet_requirement(verified.program(), arguments) {
         return Err(RunFault::BadArguments {

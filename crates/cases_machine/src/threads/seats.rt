@@ -82,9 +82,14 @@ fn two_seats<L: Bench + Send + Sync, R: Threads + Wait + Sync>(
     requires one_each { blank.parts ≡ 2 }
 {
     let made = Shared::<L>::new(alloc, verified, arguments, memory, 2, blank);
-    let Ok((shared, mut seats)) = made else {
+    let Ok((shared, seats)) = made else {
         return false;
     };
+    // It has not ended, so all comes back.
+    let Err((unended, mut seats)) = shared.finish(seats) else {
+        return false;
+    };
+    let shared = unended.share();
     let reported = AtomicU64::new(0);
     play_both(rt, &shared, &reported, seats.as_mut_slice());
     ends_so(shared, seats, reported.load(Ordering::SeqCst))

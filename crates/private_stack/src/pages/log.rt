@@ -164,6 +164,7 @@ impl PageLog {
     pub fn reserve(&mut self, at: &i64) -> bool
         ensures place { result ≡ true → has_place (log_of self.old) at.now ≡ true }
         ensures opened { result ≡ true → log_of self.new ≡ with_page (log_of self.old) at.now }
+        ensures none { result ≡ false → has_place (log_of self.old) at.now ≡ false }
         ensures unchanged { result ≡ false → self.new ≡ self.old }
     {
         match self.open(at) {

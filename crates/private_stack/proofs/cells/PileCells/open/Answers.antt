@@ -1,6 +1,9 @@
-use Rattle.std.proofs.Common.{◌≡◌, true, sym, subst}
-use Rattle.private_stack.specs.pages.Logs.{Log, is_open}
-use Rattle.private_stack.specs.pages.Tables.{log_of}
+use Rattle.std.proofs.Common.{◌≡◌, None, false, true, sym, subst}
+use Rattle.std.specs.Prelude.{ℤ}
+use Rattle.private_stack.specs.OwnCells.{own_cell}
+use Rattle.private_stack.specs.declared.cells.PileCells.{PileCells}
+use Rattle.private_stack.specs.pages.Logs.{Log, has_place, is_open}
+use Rattle.private_stack.specs.pages.Tables.{Table, log_of}
 use Rattle.private_stack.proofs.pages.Opening.{opened, reserved_wider}
 use Rattle.private_stack.proofs.cells.PileCells.open.Goals as goal
 
@@ -10,3 +13,9 @@ returns-in-None-clause-wider c = reserved_wider c.reserve.result c.args.self.now
 pub returns-in-None-clause-yes : goal.returns-in-None-clause-yes
 returns-in-None-clause-yes c = λ e none.
     subst (λ (y : Log). is_open y c.args.at.now ≡ true) (sym (c.reserve.ensures.opened e)) (opened (log_of c.args.self.now.log) c.args.at.now (c.reserve.ensures.place e))
+
+pub returns-in-None-clause-no : goal.returns-in-None-clause-no
+returns-in-None-clause-no c = λ e. (
+  c.in-None.ensures.absent,
+  subst (λ (t : Table). has_place (log_of t) c.args.at.now ≡ false) (sym (c.reserve.ensures.unchanged e)) (c.reserve.ensures.none e),
+)

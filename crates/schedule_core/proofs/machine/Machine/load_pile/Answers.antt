@@ -4,7 +4,7 @@ use Rattle.std.proofs.Math.Logic.{∥∥₁_map}
 use Rattle.cactus.specs.Frames.{node_at}
 use Rattle.program.specs.declared.function.Program.{Program}
 use Rattle.schedule_workers.specs.declared.run.Block.{Block}
-use Rattle.schedule_workers.specs.Lent.{IsFree}
+use Rattle.schedule_workers.specs.Lent.{IsFree, IsPartFor}
 use Rattle.schedule_workers.specs.Scheduling.{hand_of}
 use Rattle.schedule_commit.specs.private_stack.pages.Logs.{Log}
 use Rattle.schedule_commit.specs.private_stack.Along.{MayBegin}
@@ -30,10 +30,11 @@ returns-clause-begun c here =
     let path = c.as_slice.ensures in
     let loaded = c.in_ok-load.ensures in
     let part = c.free_part-part.result in
-    let free : IsFree (program_of stage) stage.run part = subst (λ (q : Program). IsFree q stage.run part) c.program-program.ensures.value c.free_part-part.ensures.free in
+    let is_part : IsPartFor (program_of stage) stage.run c.args.worker part = subst (λ (q : Program). IsPartFor q stage.run c.args.worker part) c.program-program.ensures.value c.free_part-part.ensures in
+    let free : IsFree (program_of stage) stage.run part = is_part.free in
     let segment : segment_block x.cells ≡ part = ap (λ (s : Segment). record { start = s.start; cells = s.count }) loaded.segment in
-    is_begun stage kept c.args.worker slot node x hand stands (loaded.path ∙ path) loaded.loaded (λ e. none (sym loaded.childless ∙ e)) loaded.done (λ a. ap (λ (l : Log). l.reads a) loaded.log)
-    (subst (λ (b : Block). IsFree (program_of stage) stage.run b) (sym segment) free)
+    is_begun stage kept c.args.worker slot node x hand stands (loaded.path ∙ path) loaded.loaded (λ e. none (sym loaded.childless ∙ e)) (λ h. loaded.childless ∙ c.has_no_child-childless.ensures.1 h) loaded.done (λ a. ap (λ (l : Log). l.reads a) loaded.log)
+    (subst (λ (b : Block). IsPartFor (program_of stage) stage.run c.args.worker b) (sym segment) is_part)
     (∥∥₁_map (may_load stage kept c.args.worker slot node hand stands c.has_no_child-childless.result none part free) (λ begins.
     loaded.way (program_of stage) stage.places (frame_fits stage kept c.args.worker slot node hand stands)
     (subst (λ (l : List ℕ). MayBegin (program_of stage) stage.places l node.frame.frame c.has_no_child-childless.result (record { start = part.start; count = part.cells })) (sym path) begins)))
