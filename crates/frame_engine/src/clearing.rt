@@ -19,7 +19,7 @@ use crate::words::{behind, first};
 use program::ObjectName;
 
 /// Gives so many cells, from an address on, the number 0.
-fn write_zeros<C: Cells>(cells: &mut C, at: &i64, count: u64) -> Result<(), C::Stop>
+pub fn write_zeros<C: Cells>(cells: &mut C, at: &i64, count: u64) -> Result<(), C::Stop>
     requires { (i : ℕ) → i < count → IsTrue (C.reaches cells.old (wrapped Bits64 (at.now +ℤ pos i))) }
     ensures zeros { OnOk result ((i : ℕ) → i < count → C.holds cells.new (wrapped Bits64 (at.now +ℤ pos i)) (pos 0)) }
     ensures others { OnOk result ((a z : ℤ) → C.holds cells.old a z →

@@ -23,12 +23,14 @@ mod turning;
 mod words;
 
 pub use activation::{Frame, Places};
-pub use arithmetic::sum;
+pub use arithmetic::{binary, compare, sum};
 pub use beginning::{blank, first_registers};
 pub use borders::taker;
 pub use cells::Cells;
+pub use clearing::write_zeros;
+pub use entering::enter_along;
 pub use flat::Flat;
 pub use functions::{frame_cells, function_at, most_moves};
 pub use items::Item;
 pub use turning::{Pause, Place, advance};
-pub use words::behind;
+pub use words::{behind, define};

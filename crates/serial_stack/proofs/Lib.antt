@@ -6,6 +6,7 @@ pub mod Joining
 pub mod Rows
 pub mod Owners
 pub mod Leading
+pub mod Cells
 pub mod Calling
 pub mod Returning
 pub mod Turning

@@ -1,6 +1,6 @@
 -- A return keeps the stack shown: the callee's allocas go.
 use Rattle.std.proofs.Common.{◌≡◌, ℕ, ◌<◌, List, [], ◌∷◌, ◌++◌, length, reverse, ap, sym, ◌∙◌, subst, arith, inl, inr, ℤ, pos, Option, Some, None}
-use Rattle.std.specs.Prelude.{IsTrue, slice_get}
+use Rattle.std.specs.Prelude.{slice_get}
 use Rattle.std.proofs.Props.{props}
 use Rattle.std.specs.Prelude.{FitsSigned}
 use Rattle.std.specs.Int.{w64}
@@ -11,7 +11,6 @@ use lib.IntN.{nat_abs}
 use mir.Val.{Fits, to_z, of_z}
 use Rattle.linear.specs.declared.form.RegisterId.{RegisterId}
 use Rattle.semantics.specs.Paths.{Path}
-use Rattle.semantics.specs.Cells.{Cell}
 use Rattle.semantics.specs.Frames as frames
 use Rattle.semantics.specs.Frames.{Role, Body, OnCall, Ends}
 use Rattle.semantics.specs.Effect.{Return, action_of, terminator_action}
@@ -31,14 +30,14 @@ use Rattle.frame_engine.specs.Activation.{FrameFits, ShowsFrame}
 use Rattle.frame_engine.specs.Fits.{HasReturned, PlaceFits}
 use Rattle.frame_engine.specs.Flat.{cell_in, is_cell}
 use Rattle.frame_engine.specs.Names.{HasResult, Sizes, sizes, taker_of}
-use Rattle.frame_engine.specs.Shows.{IsIn, Layout, ShowsCells, address}
-use Rattle.serial_stack.specs.Layouts.{alloca_sizes, end_of, for_body, layout_of, with_allocas}
+use Rattle.frame_engine.specs.Shows.{Layout, ShowsCells}
+use Rattle.serial_stack.specs.Layouts.{end_of, layout_of}
 use Rattle.serial_stack.specs.Steps.{Placed, Run, Goes, ret}
 use Rattle.serial_stack.specs.Shown.{BeginsAt, CanGo, HasTaker, Ends as EndsRun, ShowsBelow, ShowsOn, ShowsRun, TextFits, item_here, unboxed}
 use Rattle.serial_stack.specs.declared.stack.Stack.{Stack}
 use Rattle.serial_stack.proofs.Calling.{tall_below}
+use Rattle.serial_stack.proofs.Cells.{caller_cells}
 use Rattle.serial_stack.proofs.Joining.{below_is, nothing_left, popped}
-use Rattle.serial_stack.proofs.Owners.{IsApart, address_apart, in_apart, left, out_apart, young, young_apart}
 use Rattle.serial_stack.proofs.Places.{return_here}
 use Rattle.serial_stack.proofs.Texts.{ends_fit, located, placed, sizes_in}
 
@@ -108,30 +107,10 @@ module _ (globals : List ℕ) (prog : Program) (places : Places) (s : Run) (k : 
     abbrev low : Layout
     low = layout_of globals prog s.below
 
-    abbrev high : Layout
-    high = with_allocas s.path (alloca_sizes prog s.frame.function) (end_of globals prog s.below) low
-
-    cells_high : ShowsCells high (is_cell k.cells.cells.items) (λ a z. cell_in k.cells.cells.items a ≡ Some z) s.memory
-    cells_high =
-        let c = caller_of in
-        subst (λ (r : Role). ShowsCells (for_body r high low) (is_cell k.cells.cells.items) (λ a z. cell_in k.cells.cells.items a ≡ Some z) s.memory) c.role h.cells
-
-    apart : (c : Cell) → IsIn low c → IsApart s.path c.object
-    apart c within = young_apart s.path (length s.below) c.object h.top.tall (young globals prog s.below (tall_below globals prog places s.below (reverse (unboxed k.below.items)) h.below) c.object c.index within)
-
-    up : (c : Cell) → IsIn low c → IsIn high c
-    up c within = in_apart s.path (alloca_sizes prog s.frame.function) (end_of globals prog s.below) low c (apart c within) within
-
-    same_address : (c : Cell) → IsApart s.path c.object → address high c ≡ address low c
-    same_address c a = address_apart s.path (alloca_sizes prog s.frame.function) (end_of globals prog s.below) low c a
-
     cells_low : ShowsCells low (is_cell k.cells.cells.items) (λ a z. cell_in k.cells.cells.items a ≡ Some z) (cleared s.path s.memory)
-    cells_low = record {
-      values = λ c z v. let t = left s.path s.memory c z v in subst (λ (a : ℤ). cell_in k.cells.cells.items a ≡ Some z) (same_address c t.0) (cells_high.values c z t.1);
-      inside = λ c z v. let t = left s.path s.memory c z v in out_apart s.path (alloca_sizes prog s.frame.function) (end_of globals prog s.below) low c t.0 (cells_high.inside c z t.1);
-      reached = λ c w. subst (λ (a : ℤ). IsTrue (is_cell k.cells.cells.items a)) (same_address c (apart c w)) (cells_high.reached c (up c w));
-      apart = λ c d w v e. cells_high.apart c d (up c w) (up d v) (same_address c (apart c w) ∙ e ∙ sym (same_address d (apart d v)));
-    }
+    cells_low =
+        let c = caller_of in
+        caller_cells globals prog s (h.top.tall, tall_below globals prog places s.below (reverse (unboxed k.below.items)) h.below) k.cells.cells.items h.cells c.role
 
     -- ---- the step
 

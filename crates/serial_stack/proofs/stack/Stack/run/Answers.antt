@@ -4,9 +4,9 @@ use Rattle.std.proofs.lemmas.Int.{to_z-of_z}
 use Rattle.std.proofs.Math.Logic.{∥∥₁_elim, ∥∥₁_map}
 use Rattle.std.proofs.Props.{props}
 use Rattle.serial_stack.specs.Steps.{Run}
-use Rattle.serial_stack.specs.Runs.{GoesBeyond, GoesSafely, HasEnded, HasWalked, Turned}
+use Rattle.serial_stack.specs.Runs.{GoesBeyond, HasEnded, HasWalked, Turned}
 use Rattle.serial_stack.specs.Shown.{RunsSafely, TextFits}
-use Rattle.serial_stack.proofs.Turning.{fits_prop, goes_on_here, may_go_on, no_less, numbers_here, numbers_prop, stands_here, stays_here, turned, walked_on, within_here}
+use Rattle.serial_stack.proofs.Turning.{fits_prop, goes_on_here, may_go_on, no_less, numbers_here, numbers_prop, stands_here, stays_here, turned, walked_on}
 use Rattle.serial_stack.proofs.stack.Stack.run.Goals as goal
 
 pub loop-budget-init : goal.loop-budget-init
