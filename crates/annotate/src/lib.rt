@@ -5,6 +5,7 @@
 #![tactic(auto)]
 
 mod new_lines;
+mod own_lines;
 mod plain;
 mod pruning;
 mod trial;
