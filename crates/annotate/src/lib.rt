@@ -10,6 +10,7 @@ mod plain;
 mod pruning;
 mod trial;
 mod trying;
+mod verdict;
 
 pub use new_lines::NewLines;
 pub use pruning::pruned;

@@ -5,12 +5,13 @@ ghost use Rattle.verifier.specs.Accepted.{IsUnverified};
 use crate::new_lines::without;
 use crate::own_lines::is_annotated;
 use crate::trying::copied;
+use crate::verdict::verdict;
 use explain_facts::spend;
 use lists::ListBuffer;
 use ranges::{Effort, Unanswered};
 use std::alloc::{AllocError, Global};
 use std::hash::RandomState;
-use verifier::{Refused, Unverified, verify_within};
+use verifier::{Refused, Unverified};
 
 /// The steps that a byte of a text counts for that is judged once more.
 const STEPS_A_BYTE: usize = 50;
@@ -39,11 +40,8 @@ fn is_accepted(
     effort: &Effort,
 ) -> Result<bool, Unanswered> {
     spend(effort, text.len().saturating_mul(STEPS_A_BYTE))?;
-    match verify_within(alloc, state, text.as_bytes(), effort) {
-        Ok(verified) => {
-            drop(verified);
-            Ok(true)
-        }
+    match verdict(alloc, state, text.as_bytes(), effort) {
+        Ok(()) => Ok(true),
         Err(Unverified::Refused(Refused::Fault { .. })) => Ok(false),
         Err(Unverified::Refused(Refused::Memory)) => Err(Unanswered::OutOfMemory),
         Err(Unverified::OutOfEffort) => Err(Unanswered::OutOfEffort),
@@ -118,11 +116,8 @@ fn kept(
     if !is_annotated(shorter, text) {
         return as_it_was(alloc, text);
     }
-    match verify_within(alloc, state, shorter, &Effort::unlimited()) {
-        Ok(verified) => {
-            drop(verified);
-            shortened(alloc, text, shorter)
-        }
+    match verdict(alloc, state, shorter, &Effort::unlimited()) {
+        Ok(()) => shortened(alloc, text, shorter),
         Err(_) => as_it_was(alloc, text),
     }
 }
@@ -160,7 +155,7 @@ pub fn pruned(
     ensures annotated { IfOk result (λ out. IsAnnotated out.items text.now) }
     ensures refused { IfErr result (IsUnverified text.now effort.now) }
 {
-    drop(verify_within(alloc, state, text, effort)?);
+    verdict(alloc, state, text, effort)?;
     match pruned_within(alloc, state, text, effort) {
         Ok(out) => Ok(out),
         Err(_) => Err(Unverified::Refused(Refused::Memory)),

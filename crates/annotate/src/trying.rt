@@ -6,6 +6,7 @@ ghost use Rattle.ir_reader.specs.Reading.{IsFaultOfText};
 use crate::new_lines::{NewLines, without};
 use crate::own_lines::is_annotated;
 use crate::trial::Trial;
+use crate::verdict::verdict;
 use annotate_lines::{Kind, proposed};
 use explain_facts::{Matched, match_text, spend};
 use ir_reader::read;
@@ -14,7 +15,7 @@ use ranges::{Effort, Unanswered};
 use refusal::Refused;
 use std::alloc::{AllocError, Global};
 use std::hash::RandomState;
-use verifier::{Unverified, verify_within};
+use verifier::Unverified;
 
 /// The steps that a byte of a text counts for whose lines are tried.
 const STEPS_A_BYTE: usize = 100;
@@ -73,13 +74,10 @@ fn judged(
     if more == text || !is_annotated(text, more) {
         return as_it_was(alloc, text);
     }
-    match verify_within(alloc, state, more, effort) {
-        Ok(verified) => {
-            drop(verified);
-            with_more(alloc, text, more)
-        }
+    match verdict(alloc, state, more, effort) {
+        Ok(()) => with_more(alloc, text, more),
         Err(Unverified::Refused(Refused::Memory)) => Err(AllocError),
-        Err(_) => match verify_within(alloc, state, text, effort) {
+        Err(_) => match verdict(alloc, state, text, effort) {
             Err(Unverified::Refused(Refused::Fault { .. })) => with_more(alloc, text, more),
             Err(Unverified::Refused(Refused::Memory)) => Err(AllocError),
             _ => as_it_was(alloc, text),
