@@ -55,6 +55,7 @@ fn is_annotation(line: &[u8]) -> bool
 }
 
 /// What is left of a text behind its first line, where that is this line; the text, where this line is an annotation.
+#[tactic(auto, using(crate::proofs::Among::kept_line, crate::proofs::Among::added_line))]
 fn left_behind<'a>(text: &'a [u8], line: &[u8]) -> Option<&'a [u8]>
     ensures { IfSome result (λ left. (more : List (List ℕ)) → AreLinesAmong (lines_of left.now) more → AreLinesAmong (lines_of text.now) (line.now ∷ more)) }
 {
@@ -85,5 +86,5 @@ pub fn is_annotated(text: &[u8], annotated: &[u8]) -> bool
         left = behind;
         rest = after;
     }
-    left.is_empty()
+    left.len() == 0
 }
