@@ -1,5 +1,5 @@
 -- Counts and tasks along a schedule, whatever the program.
-use Rattle.std.proofs.Common.{◌≡◌, ℕ, zero, suc, ◌+◌, ◌-◌, ◌≤◌, [], ◌∷◌, List, length, Option, Some, None, true, refl, sym, ap, ◌∙◌, subst, arith, ℤ}
+use Rattle.std.proofs.Common.{◌≡◌, ℕ, zero, suc, ◌+◌, ◌-◌, ◌≤◌, [], ◌∷◌, List, length, Option, Some, None, Bool, true, false, cond, refl, sym, ap, ◌∙◌, subst, arith, ℤ}
 use Rattle.semantics.specs.Paths.{Path, Under, itself, deeper}
 use Rattle.semantics.specs.Cells.{Memory}
 use Rattle.semantics.specs.Arithmetic.{Trap, Unmatched}
@@ -7,10 +7,10 @@ use Rattle.semantics.specs.Frames.{Wait, Free, OnRegion, OnCall, Halted, Role, C
 use Rattle.semantics.specs.Effect.{action_of}
 use Rattle.semantics.specs.State.{State, Change, apply, change_of, trap_change, halted, children_within}
 use Rattle.semantics.specs.Tree.{Tree}
-use Rattle.semantics.specs.Events.{Machine, Event, Step, Steal, event, start, sound_event, unless_trapped, by_hand, by_frame, by_change, holder, on_wait, on_frame, top_within, unheld_status, is_child, is_task, top_of, Status, Running, Ready, Stalled, status_at, status_of}
+use Rattle.semantics.specs.Events.{Machine, Event, Step, Steal, event, start, sound_event, unless_trapped, by_hand, by_frame, by_change, holder, on_wait, on_frame, top_within, waiting_status, unheld_status, is_child, is_task, top_of, Status, Running, Ready, Stalled, status_at, top_status, status_of}
 use Rattle.semantics.specs.Replay.{or_unchanged, replay}
 use Rattle.semantics.specs.Counts.{Counts, no_counts, counts_after, if_changed, counts_of_frame, counts_of_hand, counts_by, if_enabled, counts_along, count_of, CountsChildren, RegionCounts}
-use Rattle.semantics.specs.Tasks.{OnTask, is_lowest, is_called, FramesOnTasks}
+use Rattle.semantics.specs.Tasks.{OnTask, is_lowest, is_called, NewestChildLives, FramesOnTasks}
 use Rattle.semantics.proofs.Places.{only_at}
 use Rattle.semantics.proofs.Steps.{does}
 use Rattle.semantics.proofs.Diamond.{Goes, Spot, is_moved}
@@ -287,6 +287,40 @@ status_here workers m man deep t task =
     by_holder f is None none = let (x, e) = by_parked f is (man.parked (top_of m.core t) f is (unheld_by workers m.core m.hands man (top_of m.core t) none)) in (x, rw none e)
     by_holder f is (Some w) held = (Running w, rw held refl)
 
+ready_top : (workers : ℕ) (m : Machine) → Manned workers m.core m.hands → (t : Path) → status_of workers m t ≡ Some Ready → NewestChildLives m.core (top_of m.core t)
+ready_top workers m man t e = by_task (is_task t (m.core.frames t)) e
+  where
+    -- the child of a frame that waits for no call was not called
+    by_role : (k : ℕ) (f c : Frame) → m.core.frames (top_of m.core t) ≡ Some f → f.waits ≡ Free → m.core.frames (k ∷ (top_of m.core t)) ≡ Some c → (role : Role) → c.role ≡ role → is_child role ≡ true
+    by_role k f c is free there (Child region continuation) role = refl
+    by_role k f c is free there Body role =
+        let (g, d, over, wait) = man.tree.awaited k (top_of m.core t) c there role in
+        let same : f ≡ g = let h : Some f ≡ Some g = sym is ∙ over in cc in
+        absurd (let h : Free ≡ OnCall k d = sym free ∙ ap (λ (x : Frame). x.waits) same ∙ wait in cc)
+
+    by_parked : (f : Frame) → m.core.frames (top_of m.core t) ≡ Some f → f.waits ≡ Free → Parked m.core (top_of m.core t) f → NewestChildLives m.core (top_of m.core t)
+    by_parked f is free (calls k d wait) = absurd (let h : Free ≡ OnCall k d = sym free ∙ wait in cc)
+    by_parked f is free (ready k c free2 made there) = record { frame = f; number = k; child = c; here = is; newest = made; lives = there; detached = by_role k f c is free there c.role refl }
+    by_parked f is free (stalled r k n c wait there role) = absurd (let h : Free ≡ OnRegion r = sym free ∙ wait in cc)
+
+    by_wait : (f : Frame) → m.core.frames (top_of m.core t) ≡ Some f → holder workers m.hands (top_of m.core t) ≡ None → (w : Wait) → f.waits ≡ w → waiting_status w ≡ Some Ready → NewestChildLives m.core (top_of m.core t)
+    by_wait f is none Free free e = by_parked f is free (man.parked (top_of m.core t) f is (unheld_by workers m.core m.hands man (top_of m.core t) none))
+    by_wait f is none (OnRegion r) wait e = absurd (let h : Some (Stalled r) ≡ Some Ready = e in cc)
+    by_wait f is none (OnCall k d) wait e = absurd (let h : None ≡ Some Ready = e in cc)
+    by_wait f is none Halted wait e = absurd (let h : None ≡ Some Ready = e in cc)
+
+    by_top : (o : Option Frame) → m.core.frames (top_of m.core t) ≡ o → holder workers m.hands (top_of m.core t) ≡ None → unheld_status o ≡ Some Ready → NewestChildLives m.core (top_of m.core t)
+    by_top None is none e = absurd (let h : None ≡ Some Ready = e in cc)
+    by_top (Some f) is none e = by_wait f is none f.waits refl e
+
+    by_hand : (h : Option ℕ) → holder workers m.hands (top_of m.core t) ≡ h → status_at (m.core.frames (top_of m.core t)) h ≡ Some Ready → NewestChildLives m.core (top_of m.core t)
+    by_hand None none e = by_top (m.core.frames (top_of m.core t)) refl none e
+    by_hand (Some w) held e = absurd (let h : Some (Running w) ≡ Some Ready = e in cc)
+
+    by_task : (b : Bool) → cond b (top_status workers m (top_of m.core t)) None ≡ Some Ready → NewestChildLives m.core (top_of m.core t)
+    by_task true e = by_hand (holder workers m.hands (top_of m.core t)) refl e
+    by_task false e = absurd (let h : None ≡ Some Ready = e in cc)
+
 pub frames_on_tasks : FramesOnTasks
 frames_on_tasks prog arguments memory workers some events =
     let law = reached prog workers some arguments memory events in
@@ -296,4 +330,5 @@ frames_on_tasks prog arguments memory workers some events =
       one_task = λ p t u on on2. one_task m.core law.tree t u p p on on2 refl;
       top = λ t p on. top_of_task m.core law.tree law.deep t p on;
       status = λ fine t task. status_here workers m (law.manned fine) law.deep t task;
+      ready = λ fine t is. ready_top workers m (law.manned fine) t is;
     }

@@ -61,7 +61,7 @@ top_of s t = top_within s.peak s t
 
 pub data Status : Type 0 where
   Running : (worker : ℕ) → Status
-  -- its top frame's newest child lives
+  -- no worker runs it, and its top frame waits for nothing: by `PartIntoTasks` that frame's newest child lives
   Ready : Status
   Stalled : (region : ℕ) → Status
 
