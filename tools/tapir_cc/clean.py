@@ -54,6 +54,7 @@ def fold_phis(f: Function) -> bool:
 
 def drop_unused(f: Function) -> bool:
     used = {value for x in f.instructions() for value in x.uses() if value != x.result}
+    used |= {value for x in f.instructions() for form in x.fallbacks for _, fields in form for value in fields.get("args", ())}
     dead = False
     for block in f.blocks.values():
         for part in (block.phis, block.body):

@@ -48,6 +48,7 @@ class Instruction:
     region: object = None                       # a register; before regions are made, the block of the detach
     shows: list[str] = field(default_factory=list)      # annotations before it that the author wrote
     tried: list[str] = field(default_factory=list)      # those that a rewrite rests on
+    steps: list[str] = field(default_factory=list)      # those by which more is shown
     fallbacks: list[list[tuple[Instruction, dict]]] = field(default_factory=list)
 
     def uses(self) -> list[Value]:
@@ -112,6 +113,7 @@ class Function:
         self.ensures: list[tuple[str, Place]] = []
         self.needs: list[tuple[Form, Form]] = []        # low <= high, by REQUIRES
         self.wanted: list[tuple[str, Form, Place]] = [] # at a loop's head a form is 0 or more, by INVARIANT
+        self.guesses: list[tuple[str, Form, Place]] = []    # where a block begins a form is 0 or more
         self.said: dict[str, tuple] = {}                # register -> bounds that claims say
         self.given: dict[Optional[str], list[Zone]] = {}    # zones that the author wrote; of a detach's block, of its child
         self.zones: list[Zone] = []

@@ -6,7 +6,7 @@ import subprocess
 from dataclasses import dataclass
 from typing import Optional
 from .clean import clean
-from .hints import Hints, rests_of_loops
+from .hints import Hints, rests_of_loops, steps_of_goals
 from .ir import Function, Instruction
 from .llvm_text import Module
 from .printer import Line, Printed, print_module
@@ -53,6 +53,7 @@ class Judge:
         self.by_name = {f.name: f for f in functions}
         self.refused: set[tuple[str, str, str]] = set()     # hints: function, block, line
         self.cleared: set[tuple[str, str]] = set()          # locals that begin as 0: function, object
+        self.stepped: set[tuple[Instruction, str]] = set()
         self.printed = Printed()
         self.mends = {401: self.drop_hints, 206: self.drop_hints, 505: self.drop_hints, 702: self.add_rests, 402: self.clear_local,
                       508: self.fall_back, 502: self.fall_back, 503: self.fall_back, 602: self.part_feet, 603: self.part_feet,
@@ -65,7 +66,8 @@ class Judge:
             self.write()
             verdict = self.program.verdict()
             line = self.printed.line(verdict.at)
-            if not verdict.rule or verdict.rule not in self.mends or not self.mends[verdict.rule](line):
+            mend = self.mends.get(verdict.rule, self.drop_hints)
+            if not verdict.rule or not (self.add_steps(line, verdict) or mend(line) or self.drop_hints(line)):
                 break
         return verdict
 
@@ -83,9 +85,24 @@ class Judge:
         for other in self.functions[self.functions.index(f):]:
             self.infer(other)
 
+    def add_steps(self, line: Line, verdict: Verdict) -> bool:
+        """Shows what is refused by smaller steps, once."""
+        x = line.of
+        if verdict.rule not in (501, 505, 506) or line.kind != "instruction":
+            return False
+        names = {printed: register for register, printed in line.function.printed.items()}
+        new = [f"shows {step} >= 0" for step in steps_of_goals(self.program.explained(), names, verdict.at)]
+        new = [step for step in new if (x, step) not in self.stepped]
+        self.stepped |= {(x, step) for step in new}
+        x.steps += new
+        return bool(new)
+
     def fall_back(self, line: Line) -> bool:
         """The next form of what was tried."""
         x = line.of
+        if line.kind == "step":
+            x.steps.remove(line.note)
+            return True
         if line.kind not in ("tried", "instruction") or not x.fall_back():
             return False
         clean(line.function)

@@ -12,12 +12,13 @@ MOST_NAME = 56
 
 @dataclass
 class Line:
-    """A line of the module. `kind` says what `of` is: instruction, shows or tried (before an instruction), hint (a line of a block), block, function, zone, foot."""
+    """A line of the module. `kind` says what `of` is: instruction, shows, tried or step (before an instruction), hint (a line of a block), block, function, zone, foot."""
     text: str
     place: Place = Place()
     kind: str = ""
     of: object = None
     function: object = None
+    note: str = ""
 
 
 @dataclass
@@ -96,9 +97,10 @@ class FunctionPrinter:
         for zone in self.f.feet.get(block.name, []):
             self.note(f"foot {zone.mode} {self.name(zone.object)} {zone.low} {zone.high}", first, "foot", zone.object)
         for x in block.all():
-            for kind, lines in (("shows", x.shows), ("tried", x.tried)):
+            for kind, lines in (("shows", x.shows), ("tried", x.tried), ("step", x.steps)):
                 for line in lines:
                     self.note(line, x.place, kind, x)
+                    self.out[-1].note = line
             self.put("  " + self.instruction(x), x.place, "instruction", x)
 
     def pointer(self, x: Instruction) -> str:

@@ -26,6 +26,9 @@ class Ranges:
                 for gap in gaps(x.predicate, self.form(x.args[0]), self.form(x.args[1])):
                     self.learn(gap, x.predicate in ("sle", "sge"))
 
+        for _, gap, _ in function.guesses:
+            self.learn(gap, False)
+
     def form(self, value, stop=None) -> Form:
         return form_of(self.definitions, value, stop) if stop else form_of(self.definitions, value)
 

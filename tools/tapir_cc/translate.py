@@ -1,5 +1,5 @@
 """From LLVM's text to functions of our language. In: the text, and the function where the run begins. Out: the module, and the functions that it needs, callees
-first; claims are taken, zones and hints are not there yet."""
+first (`is_thorough`: with all tests that may help); claims are taken, zones and hints are not there yet."""
 from __future__ import annotations
 from .children import drop_calls, make_children, make_syncs, take_claims
 from .claims import Claims
@@ -9,10 +9,11 @@ from .ir import Fault, Function, Place
 from .llvm_text import Module, read, scalar
 from .memory import Addresses, make_zeros, measure_objects, part_cases
 from .numbers import Conditions, Widths
+from .rounds import bound_more
 from .rewrites import middles, rewrite, try_facts
 
 
-def translate(text: str, entry: str) -> tuple[Module, list[Function]]:
+def translate(text: str, entry: str, is_thorough: bool = False) -> tuple[Module, list[Function]]:
     module = read(text)
     for g in module.globals.values():
         check_global(g)
@@ -41,6 +42,9 @@ def translate(text: str, entry: str) -> tuple[Module, list[Function]]:
         Claims(f).apply()
         clean(f)
         middles(f)
+        if is_thorough:
+            bound_more(f)
+            clean(f)
     return module, functions
 
 
