@@ -66,6 +66,8 @@ class Claims:
         lines = self.lines(x.predicate, left, right)
         registers = [r for r in [*left.terms, *right.terms] if r not in self.results]
         if x.kind in ("requires", "ensures"):
+            if block is not self.f.entry:
+                raise Fault(x.place, f"{x.kind.upper()} stands first in a function, and is compares joined by &&", "write one claim for each compare, before any if")
             self.of_function(x)
         elif x.kind == "invariant":
             self.of_loop(x, block, lines, registers, gaps(x.predicate, left, right))
@@ -98,6 +100,8 @@ class Claims:
         if not heads:
             raise Fault(x.place, "INVARIANT stands in a loop, and is about what is known where a round begins", "write it first in the loop")
         head = min(heads, key=lambda h: len(graph.loops[h]))
+        if not all(graph.dominates(block.name, p) for p in graph.before[head] if p in graph.loops[head]):
+            raise Fault(x.place, "INVARIANT stands first in a loop, and is compares joined by &&", "write one claim for each compare, before any if")
         self.f.blocks[head].notes += [("keeps " + line, x.place) for line in lines]
         self.f.wanted += [(head, gap, x.place) for gap in wanted]
 

@@ -54,7 +54,7 @@ def fold_phis(f: Function) -> bool:
 
 def drop_unused(f: Function) -> bool:
     used = {value for x in f.instructions() for value in x.uses() if value != x.result}
-    used |= {value for x in f.instructions() for form in x.fallbacks for _, fields in form for value in fields.get("args", ())}
+    used |= {value for x in f.instructions() for fields in x.fields_of_fallbacks() for value in fields.get("args", ())}
     dead = False
     for block in f.blocks.values():
         for part in (block.phis, block.body):
@@ -94,7 +94,7 @@ def share_returns(f: Function) -> bool:
     """A block that only returns is copied to each way to it."""
     changed, before, apart = False, f.predecessors(), ends_of_detaches(f)
     for name, block in f.blocks.items():
-        if block.end.op != "ret" or block.body or name in apart or name == f.entry.name:
+        if block.end.op != "ret" or block.body or block.is_kept or name in apart or name == f.entry.name:
             continue
         for above in [f.blocks[p] for p in before[name]]:
             if above.end.op == "br":
@@ -109,7 +109,7 @@ def thread_conditions(f: Function) -> bool:
     """A branch on a phi of i1 goes to where its values come from."""
     changed = False
     for name, block in list(f.blocks.items()):
-        if block.end.op != "cbr" or block.body or len(block.phis) != 1 or name in ends_of_detaches(f):
+        if block.end.op != "cbr" or block.body or len(block.phis) != 1 or block.is_kept or name in ends_of_detaches(f):
             continue
         phi = block.phis[0]
         if phi.result != block.end.args[0] or any(phi.result in x.uses() for x in f.instructions() if x is not block.end):

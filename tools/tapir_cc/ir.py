@@ -1,7 +1,7 @@
 """Functions of blocks of instructions, between LLVM's text and ours, and what is computed of their graphs."""
 from __future__ import annotations
 from dataclasses import dataclass, field
-from typing import Callable, Iterable, NamedTuple, Optional
+from typing import Callable, Iterable, NamedTuple, Optional, Union
 from .forms import Form, Value
 
 BINARY = {"add", "sub", "mul", "sdiv", "udiv", "srem", "urem", "shl", "lshr", "ashr", "and", "or", "xor"}
@@ -21,6 +21,10 @@ class Fault(Exception):
     def __init__(self, place: Place, text: str, change: str = ""):
         super().__init__(text)
         self.place, self.text, self.change = place, text, change
+
+
+# What to do where a rewrite is refused: fields of instructions to set, or (where blocks change) a step to take.
+Fallback = Union[list[tuple["Instruction", dict]], Callable[[], None]]
 
 
 @dataclass(eq=False)
@@ -49,7 +53,7 @@ class Instruction:
     shows: list[str] = field(default_factory=list)      # annotations before it that the author wrote
     tried: list[str] = field(default_factory=list)      # those that a rewrite rests on
     steps: list[str] = field(default_factory=list)      # those by which more is shown
-    fallbacks: list[list[tuple[Instruction, dict]]] = field(default_factory=list)
+    fallbacks: list[Fallback] = field(default_factory=list)
 
     def uses(self) -> list[Value]:
         if self.op == "phi":
@@ -60,10 +64,16 @@ class Instruction:
         """Takes the next form of what was tried here; whether there was one. The last one needs no fact."""
         if not self.fallbacks:
             return False
-        for instruction, fields in self.fallbacks.pop(0):
+        form = self.fallbacks.pop(0)
+        for instruction, fields in [] if callable(form) else form:
             for name, value in fields.items():
                 setattr(instruction, name, value)
+        if callable(form):
+            form()
         return True
+
+    def fields_of_fallbacks(self) -> Iterable[dict]:
+        return [fields for form in self.fallbacks if not callable(form) for _, fields in form]
 
     def retarget(self, old: str, new: str) -> None:
         self.targets = [new if target == old else target for target in self.targets]
@@ -77,6 +87,7 @@ class Block:
     end: Optional[Instruction] = None
     notes: list[tuple[str, Place]] = field(default_factory=list)    # annotations that the author wrote
     hints: list[tuple[str, Place]] = field(default_factory=list)    # annotations that are only tried
+    is_kept: bool = False       # whether its edges stay as they are, as a fallback may change them
 
     def all(self) -> list[Instruction]:
         return self.phis + self.body + ([self.end] if self.end else [])
@@ -181,6 +192,9 @@ class Function:
             x.args = [final(value) for value in x.args]
             if isinstance(x.index, str):
                 x.index = final(x.index)
+            for fields in x.fields_of_fallbacks():
+                if "args" in fields:
+                    fields["args"] = [final(value) for value in fields["args"]]
 
     def drop_edge(self, block: str, before: str) -> None:
         """The phis of a block lose the entry of a predecessor."""

@@ -72,7 +72,7 @@ class Widths:
 
     def widen_byte(self, x: Instruction) -> bool:
         if x.op == "trunc" and x.type == "i1":
-            x.op, x.predicate, x.args = "icmp", "ne", [x.args[0], 0]
+            x.op, x.predicate, x.type, x.args = "icmp", "ne", "i64", [x.args[0], 0]
             return True
         if x.op == "zext" and x.source == "i8":
             self.by[x.result] = x.args[0]

@@ -184,6 +184,11 @@ class Report:
         if registers <= parameters:
             return f"add REQUIRES({self.goal()}) to {self.c_function()}"
         made = [self.names.definitions[r][0] for r in registers if r in self.names.definitions]
+        wrapping = next((x for x in made if x.op in ("add", "sub", "mul") and not x.nsw), None)
+        if wrapping is not None and isinstance(wrapping.args[0], str):
+            operand = self.names.of(wrapping.args[0], 4)
+            word = "REQUIRES" if wrapping.args[0] in parameters else "INVARIANT or a test"
+            return f"bound {operand} from both sides by {word}, so that {self.names.of(wrapping.result, 4)} cannot overflow"
         if any(x.op in ("load", "call", "and", "or", "xor", "srem", "urem", "mul") for x in made):
             return f"test it before: if ({self.goal()}) .. , or mask an index with & 63"
         if any(x.op == "phi" for x in made):

@@ -51,7 +51,12 @@ def bounded_rest(f: Function, block: Block, x: Instruction) -> None:
     rest.phis.append(chosen)
     own = Form.of(chosen.result)
     f.guesses += [(rest.name, own, x.place), (rest.name, Form.of(divisor) - own - 1, x.place)]
-    x.fallbacks = [[(x, {"tried": []}), (block.end, {"op": "br", "args": [], "targets": [rest.name]}), (chosen, {"incoming": [(x.result, block.name)]})]]
+
+    def without_test() -> None:
+        home, rest.is_kept, x.tried = f.block_of(x), False, []
+        home.end = Instruction("br", place=x.place, targets=home.end.targets[1:])
+        chosen.incoming = [(x.result, home.name)]
+    rest.is_kept, x.fallbacks = True, [without_test]
 
 
 class Loop:
@@ -163,7 +168,7 @@ def test_bound(loop: Loop, gap: Form, inner: list[str]) -> bool:
         test = Instruction("icmp", f.fresh("c"), "i64", [counters[0], most + rest.constant + 1], place, predicate="slt", tried=[f"shows {grown} <= {most}"])
         end = loop.test_first(test, exit, loop.head.name)
         if end is not None:
-            add_fallback(f, loop.head.name, test, end, exit)
+            add_fallback(f, test)
             f.guesses.append((loop.head.name, rest + most + 1, place))
             step_last(loop, ranges.definitions[counters[0]][0])
         return end is not None
@@ -181,10 +186,14 @@ def step_last(loop: Loop, phi: Instruction) -> None:
         phi.incoming = [(step.result if label == latch.name else value, label) for value, label in phi.incoming]
 
 
-def add_fallback(f: Function, head: str, test: Instruction, end: Instruction, exit: str) -> None:
+def add_fallback(f: Function, test: Instruction) -> None:
     """Without what is to be shown there is no test."""
-    test.fallbacks = [[(test, {"tried": []}), (end, {"op": "br", "args": [], "targets": end.targets[:1]})] +
-                      [(phi, {"incoming": [(v, label) for v, label in phi.incoming if label != head]}) for phi in f.blocks[exit].phis]]
+    def without_test() -> None:
+        head = f.block_of(test)
+        test.tried = []
+        f.drop_edge(head.end.targets[1], head.name)
+        head.end = Instruction("br", place=test.place, targets=head.end.targets[:1])
+    test.fallbacks = [without_test]
 
 
 def least_of(loop: Loop, gap: Form, inner: list[str]) -> int:
@@ -214,7 +223,7 @@ def add_count(loop: Loop, gap: Form, least: int, most: int) -> None:
     head.phis.append(Instruction("phi", count, "i64", [], place, incoming=[(more.get(name, 0), name) for name in before]))
     for name, register in more.items():
         f.blocks[name].body.append(Instruction("add", register, "i64", [count, 1], place, nsw=True))
-    add_fallback(f, head.name, test, end, exit)
+    add_fallback(f, test)
     f.guesses += [(head.name, gap - least, place), (head.name, -gap - Form.of(count) + most, place), (head.name, Form.of(count), place)]
 
 

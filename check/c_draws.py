@@ -1,0 +1,115 @@
+"""Draws functions of whole numbers in C (int64_t, int, uint64_t, uint32_t, bool; if, switch, loops, && || ! ?:), none of which does what C leaves undefined
+but by chance. And makes plain LLVM IR of a module: its serial elision."""
+import random
+import re
+
+TYPES = {"l": "int64_t", "i": "int", "u": "uint64_t", "v": "uint32_t", "b": "_Bool"}
+CONSTANTS = [0, 1, 2, 3, 5, 7, -1, -3, 100, 255, 4096, 65535, 1000003, 2147483647]
+OPERATORS = ["+", "-", "*", "&", "|", "^", "<<", ">>", "/", "%", "<", "<=", "==", "!=", ">", ">=", "&&", "||", "?:", "!", "~", "cast", "unsigned"]
+DIVISIONS = ["((int64_t)({a}) {o} ((({b}) & 63) + 1))", "((int)({a}) {o} (int)((({b}) & 63) + 1))",
+             "((uint32_t)({a}) {o} (uint32_t)((({b}) & 1023) + 1))", "((uint64_t)({a}) {o} (uint64_t)((({b}) & 63) + 2))"]
+
+
+class Draw:
+    """A file with arrays `int64_t A[8]`, `int B[8]` and a function `kernel` of two numbers."""
+    def __init__(self, seed):
+        self.chance, self.count, self.variables, self.lines = random.Random(seed), 0, [("p", "l"), ("q", "l")], []
+
+    def text(self):
+        self.lines = ['#include "tapir.h"', "int64_t A[8]; int B[8];", "int64_t kernel(int64_t p, int64_t q) {"]
+        for _ in range(6):
+            self.statement(1)
+        return "\n".join([*self.lines, f"    return {self.value(2)};", "}", ""])
+
+    def leaf(self):
+        kind = self.chance.random()
+        if kind < 0.6:
+            return self.chance.choice(self.variables)[0]
+        if kind < 0.8:
+            return str(self.chance.choice(CONSTANTS))
+        return f"{self.chance.choice('AB')}[{self.chance.choice(self.variables)[0]} & 7]"
+
+    def value(self, deep):
+        if deep == 0 or self.chance.random() < 0.15:
+            return self.leaf()
+        o, a, b = self.chance.choice(OPERATORS), self.value(deep - 1), self.value(deep - 1)
+        if o in "+-*":
+            wide, narrow = f"(int64_t)((uint64_t)({a}) {o} (uint64_t)({b}))", f"(int)((uint32_t)({a}) {o} (uint32_t)({b}))"
+            return wide if self.chance.random() < 0.6 else narrow
+        if o in "/%":
+            return self.chance.choice(DIVISIONS).format(a=a, b=b, o=o)
+        type = self.chance.choice(list(TYPES.values()))
+        forms = {"<<": f"(int64_t)((uint64_t)({a}) << (({b}) & 31))", ">>": f"(({type.replace('_Bool', 'int')})({a}) >> (({b}) & 15))",
+                 "?:": f"(({self.leaf()}) ? ({a}) : ({b}))", "!": f"(!({a}))", "~": f"(~({a}))", "cast": f"(({type})({a}))",
+                 "unsigned": f"((uint64_t)({a}) {self.chance.choice(['<', '>=', '>', '<='])} (uint64_t)({b}))"}
+        return forms.get(o, f"(({a}) {o} ({b}))")
+
+    def put(self, deep, line):
+        self.lines.append("    " * deep + line)
+
+    def block(self, deep):
+        known = len(self.variables)
+        for _ in range(self.chance.randint(1, 4)):
+            self.statement(deep)
+        del self.variables[known:]
+
+    def statement(self, deep):
+        kind = self.chance.random()
+        if kind < 0.25:
+            self.count += 1
+            type = self.chance.choice(list(TYPES))
+            self.put(deep, f"{TYPES[type]} x{self.count} = ({TYPES[type]})({self.value(3)});")
+            self.variables.append((f"x{self.count}", type))
+        elif kind < 0.45:
+            name, type = self.chance.choice(self.variables)
+            self.put(deep, f"{name} = ({TYPES[type]})({self.value(3)});")
+        elif kind < 0.6:
+            self.put(deep, f"{self.chance.choice('AB')}[{self.value(1)} & 7] = (int)({self.value(2)});")
+        elif deep <= 3:
+            self.compound(deep, kind)
+
+    def compound(self, deep, kind):
+        if kind < 0.75:
+            self.put(deep, f"if ({self.value(3)}) {{")
+            self.block(deep + 1)
+            if self.chance.random() < 0.5:
+                self.put(deep, "} else {")
+                self.block(deep + 1)
+        elif kind < 0.85:
+            self.loop(deep)
+        elif kind < 0.93:
+            self.switch(deep)
+        else:
+            self.put(deep, f"SPAWN {{ A[{self.chance.randint(0, 7)}] = {self.value(2)};")
+        self.put(deep, "}")
+        if kind >= 0.93 and self.chance.random() < 0.5:
+            self.put(deep, "SYNC;")
+
+    def loop(self, deep):
+        self.count += 1
+        k = f"k{self.count}"
+        ends = [f"{k} < {self.chance.randint(1, 6)}", f"{k} != 5", f"{k} <= 3 && ({self.value(2)})"]
+        self.put(deep, f"for ({self.chance.choice(['int', 'int64_t'])} {k} = {self.chance.choice('01')}; {self.chance.choice(ends)}; {k}++) {{")
+        self.block(deep + 1)
+        if self.chance.random() < 0.3:
+            self.put(deep + 1, f"if ({self.value(2)}) {self.chance.choice(['break', 'continue'])};")
+
+    def switch(self, deep):
+        self.put(deep, f"switch (({self.value(2)}) & 7) {{")
+        for number in self.chance.sample(range(8), 3):
+            self.put(deep, f"case {number}: {{")
+            self.block(deep + 1)
+            self.put(deep, "}" + (" break;" if self.chance.random() < 0.7 else ""))
+        self.put(deep, "default: ;")
+
+
+def elision(text):
+    """The serial elision of a module as plain LLVM IR, its @main renamed @kernel."""
+    lines = []
+    for line in text.splitlines():
+        if line.strip().startswith(";!") or "llvm.syncregion.start" in line:
+            continue
+        line = re.sub(r"detach within %[\w.]+, label (%[\w.]+), label %[\w.]+", r"br label \1", line)
+        line = re.sub(r"(?:reattach|sync) within %[\w.]+, label (%[\w.]+)", r"br label \1", line)
+        lines.append(line.replace("@main(", "@kernel(").replace("@main.", "@kernel_"))
+    return "\n".join(lines) + "\n"

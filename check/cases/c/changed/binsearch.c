@@ -1,0 +1,17 @@
+// accepted; args -3 | 0 | 5
+#include "tapir.h"
+int64_t a[64];
+int64_t kernel(int64_t key) {
+    int64_t lo = 0, hi = 64;
+    for (int k = 0; k < 7 && lo < hi; k++) {
+        INVARIANT(0 <= lo && lo <= hi && hi <= 64);
+        int64_t mid = lo + (hi - lo) / 2;
+        if (mid >= hi)
+            break;
+        if (a[mid] < key)
+            lo = mid + 1;
+        else
+            hi = mid;
+    }
+    return lo;
+}
