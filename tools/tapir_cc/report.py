@@ -9,7 +9,8 @@ from .judge import Judge, Verdict
 SIGNS = {"add": "+", "sub": "-", "mul": "*", "sdiv": "/", "srem": "%", "and": "&", "or": "|", "xor": "^", "shl": "<<", "ashr": ">>", "udiv": "/",
          "urem": "%", "lshr": ">>"}
 MOST_FACTS = 6      # that are shown of one goal
-WHOLE_LINES = ("known:", "nearest:", "to show:", "touched:", "it ends", "what is touched", "still pending")
+OWN_CELLS = "let each SPAWN touch cells of its own, by its counter, or use ADD"
+WHOLE_LINES = ("known:", "nearest:", "to show:", "touched:", "still pending")
 
 
 class Names:
@@ -158,18 +159,19 @@ class Report:
         pending = re.search(r"(?:pending \S+|still pending [^:]*:) (reads|writes|adds) ([@%][\w.]+)", text)
         verbs = {"reads": "read", "writes": "write", "adds": "add to"}
         if touched and pending:
-            return f"this {touched.group(1)} {self.names.in_text(touched.group(2))}, and a SPAWN that may still run can {verbs[pending.group(1)]} the same cells"
+            return f"this {touched.group(1)} {self.names.in_text(touched.group(2))}, cells that a SPAWN which may still run can {verbs[pending.group(1)]}"
         object = self.names.in_text(pending.group(2)) if pending else "the same cells"
         return f"two SPAWNs that may run at once touch the same cells of {object}" if pending else "two SPAWNs that may run at once touch the same cells"
 
     def change(self) -> str:
         by_rule = {402: "give it a value where it is declared", 301: "write SYNC before", 303: "write SYNC before",
-                   602: "write SYNC before it, let each SPAWN have cells of its own, or ADD in place of a load and a store",
-                   603: "let each SPAWN have cells of its own (by its counter), or ADD in place of a load and a store",
+                   602: "write SYNC before it, or let both touch cells of their own", 603: OWN_CELLS,
                    601: "name the cells in READS, WRITES or ADDS of the function", 604: "name the cells in READS, WRITES or ADDS of the function",
                    702: "write `for (k = 0; k < N && ..; k++)` or WHILE_AT_MOST(N, ..); or make a function of the round",
                    206: "let a round do less, or make a function of a part of it with a BUDGET",
                    703: "write MEASURE(depth, 20) for a parameter that falls with each call", 704: "write REQUIRES(depth <= 20) for what falls with each call"}
+        if self.rule == 602 and self.line.kind == "instruction" and self.line.of.op == "detach":
+            return OWN_CELLS
         return by_rule.get(self.rule) or self.claim_to_add()
 
     def claim_to_add(self) -> str:
@@ -216,6 +218,7 @@ class Report:
         for line in self.first:
             known = known + 1 if "known:" in line else 0
             if line.strip().startswith(WHOLE_LINES) and known <= MOST_FACTS and "put `shows`" not in line:
+                line = re.sub(r"(reads|writes|adds) (\S+) (\S+) (\S+)$", r"\1 \2 from \3 to before \4", line)
                 out.append(self.at_c_lines(self.names.in_text(line[2:]) if self.names else line))
         return list(dict.fromkeys(out))
 
