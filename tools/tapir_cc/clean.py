@@ -53,7 +53,7 @@ def fold_phis(f: Function) -> bool:
 
 
 def drop_unused(f: Function) -> bool:
-    used = {value for x in f.instructions() for value in x.uses() if value != x.result}
+    used = {value for x in f.instructions() for value in [*x.uses(), x.object] if value != x.result}
     used |= {value for x in f.instructions() for fields in x.fields_of_fallbacks() for value in fields.get("args", ())}
     dead = False
     for block in f.blocks.values():

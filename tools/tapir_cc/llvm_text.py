@@ -12,7 +12,7 @@ FLAGS = {"nsw", "nuw", "exact", "disjoint", "nneg", "samesign", "inbounds", "nus
 NO_ATTRIBUTES = {"true", "false", "null", "undef", "poison", "zeroinitializer", "getelementptr", "void", "ptr", "double", "float", "half"}
 TERMINATORS = {"br", "cbr", "switch", "ret", "unreachable"}
 STRANGE = {"double": "double: compute in whole numbers, scaled (x * 4096)", "float": "float: compute in whole numbers, scaled (x * 4096)",
-           "i16": "short: int64_t", "i128": "__int128: int64_t"}
+           "i16": "short: write int64_t", "i128": "__int128: write int64_t"}
 
 
 @dataclass
@@ -307,7 +307,7 @@ class Reader:
         while at < len(self.lines):
             line = self.lines[at]
             at += 1
-            if re.match(r"@[\w.$]+ = ", line):
+            if re.match(r"@[\w.$]+ = ", line) and " private " not in line:       # (private ones are texts, and values that locals begin with)
                 found = self.global_of(line)
                 module.globals[found.name] = found
             elif line.startswith("define "):

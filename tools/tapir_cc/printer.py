@@ -97,7 +97,7 @@ class FunctionPrinter:
         for zone in self.f.feet.get(block.name, []):
             self.note(f"foot {zone.mode} {self.name(zone.object)} {zone.low} {zone.high}", first, "foot", zone.object)
         for x in block.all():
-            for kind, lines in (("shows", x.shows), ("tried", x.tried), ("step", x.steps)):
+            for kind, lines in (("shows", x.shows), ("step", x.steps), ("tried", x.tried)):
                 for line in lines:
                     self.note(line, x.place, kind, x)
                     self.out[-1].note = line

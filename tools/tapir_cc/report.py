@@ -70,7 +70,7 @@ class Source:
         """A message, with the line and a caret."""
         line = self.line(place)
         column = place.column or len(line) - len(line.lstrip()) + 1
-        head = f"{place.file or self.path}:{place.line}:{column}: {kind}: {text}\n"
+        head = f"{place.file or self.path}:{place.line or 1}:{column}: {kind}: {text}\n"
         caret = re.sub(r"\S", " ", line[:column - 1]) + "^"
         return head + (f"{place.line:5} | {line}\n      | {caret}\n" if line else "")
 
@@ -191,6 +191,11 @@ class Report:
             operand = self.names.of(wrapping.args[0], 4)
             word = "REQUIRES" if wrapping.args[0] in parameters else "INVARIANT or a test"
             return f"bound {operand} from both sides by {word}, so that {self.names.of(wrapping.result, 4)} cannot overflow"
+        if any(x.op == "icmp" and x.predicate[:1] == "u" and registers & set(x.args) for x in self.f.instructions()):
+            return "write int64_t in place of unsigned: unsigned compares tell nothing"
+        loaded = next((v for x in made if x.op == "phi" for v, _ in x.incoming if v in self.names.definitions and self.names.definitions[v][0].op == "load"), None)
+        if loaded:
+            return f"test {self.names.of(loaded, 4)} before the loop: memory may hold anything"
         if any(x.op in ("load", "call", "and", "or", "xor", "srem", "urem", "mul") for x in made):
             return f"test it before: if ({self.goal()}) .. , or mask an index with & 63"
         if any(x.op == "phi" for x in made):

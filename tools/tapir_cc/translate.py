@@ -6,17 +6,18 @@ from .claims import Claims
 from .clean import clean
 from .halves import make_halves
 from .ir import Fault, Function, Place
-from .llvm_text import Module, read, scalar
+from .llvm_text import Module, cells, read, scalar
 from .memory import Addresses, make_zeros, measure_objects, part_cases
 from .numbers import Conditions, Widths
 from .rounds import bound_more
 from .rewrites import middles, rewrite, try_facts
 
+MOST_CELLS = 1048576    # of a module's globals
+
 
 def translate(text: str, entry: str, is_thorough: bool = False) -> tuple[Module, list[Function]]:
     module = read(text)
-    for g in module.globals.values():
-        check_global(g)
+    check_globals(module)
     functions = []
     for f in callees_first(module, entry):
         drop_calls(f)
@@ -48,13 +49,28 @@ def translate(text: str, entry: str, is_thorough: bool = False) -> tuple[Module,
     return module, functions
 
 
-def check_global(g) -> None:
-    name = g.name[1:]
-    if scalar(g.type) not in ("i64", "i32"):
-        kind = {"i8": "char", "ptr": "a pointer", "i1": "bool"}.get(scalar(g.type), scalar(g.type))
-        raise Fault(g.place, f"{name} is of {kind}, which memory does not hold", "write int64_t or int")
-    if not g.is_zero:
-        raise Fault(g.place, f"{name} has an initial value", "fill it in a function, or from the host (--set, --load)")
+def check_globals(module: Module) -> None:
+    total = 0
+    for g in module.globals.values():
+        name, kind = g.name[1:], scalar(g.type)
+        total += cells(g.type)
+        if kind not in ("i64", "i32"):
+            kind = {"i8": "char", "ptr": "a pointer", "i1": "bool"}.get(kind, kind)
+            raise Fault(g.place, f"{name} is of {kind}, which memory does not hold", "write int64_t or int")
+        if not g.place.line:
+            raise Fault(g.place, f"{name} is not in this file", "define it here")
+        if not g.is_zero:
+            raise Fault(g.place, f"{name} has an initial value", "fill it in a function, or from the host (--set, --load)")
+        if total > MOST_CELLS:
+            raise Fault(g.place, f"with {name} the globals have {total} cells", f"a module has at most {MOST_CELLS}")
+
+
+def check_entry(f: Function) -> None:
+    if f.returns not in ("i64", "i32"):
+        raise Fault(f.place, f"{f.name[1:]} returns no number", f"write int64_t {f.name[1:]}(..)")
+    for p in f.parameters:
+        if p.type == "ptr":
+            raise Fault(f.place, f"{p.name[1:]} is an array, and the host hands over globals alone", "make it a global")
 
 
 def callees_first(module: Module, entry: str) -> list[Function]:
@@ -62,6 +78,7 @@ def callees_first(module: Module, entry: str) -> list[Function]:
     by_name = {f.name: f for f in module.functions}
     if "@" + entry not in by_name:
         raise Fault(Place(1, 1), f"there is no function {entry}, where the run begins", "name another one by --entry")
+    check_entry(by_name["@" + entry])
     out: list[Function] = []
 
     def visit(f: Function, above: list[Function]) -> None:
