@@ -116,26 +116,27 @@ def f_split_head(f: Function, head: Block) -> Block:
 
 
 def test_counter_first(f: Function, head: str) -> None:
-    """`a && i < n` is `i < n && a && i < n`, where only loads stand before."""
+    """`a && i < n` is `i < n && a && i < n`, where only loads stand before, and the loop leaves the same behind wherever it ends."""
     loop = Loop(f, head)
-    block = loop.head
-    while not loop.has_counter(block):
+    chain = [loop.head]
+    while not loop.has_counter(chain[-1]):
+        block = chain[-1]
         onward = [target for target in block.end.targets if target in loop.body] if block.end.op in ("br", "cbr") else []
         if len(onward) != 1 or any(x.op not in ("load", "icmp", "add", "sub", "mul", "and") for x in block.body) or \
                 len(loop.ranges.graph.before[onward[0]]) != 1:
             return
-        block = f.blocks[onward[0]]
-    if block is loop.head or f.blocks[loop.exit_of(block)].end.op == "":
+        chain.append(f.blocks[onward[0]])
+    ways = {target for block in chain for target in block.end.targets if target not in loop.body}
+    if len(chain) == 1 or len(ways) != 1:
         return
-    old = loop.ranges.definitions[block.end.args[0]][0]
-    if any(loop.ranges.home(v) in loop.body and loop.ranges.definitions[v][0].op != "phi" for v in old.args):
+    exit, last, names = ways.pop(), chain[-1], {block.name for block in chain}
+    left = [{value for value, label in phi.incoming if label in names} for phi in f.blocks[exit].phis]
+    compare = loop.ranges.definitions[last.end.args[0]][0]
+    made = {x.result for block in chain for x in block.body}
+    if any(len(values) != 1 or values & made for values in left) or made & set(compare.args):
         return
-    exits = {target for target in loop.head.end.targets if target not in loop.body}
-    if exits - {loop.exit_of(block)}:
-        return
-    negated = block.end.targets[1] in loop.body
-    predicate = NEGATED[old.predicate] if negated else old.predicate
-    loop.test_first(Instruction("icmp", f.fresh("c"), "i64", list(old.args), old.place, predicate=predicate), loop.exit_of(block), block.name)
+    predicate = compare.predicate if last.end.targets[0] in loop.body else NEGATED[compare.predicate]
+    loop.test_first(Instruction("icmp", f.fresh("c"), "i64", list(compare.args), compare.place, predicate=predicate), exit, last.name)
 
 
 def count_rounds(f: Function, head: str) -> None:
