@@ -48,8 +48,8 @@ class Program:
 
 
 class Judge:
-    def __init__(self, program: Program, module: Module, functions: list[Function]):
-        self.program, self.module, self.functions = program, module, functions
+    def __init__(self, program: Program, module: Module, functions: list[Function], few_hints: bool = False):
+        self.program, self.module, self.functions, self.few_hints = program, module, functions, few_hints
         self.by_name = {f.name: f for f in functions}
         self.refused: set[tuple[str, str, str]] = set()     # hints: function, block, line
         self.cleared: set[tuple[str, str]] = set()          # locals that begin as 0: function, object
@@ -78,7 +78,7 @@ class Judge:
 
     def infer(self, f: Function) -> None:
         Zones(f, self.by_name).apply()
-        Hints(f, self.by_name, self.refused).apply()
+        Hints(f, self.by_name, self.refused, self.few_hints).apply()
 
     def infer_from(self, f: Function) -> None:
         """What f and its callers touch, anew."""
@@ -117,7 +117,7 @@ class Judge:
         self.refused |= hints
         for f in self.functions:
             f.rests = {name: [rest for rest in rests if (f.name, name, rest[0]) not in self.refused] for name, rests in f.rests.items()}
-            Hints(f, self.by_name, self.refused).apply()
+            Hints(f, self.by_name, self.refused, self.few_hints).apply()
         return bool(new)
 
     def add_rests(self, line: Line) -> bool:

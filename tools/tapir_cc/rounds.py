@@ -89,9 +89,9 @@ class Loop:
                     return True
         return False
 
-    def test_first(self, compare: Instruction, exit: str, from_block: str) -> Optional[Instruction]:
-        """Puts a compare before all that the head does; where it fails the loop ends. None if what stands behind the loop would miss something."""
-        f, rest = self.f, f_split_head(self.f, self.head)
+    def test_first(self, compare: Instruction, exit: str, from_block: str) -> bool:
+        """Puts a compare before all that the head does; where it fails the loop ends. Not if what stands behind the loop would miss something."""
+        f, rest = self.f, self.f.split(self.head, 0)      # (the head keeps its phis and its annotations)
         inside = {x.result for name in [*self.body, rest.name] for x in f.blocks[name].body if x.result}
         for block in f.blocks.values():
             if block.name not in self.body and block is not rest and any(v in inside for x in block.body + [block.end] for v in x.uses()):
@@ -99,20 +99,14 @@ class Loop:
                 for target in rest.successors():
                     f.rename_edge(target, rest.name, self.head.name)
                 del f.blocks[rest.name]
-                return None
+                return False
         from_block = rest.name if from_block == self.head.name else from_block
         for phi in f.blocks[exit].phis:
             value = next(v for v, label in phi.incoming if label == from_block)
             phi.incoming.append((0 if value in inside else value, self.head.name))
         self.head.body = [compare]
         self.head.end = Instruction("cbr", None, None, [compare.result], compare.place, targets=[rest.name, exit])
-        return self.head.end
-
-
-def f_split_head(f: Function, head: Block) -> Block:
-    """The head keeps its phis and its annotations; the rest of it goes into a new block."""
-    rest = f.split(head, 0)
-    return rest
+        return True
 
 
 def test_counter_first(f: Function, head: str) -> None:
@@ -133,7 +127,7 @@ def test_counter_first(f: Function, head: str) -> None:
     left = [{value for value, label in phi.incoming if label in names} for phi in f.blocks[exit].phis]
     compare = loop.ranges.definitions[last.end.args[0]][0]
     made = {x.result for block in chain for x in block.body}
-    if any(len(values) != 1 or values & made for values in left) or made & set(compare.args):
+    if any(len(values) != 1 or values & made for values in left) or made & set(compare.args) or compare.tried:
         return
     predicate = compare.predicate if last.end.targets[0] in loop.body else NEGATED[compare.predicate]
     loop.test_first(Instruction("icmp", f.fresh("c"), "i64", list(compare.args), compare.place, predicate=predicate), exit, last.name)
@@ -159,20 +153,22 @@ def count_rounds(f: Function, head: str) -> None:
 def test_bound(loop: Loop, gap: Form, inner: list[str]) -> bool:
     """Of `head < tail`, where tail grows up to 32: tests `head < 32` first. Whether that is done."""
     f, ranges = loop.f, loop.ranges
+    if ranges.definitions[loop.head.end.args[0]][0].tried:      # it may turn out to be == or !=
+        return False
     for grown in [r for r in inner if gap.terms[r] == 1]:
         tests = tests_of(f, ranges, web_of(ranges, ranges.definitions[grown][0]))
         rest = gap.without(grown)
         counters = [r for r in rest.terms if all(s == Form(constant=1) for s in ranges.steps(ranges.definitions[r][0], loop.body))] if len(inner) == 2 else []
         if not tests or len(rest.terms) != 1 or not counters or rest.terms[counters[0]] != -1:
             continue
-        most, exit, place = tests[0], loop.exit_of(loop.head), loop.head.end.place
+        most, place = tests[0], loop.head.end.place
         test = Instruction("icmp", f.fresh("c"), "i64", [counters[0], most + rest.constant + 1], place, predicate="slt", tried=[f"shows {grown} <= {most}"])
-        end = loop.test_first(test, exit, loop.head.name)
-        if end is not None:
-            add_fallback(f, test)
-            f.guesses.append((loop.head.name, rest + most + 1, place))
-            step_last(loop, ranges.definitions[counters[0]][0])
-        return end is not None
+        if not loop.test_first(test, loop.exit_of(loop.head), loop.head.name):
+            return False
+        add_fallback(f, test)
+        f.guesses.append((loop.head.name, rest + most + 1, place))
+        step_last(loop, ranges.definitions[counters[0]][0])
+        return True
     return False
 
 
@@ -217,9 +213,7 @@ def add_count(loop: Loop, gap: Form, least: int, most: int) -> None:
     before = f.predecessors()[head.name]
     count, more = f.fresh("rounds"), {name: f.fresh("rounds") for name in before if name in loop.body}
     test = Instruction("icmp", f.fresh("c"), "i64", [count, most - least + 1], place, predicate="slt", tried=[f"shows {count} <= {most - least}"])
-    exit = loop.exit_of(head)
-    end = loop.test_first(test, exit, head.name)
-    if end is None:
+    if not loop.test_first(test, loop.exit_of(head), head.name):
         return
     head.phis.append(Instruction("phi", count, "i64", [], place, incoming=[(more.get(name, 0), name) for name in before]))
     for name, register in more.items():
