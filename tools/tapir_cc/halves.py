@@ -1,9 +1,10 @@
-"""PARALLEL_FOR_HALVES. In: a function with a loop of detaches behind which `__tapir_halves()` is called. Out: the function with a call in place of the loop, and
-a new function that halves a range, gives the left half to a child, and runs the loop's body over what is left at depth 0."""
+"""Parts that become functions of their own. PARALLEL_FOR_HALVES: in: a function with a loop of detaches behind which `__tapir_halves()` is called; out: the function
+with a call in place of the loop, and one that halves a range, gives the left half to a child, and runs the loop's body over what is left at depth 0."""
 from __future__ import annotations
+from dataclasses import replace
 from .children import blocks_of_child
 from .forms import Form
-from .ir import NEGATED, Block, Fault, Function, Instruction, Parameter
+from .ir import NEGATED, Block, Fault, Function, Graph, Instruction, Parameter, Place
 from .llvm_text import cells, scalar
 from .ranges import Ranges, gaps
 
@@ -52,24 +53,18 @@ def make_halves(f: Function) -> list[Function]:
     return made
 
 
-class Halving:
-    def __init__(self, f: Function, loop: Loop, name: str):
-        self.f, self.loop, self.definitions = f, loop, f.definitions()
-        loop.entry.body += loop.head.body
-        self.free = self.free_registers()
+class Outlined:
+    """Blocks of a function that become one of their own. What they take from outside are its parameters."""
+    def __init__(self, f: Function, blocks: set[str], more: list, own: set[str], name: str, place: Place, require):
+        self.f, self.blocks, self.place, self.definitions = f, blocks, place, f.definitions()
+        inside = {x.result for block in blocks for x in f.blocks[block].all() if x.result} | own
+        used = [v for block in sorted(blocks) for x in f.blocks[block].all() for v in x.uses()] + more
+        self.free = list(dict.fromkeys(v for v in used if isinstance(v, str) and v.startswith("%") and v not in inside))
         parameters = [self.parameter(register) for register in self.free]
-        self.low, self.high, self.depth = f.fresh("lo"), f.fresh("hi"), f.fresh("depth")
-        parameters += [Parameter("i64", register) for register in (self.low, self.high, self.depth)]
-        loop.require(all(p.type in ("i64", "i32", "ptr") for p in parameters) and len(parameters) <= 16)
-        self.g = Function(name, "void", parameters, loop.place)
+        require(all(p.type in ("i64", "i32", "ptr") for p in parameters) and len(parameters) <= 13)
+        self.g = Function(name, "void", parameters, place)
         self.g.names, self.g.counted, self.g.c_names = f.names, f.counted, f.c_names
-        self.types = [p.type for p in parameters]
-
-    def free_registers(self) -> list[str]:
-        """The registers that the body takes from outside, and those of the range."""
-        inside = {x.result for name in self.loop.body for x in self.f.blocks[name].all() if x.result} | {self.loop.counter.result}
-        used = [v for name in sorted(self.loop.body) for x in self.f.blocks[name].all() for v in x.uses()] + [self.loop.low, self.loop.high]
-        return list(dict.fromkeys(v for v in used if isinstance(v, str) and v.startswith("%") and v not in inside))
+        self.g.blocks["entry"] = Block("entry")
 
     def parameter(self, register: str) -> Parameter:
         given = next((p for p in self.f.parameters if p.name == register), None)
@@ -80,6 +75,67 @@ class Halving:
             return Parameter("ptr", register, cells(x.type) * WIDTH.get(scalar(x.type), 8))
         return Parameter(x.type, register)
 
+    def claim(self, left, predicate, right) -> None:
+        self.g.entry.body.append(Instruction("claim", args=[left, right], place=self.place, kind="requires", predicate=predicate))
+
+    def claims(self) -> Ranges:
+        """Requires what f requires of its parameters among these. Returns the bounds of f's registers by all that it requires."""
+        names = {p.name for p in self.g.parameters}
+        for x in [x for x in self.f.instructions() if x.op == "claim" and x.kind == "requires"]:
+            compare = x if x.predicate else self.definitions.get(x.args[0], (x,))[0]
+            if not compare.predicate:
+                continue
+            predicate = compare.predicate if x.holds else NEGATED[compare.predicate]
+            ranges = Ranges(self.f)
+            self.f.needs += [(Form(), gap) for gap in gaps(predicate, ranges.form(compare.args[0]), ranges.form(compare.args[1]))]
+            if all(not isinstance(v, str) or v in names for v in compare.args):
+                self.claim(compare.args[0], predicate, compare.args[1])
+        ranges, self.f.needs = Ranges(self.f), []
+        return ranges
+
+    def move(self, old: str, new: Instruction) -> None:
+        """Moves the blocks; where they reattach to `old`, they end with `new`."""
+        for name in [name for name in self.f.blocks if name in self.blocks]:
+            self.g.blocks[name] = moved = self.f.blocks.pop(name)
+            if moved.end.op == "reattach" and moved.end.targets == [old]:
+                moved.end = replace(new, place=moved.end.place)
+
+
+def outline_nested(f: Function) -> list[Function]:
+    """The child of a detach in a loop that has children of its own becomes a call: in a function of their own they are told apart."""
+    made: list[Function] = []
+    for detach in f.detaches():
+        inside = blocks_of_child(f, detach) if detach.name in f.blocks else set()
+        in_loop = any(detach.name in body for body in Graph(f).loops.values())
+        if not in_loop or not any(f.blocks[name].end.op == "detach" for name in inside):
+            continue
+        place, (child, continuation) = detach.end.place, detach.end.targets
+        outlined = Outlined(f, inside, [], set(), f"{f.name}.child.{len(made) + 1}", place, lambda holds: None)
+        ranges, g = outlined.claims(), outlined.g
+        bounded = [p for p in g.parameters if p.type == "i64" and p.name not in ranges.parameters]
+        for p, (low, high) in [(p, ranges.interval(p.name)) for p in bounded]:
+            for predicate, bound in (("sge", low), ("sle", high)):
+                if bound is not None:
+                    outlined.claim(p.name, predicate, bound)
+        g.entry.end = Instruction("br", place=place, targets=[child])
+        outlined.move(continuation, Instruction("ret", None, "void"))
+        call = Instruction("call", None, "void", list(outlined.free), place, callee=g.name, types=[p.type for p in g.parameters])
+        end = Instruction("reattach", place=place, targets=[continuation], region=detach)
+        detach.end.targets[0] = f.new_block("child", [call], end).name
+        made += outline_nested(g) + [g]
+    return made
+
+
+class Halving:
+    def __init__(self, f: Function, loop: Loop, name: str):
+        self.f, self.loop = f, loop
+        loop.entry.body += loop.head.body
+        self.outlined = Outlined(f, loop.body, [loop.low, loop.high], {loop.counter.result}, name, loop.place, loop.require)
+        self.g, self.free = self.outlined.g, self.outlined.free
+        self.low, self.high, self.depth = self.g.fresh("lo"), self.g.fresh("hi"), self.g.fresh("depth")
+        self.g.parameters += [Parameter("i64", register) for register in (self.low, self.high, self.depth)]
+        self.types = [p.type for p in self.g.parameters]
+
     def make(self) -> Function:
         deepest = self.add_claims()
         self.add_blocks()
@@ -87,23 +143,9 @@ class Halving:
         return self.g
 
     def add_claims(self) -> int:
-        """What the function requires: of its range, and what f requires of what it takes. Returns the depth of the first call."""
-        names = {p.name for p in self.g.parameters}
-        entry = self.g.blocks["entry"] = Block("entry")
-
-        def claim(left, predicate, right):
-            entry.body.append(Instruction("claim", args=[left, right], place=self.loop.place, kind="requires", predicate=predicate))
-        for x in self.f.instructions():
-            if x.op == "claim" and x.kind == "requires" and self.definitions.get(x.args[0], (x,))[0].op == "icmp":
-                compare = self.definitions[x.args[0]][0]
-                predicate = compare.predicate if x.holds else NEGATED[compare.predicate]
-                ranges = Ranges(self.f)
-                self.f.needs += [(Form(), gap) for gap in gaps(predicate, ranges.form(compare.args[0]), ranges.form(compare.args[1]))]
-                if all(not isinstance(v, str) or v in names for v in compare.args):
-                    claim(compare.args[0], predicate, compare.args[1])
-        ranges = Ranges(self.f)
+        """What the function requires of its range. Returns the depth of the first call."""
+        ranges, claim = self.outlined.claims(), self.outlined.claim
         least, most = ranges.constants(ranges.form(self.loop.low))[0], ranges.constants(ranges.form(self.loop.high))[1]
-        self.f.needs = []
         if least is not None:
             claim(self.low, "sge", least)
         if most is not None:
@@ -111,7 +153,7 @@ class Halving:
         deepest = HALVINGS if least is None or most is None else max(1, min(HALVINGS, (most - least).bit_length() - 3))
         claim(self.low, "sge", self.loop.low), claim(self.low, "sle", self.high), claim(self.high, "sle", self.loop.high)
         claim(self.depth, "sge", 0), claim(self.depth, "sle", deepest)
-        entry.body.append(Instruction("call", None, "void", [self.depth, deepest], self.loop.place, callee="@__tapir_measure"))
+        self.g.entry.body.append(Instruction("call", None, "void", [self.depth, deepest], self.loop.place, callee="@__tapir_measure"))
         return deepest
 
     def add_blocks(self) -> None:
@@ -138,10 +180,7 @@ class Halving:
         block(right, [again(fresh["mid"], self.high)], Instruction("ret", None, "void", [], place))
         phi = Instruction("phi", counter, "i64", [], place, incoming=[(self.low, "entry"), (fresh["next"], latch)])
         block(head, [make("icmp", "more", counter, self.high, predicate="slt")], end("cbr", self.loop.child, done, args=[fresh["more"]]), [phi])
-        for name in [name for name in self.f.blocks if name in self.loop.body]:
-            g.blocks[name] = moved = self.f.blocks.pop(name)
-            if moved.end.op == "reattach" and moved.end.targets == [self.loop.latch.name]:
-                moved.end = Instruction("br", place=moved.end.place, targets=[latch])
+        self.outlined.move(self.loop.latch.name, Instruction("br", targets=[latch]))
         block(latch, [make("add", "next", counter, 1, nsw=True)], end("br", head))
         block(done, [], Instruction("ret", None, "void", [], place))
 

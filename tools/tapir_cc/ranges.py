@@ -19,6 +19,7 @@ def gaps(predicate: str, left: Form, right: Form) -> list[Form]:
 class Ranges:
     def __init__(self, function: Function):
         self.function, self.graph, self.definitions = function, Graph(function), function.definitions()
+        self.needs = list(function.needs)
         self.parameters = {p.name for p in function.parameters if p.type != "ptr"}
         self.said: dict[str, list] = {register: list(bounds) for register, bounds in function.said.items()}
         for x in function.instructions():
@@ -46,7 +47,7 @@ class Ranges:
 
     def of_parameter(self, register: str) -> Bounds:
         best: list[Optional[Form]] = [None, None]
-        for low, high in self.function.needs:
+        for low, high in self.needs:
             gap = high - low
             factor = gap.terms.get(register, 0)
             if abs(factor) != 1:

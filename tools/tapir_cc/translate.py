@@ -4,7 +4,7 @@ from __future__ import annotations
 from .children import drop_calls, make_children, make_syncs, take_claims
 from .claims import Claims
 from .clean import clean
-from .halves import make_halves
+from .halves import make_halves, outline_nested
 from .ir import Fault, Function, Place
 from .llvm_text import Module, cells, read, scalar
 from .memory import Addresses, make_zeros, measure_objects, part_cases
@@ -24,8 +24,10 @@ def translate(text: str, entry: str, is_thorough: bool = False) -> tuple[Module,
         take_claims(f)
         make_children(f)
         clean(f)
-        functions += make_halves(f) + [f]
-        clean(f)
+        for part in outline_nested(f) + [f]:
+            clean(part)
+            functions += make_halves(part) + [part]
+            clean(part)
     by_name = {f.name: f for f in functions}
     for f in functions:
         Widths(f).apply()

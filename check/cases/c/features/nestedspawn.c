@@ -1,4 +1,4 @@
-// refused 603 line 5
+// accepted
 #include "tapir.h"
 int64_t a[64][8];
 int64_t kernel(void) {
