@@ -4,7 +4,6 @@ from __future__ import annotations
 import re
 import subprocess
 from dataclasses import dataclass
-from typing import Optional
 from .clean import clean
 from .hints import Hints, rests_of_loops, steps_of_goals
 from .ir import Function, Instruction

@@ -17,12 +17,13 @@ class Widths:
 
     def apply(self) -> None:
         f = self.f
+        self.bits_at_ends()
         for p in f.parameters:
             if p.type not in ("i64", "i32", "ptr"):
-                raise Fault(f.place, f"parameter {p.name[1:]} is not taken", "parameters are int64_t, int, or arrays of these")
+                raise Fault(f.place, f"parameter {p.name[1:]} is not taken", "parameters are int64_t, int, bool, or arrays of numbers")
             p.type = "i64" if p.type == "i32" else p.type
         if f.returns not in ("i64", "i32", "void"):
-            raise Fault(f.place, f"what {f.name[1:]} returns is not taken", "a result is int64_t, int or void")
+            raise Fault(f.place, f"what {f.name[1:]} returns is not taken", "a result is int64_t, int, bool or void")
         f.returns = "i64" if f.returns == "i32" else f.returns
         for block in f.blocks.values():
             out: list[Instruction] = []
@@ -36,6 +37,33 @@ class Widths:
                     x.type = "i64"
                 x.types = ["i64" if type in ("i32", "i8") else type for type in x.types]
         f.substitute(self.by)
+
+    def bits_at_ends(self) -> None:
+        """bool parameters and results are numbers, 0 or 1."""
+        f = self.f
+        for p in [p for p in f.parameters if p.type == "i1"]:
+            bit, p.name, p.type = p.name, f.fresh(p.name), "i64"
+            f.c_names.setdefault(p.name, bit[1:])
+            at = next((k for k, x in enumerate(f.entry.body) if x.op != "alloca"), len(f.entry.body))
+            f.entry.body.insert(at, Instruction("icmp", bit, "i64", [p.name, 0], f.place, predicate="ne"))
+        if f.returns == "i1":
+            f.returns = "i64"
+            for block in f.blocks.values():
+                if block.end.op == "ret" and isinstance(block.end.args[0], str):
+                    block.body.append(Instruction("zext", f.fresh("bit"), "i64", list(block.end.args), block.end.place, source="i1"))
+                    block.end.args = [block.body[-1].result]
+                block.end.type = "i64" if block.end.op == "ret" else block.end.type
+
+    def call_of_bits(self, x: Instruction) -> bool:
+        """Passes bits as numbers, and takes a number for a bit."""
+        for k, type in enumerate(x.types):
+            if type == "i1":
+                x.args[k], x.types[k] = self.new("zext", [x.args[k]], x, "i64", "i1") if isinstance(x.args[k], str) else x.args[k], "i64"
+        if x.type != "i1":
+            return True
+        bit, x.result, x.type = x.result, self.f.fresh("w"), "i64"
+        self.made += [x, Instruction("icmp", bit, "i64", [x.result, 0], x.place, predicate="ne")]
+        return False
 
     def new(self, op: str, args: list[Value], x: Instruction, type: str = "i64", source: Optional[str] = None) -> str:
         made = Instruction(op, self.f.fresh("w"), type, args, x.place, source=source)
@@ -56,6 +84,8 @@ class Widths:
             x.cell = x.type
             if x.type == "i8":
                 raise Fault(x.place, "char and bool are not taken in memory", "write int64_t or int")
+        elif x.op == "call" and "i1" in [x.type, *x.types]:
+            return self.call_of_bits(x)
         elif x.op == "sext" and x.source == "i32":
             self.by[x.result] = x.args[0]
             return False

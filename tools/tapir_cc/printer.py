@@ -3,7 +3,7 @@ are mended and told."""
 from __future__ import annotations
 import re
 from dataclasses import dataclass, field
-from .forms import Form, Value
+from .forms import Value
 from .ir import BINARY, CONVERSIONS, Block, Fault, Function, Instruction, Place, order_of
 from .llvm_text import Module, cells
 
