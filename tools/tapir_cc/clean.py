@@ -53,15 +53,22 @@ def fold_phis(f: Function) -> bool:
 
 
 def drop_unused(f: Function) -> bool:
-    used = {value for x in f.instructions() for value in [*x.uses(), x.object] if value != x.result}
-    used |= {value for x in f.instructions() for fields in x.fields_of_fallbacks() for value in fields.get("args", ())}
-    dead = False
+    """What no effect rests on goes, also what only uses itself round a loop."""
+    definitions, live = f.definitions(), set()
+    work = [x for x in f.instructions() if x.op not in PURE]
+    while work:
+        x = work.pop()
+        later = [value for fields in x.fields_of_fallbacks() for value in fields.get("args", ())]
+        new = {value for value in [*x.uses(), *later, x.object] if value in definitions} - live
+        live |= new
+        work += [definitions[value][0] for value in new]
+    dropped = False
     for block in f.blocks.values():
         for part in (block.phis, block.body):
-            kept = [x for x in part if x.op not in PURE or x.result in used]
-            dead |= len(kept) < len(part)
+            kept = [x for x in part if x.op not in PURE or x.result in live]
+            dropped |= len(kept) < len(part)
             part[:] = kept
-    return dead
+    return dropped
 
 
 def ends_of_detaches(f: Function) -> set[str]:

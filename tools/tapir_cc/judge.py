@@ -87,7 +87,7 @@ class Judge:
     def add_steps(self, line: Line, verdict: Verdict) -> bool:
         """Shows what is refused by smaller steps, once."""
         x = line.of
-        if verdict.rule not in (501, 505, 506, 508) or line.kind not in ("instruction", "tried"):
+        if verdict.rule not in (501, 502, 503, 505, 506, 508) or line.kind not in ("instruction", "tried"):
             return False
         names = {printed: register for register, printed in line.function.printed.items()}
         new = [f"shows {step} >= 0" for step in steps_of_goals(self.program.explained(), names, verdict.at)]

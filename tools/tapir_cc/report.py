@@ -196,7 +196,10 @@ class Report:
         loaded = next((v for x in made if x.op == "phi" for v, _ in x.incoming if v in self.names.definitions and self.names.definitions[v][0].op == "load"), None)
         if loaded:
             return f"test {self.names.of(loaded, 4)} before the loop: memory may hold anything"
-        if any(x.op in ("load", "call", "and", "or", "xor", "srem", "urem", "mul") for x in made):
+        called = next((x.callee[1:] for x in made if x.op == "call"), None)
+        if called:
+            return f"write ENSURES in {called}: what its RESULT may be"
+        if any(x.op in ("load", "and", "or", "xor", "srem", "urem", "mul") for x in made):
             return f"test it before: if ({self.goal()}) .. , or mask an index with & 63"
         if any(x.op == "phi" for x in made):
             return f"add INVARIANT({self.goal()}) in the loop" if self.rule != 505 else "say more in INVARIANT, or test it in the loop"
