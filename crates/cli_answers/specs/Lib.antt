@@ -1,1 +1,1 @@
-pub mod Undecided
+pub mod Granted

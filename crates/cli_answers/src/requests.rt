@@ -1,7 +1,7 @@
 //! What is answered before a module is judged.
 
 ghost use Rattle.std.specs.Prelude.{◌≡◌};
-ghost use Rattle.cli_words.specs.Asked.{is_bounded};
+ghost use Rattle.cli_answers.specs.Granted.{granted_by};
 
 use crate::json::answer_json;
 use crate::reasons::print_rule;
@@ -19,7 +19,7 @@ const USUAL_EFFORT: u64 = 1_000_000_000;
 
 /// The effort that a request grants.
 pub fn effort_of(request: &Request) -> Effort
-    ensures { result ≡ is_bounded request.now.effort }
+    ensures { result ≡ granted_by request.now.effort }
 {
     match request.effort {
         Grant::Usual => Effort::of(USUAL_EFFORT),

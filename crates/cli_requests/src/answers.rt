@@ -1,7 +1,7 @@
 //! Answers about a module that the verifier took, but a run on threads.
 
 use crate::debugging::debug;
-use crate::judging::{Judged, judged};
+use crate::judging::{Judgement, judged};
 use cli_answers::{Beside, Question, Status, Verb, print_known, print_verified};
 use cli_runs::{Job, run_drawn, run_serial, tell_replay};
 use std::io;
@@ -32,8 +32,8 @@ pub fn answer<R: Read, W: Write>(
     beside: &mut Beside,
 ) -> io::Result<Status> {
     match judged(question, output, beside)? {
-        Judged::Answered(status) => Ok(status),
-        Judged::Accepted(accepted) => {
+        Judgement::Answered(status) => Ok(status),
+        Judgement::Accepted(accepted) => {
             answer_verified(&accepted.job(question), input, output, beside)
         }
     }

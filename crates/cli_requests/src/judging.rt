@@ -33,7 +33,7 @@ impl Accepted {
 
 /// What comes of a question before anything runs.
 #[derive(Drop)]
-pub enum Judged {
+pub enum Judgement {
     /// It is answered.
     Answered(Status),
     /// It is about runs of this module, or what is known of it.
@@ -45,9 +45,9 @@ pub fn judged<W: Write>(
     question: Question<'_>,
     output: &mut W,
     beside: &mut Beside,
-) -> io::Result<Judged> {
+) -> io::Result<Judgement> {
     if let Some(status) = answer_unjudged(&question, output, beside)? {
-        return Ok(Judged::Answered(status));
+        return Ok(Judgement::Answered(status));
     }
     let Question {
         alloc,
@@ -58,14 +58,14 @@ pub fn judged<W: Write>(
     } = question;
     let Some(text) = module else {
         let status = print_unreadable(alloc, request.file.as_str(), output)?;
-        return Ok(Judged::Answered(status));
+        return Ok(Judgement::Answered(status));
     };
     let Verdict { text, answer } = verdict_on(alloc, state, request, text, beside)?;
     match answer {
-        Ok(verified) => Ok(Judged::Accepted(Accepted { text, verified })),
+        Ok(verified) => Ok(Judgement::Accepted(Accepted { text, verified })),
         Err(unverified) => {
             let status = answer_unverified(&question, &unverified, output, beside)?;
-            Ok(Judged::Answered(status))
+            Ok(Judgement::Answered(status))
         }
     }
 }

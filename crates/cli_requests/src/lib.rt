@@ -17,4 +17,4 @@ pub use cli_runs::{
     Course, Crew, Effort, Event, Finished, Job, Machine, is_told, prepared, print_run,
     print_unprepared, tell_course,
 };
-pub use judging::{Accepted, Judged, judged};
+pub use judging::{Accepted, Judgement, judged};

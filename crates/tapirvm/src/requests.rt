@@ -4,8 +4,8 @@ use crate::clocks::microseconds_since;
 use crate::recorded::run_told;
 use crate::speedup::run_speedup;
 use cli_requests::{
-    Beside, Job, Judged, Question, Request, Status, Verb, answer_verified, fail, is_told, judged,
-    prepared, print_run, print_unprepared,
+    Beside, Job, Judgement, Question, Request, Status, Verb, answer_verified, fail, is_told,
+    judged, prepared, print_run, print_unprepared,
 };
 use deque_pool::OpenGate;
 use std::io;
@@ -88,8 +88,8 @@ fn answer<T: Threads + Wait + Clock + Sync, R: Read, W: Write>(
 ) -> io::Result<Status> {
     let begun = Instant::now(rt)?;
     match judged(question, output, beside)? {
-        Judged::Answered(status) => Ok(status),
-        Judged::Accepted(accepted) => {
+        Judgement::Answered(status) => Ok(status),
+        Judgement::Accepted(accepted) => {
             beside.times.verifying = microseconds_since(rt, begun)?;
             run_timed(rt, &accepted.job(question), input, output, beside)
         }
