@@ -13,7 +13,8 @@
  * - A handle (of a module, a board, a worker, a stop) is all zeroes (TAPIRVM_NOTHING), or as a call left it. The host writes nothing into it, and
  *   never uses two copies of one: it is moved only where the old place is not used again. It is for one call at a time, in any thread, where a lock,
  *   a start or a join of a thread orders the calls. What a handle holds is lost where it is overwritten by other means than a call.
- * - A worker meets the board that it was made by.
+ * - A worker meets a board of the module that its own board has. (Where the two lie apart the call answers TAPIRVM_FOREIGN; the tests hold that, no
+ *   contract does.)
  * - malloc, realloc and free are of one allocator, and align a block to each power of two up to 16 that divides its size. They may give none at any
  *   time: so a host ends a call that takes too long.
  * - No call is made from a signal handler, or in the child of a process with threads before it executes a program.
@@ -53,7 +54,7 @@ enum tapirvm_status {
     TAPIRVM_NOT_ENDED = 6,        /* the schedule is over, or nobody works on the board, and the run has not ended */
     TAPIRVM_NO_RULE = 7,          /* no rule has this number */
     TAPIRVM_NOT_FOUND = 8,        /* there is none of this name or number */
-    TAPIRVM_FOREIGN = 9,          /* the worker was not made by this board */
+    TAPIRVM_FOREIGN = 9,          /* the worker was made by a board of another module */
     TAPIRVM_WORK = 10,            /* the worker has a task: tapirvm_turn is next */
     TAPIRVM_IDLE = 11,            /* there is no task for the worker now */
     TAPIRVM_BAD_ARGUMENTS = 801,  /* the arguments are not those of @main */
@@ -124,7 +125,7 @@ void tapirvm_open(const uint8_t *text, size_t length, uint64_t seed_low, uint64_
                   struct tapirvm_handle *handle);
 
 /* Runs the serial elision of the module that is kept. TAPIRVM_DONE, _OTHER_CELLS, _CLOSED, _OUT_OF_FUEL, _BAD_ARGUMENTS, _OUT_OF_MEMORY or _STOPPED:
- * the stop is looked at before the first instruction, and behind each 1,048,576 at the latest. */
+ * the stop is looked at before the first instruction, and again behind each 262,144 at the latest. */
 void tapirvm_run(struct tapirvm_handle *handle, uint64_t fuel, struct tapirvm_stop *stop, const int64_t *arguments, size_t argument_count,
                  int64_t *cells, size_t cell_count, struct tapirvm_outcome *outcome);
 
@@ -198,10 +199,10 @@ void tapirvm_board_open(struct tapirvm_handle *handle, uint64_t fuel, struct tap
 uint32_t tapirvm_worker_open(struct tapirvm_board *board, uint8_t number, struct tapirvm_worker *worker);
 
 /* Under the host's lock: does at the board what the worker wants. It needs no memory for the handles.
- * TAPIRVM_WORK: tapirvm_turn is next, then this again. _IDLE: there is no task for it now. _DONE: the run has ended. _STOPPED: the stop is set.
- * _OUT_OF_FUEL: as many instructions are on the board as the fuel allows, and no worker begins more. Each worker that had begun by then puts at most
- * 66,000 on the board still. _OUT_OF_MEMORY: the run cannot go on, for any worker. _CLOSED: one of the handles holds nothing.
- * `offered` says how many tasks others may take now. */
+ * TAPIRVM_WORK: tapirvm_turn is next, then this again. _IDLE: there is no task for it now. _DONE: the run has ended. _STOPPED: the stop is set, and
+ * nothing was done. _OUT_OF_FUEL: as many instructions are on the board as the fuel allows, and nobody begins more; those of the one meeting that came
+ * to the fuel may pass it, by 66,000 at most. A run that does no more than its fuel never comes to it. _OUT_OF_MEMORY: the run cannot go on, for any
+ * worker. _CLOSED: one of the handles holds nothing. _FOREIGN. `offered` says how many tasks others may take now. */
 uint32_t tapirvm_meet(struct tapirvm_board *board, struct tapirvm_worker *worker, size_t *offered);
 
 /* Without the lock: the worker goes on by itself, 65,536 instructions at most, unless the stop is set, which it looks at before the first and behind
@@ -218,7 +219,7 @@ uint32_t tapirvm_board_fuel(struct tapirvm_board *board, uint64_t more);
 uint32_t tapirvm_board_schedule(struct tapirvm_board *board, uint8_t *out, size_t room, size_t *needed);
 
 /* TAPIRVM_DONE, where the run has ended: the answer is that of the serial run, and the board holds nothing. _NOT_ENDED with the instructions on the
- * board and the peak so far: the board keeps the run. Else the board keeps it too: _OTHER_CELLS, _OUT_OF_MEMORY. Or it held nothing: _CLOSED. */
+ * board and the peak so far, and _OTHER_CELLS: the board keeps the run. _OUT_OF_MEMORY: the run is lost, and the board holds nothing. _CLOSED. */
 void tapirvm_board_finish(struct tapirvm_board *board, int64_t *cells, size_t cell_count, struct tapirvm_outcome *outcome);
 
 /* Give back what the board holds, and what the worker does. */
@@ -230,11 +231,11 @@ void tapirvm_worker_close(struct tapirvm_worker *worker);
  * Names are bytes without the @ or % before them. As many bytes of a name are written as there is room for, without a 0 at the end, and `needed` says
  * how many there are; where there is no name it is 0, and nothing is written. */
 
-/* What @main's `requires` say of one argument, as far as they name it alone with a factor of 1 or -1. Where there is no such bound the number is 0. */
+/* What @main's `requires` say of one argument, as far as they set it alone against a number, as `%n >= 1`. Without such a bound the number is 0. */
 struct tapirvm_range {
     bool has_low;
     bool has_high;
-    int64_t low;  /* the greatest of the low bounds, */
+    int64_t low;  /* the greatest of the low bounds: no argument below it is taken, */
     int64_t high; /* and the least of the high ones */
 };
 
@@ -252,7 +253,8 @@ uint32_t tapirvm_global(struct tapirvm_handle *handle, const uint8_t *name, size
 uint32_t tapirvm_global_at(struct tapirvm_handle *handle, size_t number, uint8_t *out, size_t room, size_t *needed, uint64_t *first,
                            uint64_t *cells);
 
-/* The name of the argument of this number, from 0, and what `requires` says of it. TAPIRVM_DONE; else the range has no bound: _CLOSED, _NOT_FOUND. */
+/* The name of the argument of this number, from 0, and what `requires` says of it. TAPIRVM_DONE; else the range has no bound: _CLOSED, _NOT_FOUND.
+ * (That the name is the text's is no contract: the tests hold it. A program keeps no names of registers.) */
 uint32_t tapirvm_argument_at(struct tapirvm_handle *handle, size_t number, uint8_t *out, size_t room, size_t *needed, struct tapirvm_range *range);
 
 /* ---- A text that is judged anew by each call */
