@@ -1,8 +1,8 @@
 //! The verdict on a text, and the call that answers it alone.
 
-ghost use Rattle.std.specs.Prelude.{◌≡◌, ◌⊎◌, List, ℕ, true};
+ghost use Rattle.std.specs.Prelude.{◌≡◌, ◌≢◌, ◌⊎◌, Bool, IsTrue, List, ℕ};
 ghost use Rattle.refusal.specs.declared.refused.Refused.TheVariants.{Fault};
-ghost use Rattle.kernel_c.specs.Told.{Accepts, IsRejection, IsVerdictStatus, Refuses, cells_in, done, out_of_memory, refused};
+ghost use Rattle.kernel_c.specs.Told.{Accepts, IsRejection, IsVerdictStatus, Refuses, cells_in, done, out_of_effort, out_of_memory, refused, unbounded};
 ghost use Rattle.verifier.specs.Accepted.{IsUnverified};
 ghost use Rattle.verifier.specs.Budgets.{IsDepthOf, budget_of};
 
@@ -46,7 +46,8 @@ fn refusal(why: Refused) -> Verdict
 
 /// The verdict on a text that is not accepted.
 pub fn rejection(why: Unverified) -> Verdict
-    ensures refused { (text : List ℕ) → IsUnverified text true why → result.status ≡ refused → Refuses text result.rule result.line }
+    ensures refused { (text : List ℕ) (bounded : Bool) → IsUnverified text bounded why → result.status ≡ refused → Refuses text result.rule result.line }
+    ensures effort { (text : List ℕ) (bounded : Bool) → IsUnverified text bounded why → result.status ≡ out_of_effort → IsTrue bounded }
     ensures statuses { IsRejection result.status }
 {
     match why {
@@ -59,6 +60,7 @@ pub fn rejection(why: Unverified) -> Verdict
 fn judged(alloc: Global, text: &[u8], seed: &Seed, effort: u64) -> Verdict
     ensures accepted { result.status ≡ done → Accepts text.now result }
     ensures refused { result.status ≡ refused → Refuses text.now result.rule result.line }
+    ensures effort { result.status ≡ out_of_effort → effort ≢ unbounded }
     ensures statuses { IsVerdictStatus result.status }
 {
     match verify_seeded(alloc, seed, text, effort) {
@@ -79,6 +81,7 @@ pub extern "C" fn tapirvm_verify(
 )
     ensures accepted { verdict.new.status ≡ done → Accepts text.now verdict.new }
     ensures refused { verdict.new.status ≡ refused → Refuses text.now verdict.new.rule verdict.new.line }
+    ensures effort { verdict.new.status ≡ out_of_effort → effort ≢ unbounded }
     ensures statuses { IsVerdictStatus verdict.new.status }
 {
     let seed = Seed {

@@ -1,7 +1,7 @@
 //! Schedules as text.
 //!
-//! A schedule is a list of events. `read_schedule` and `print_schedule` turn its text into the list and back: each list has
-//! one spelling, and each text that is read is the spelling of its list.
+//! A schedule is a list of events. `read_schedule` and `print_schedule` turn its text into the list and back, and `spell_schedule` one that may be too
+//! long: each list has one spelling, and each text that is read is the spelling of its list.
 #![tactic(auto)]
 
 mod fault;
@@ -14,5 +14,5 @@ mod read;
 pub use fault::ScheduleFault;
 pub use line::{Line, read_task};
 pub use numeral::read_number;
-pub use print::print_schedule;
+pub use print::{print_schedule, spell_schedule};
 pub use read::read_schedule;

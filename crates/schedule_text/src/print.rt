@@ -1,10 +1,12 @@
 //! From events to text.
 
-ghost use Rattle.std.specs.Prelude.{◌≡◌, ◌≢◌, ◌++◌, ◌≤◌, ◌<◌, [], ℕ, List, length, flat_map, take, IfOk, OnOk, string_bytes};
+ghost use Rattle.std.specs.Prelude.{◌≡◌, ◌≢◌, ◌++◌, ◌≤◌, ◌<◌, [], ℕ, List, length, flat_map, take, IfOk, IfSome, IsTrue, OnOk, string_bytes};
 ghost use Rattle.std.specs.List.{prefix_len};
 ghost use Rattle.schedule_text.specs.ScheduleText.{IsSchedule};
 ghost use Rattle.schedule_text.specs.Printing.{is_step_of, child_text, steps_text, steal_text, first_count, first_text};
 
+use crate::fault::ScheduleFault;
+use crate::read::read_schedule;
 use frame::{Event, Path};
 use itoa::Buffer;
 use lists::OutOfMemory;
@@ -81,6 +83,19 @@ fn push_first(out: &mut String, first: &Event, events: &[Event]) -> Result<usize
     }
 }
 
+/// The only text that may spell the events.
+fn printed(alloc: Global, events: &[Event]) -> Result<String, OutOfMemory>
+    ensures { IfOk result (λ text. (other : List ℕ) → IsSchedule other events.now → other ≡ string_bytes text) }
+{
+    let mut text = String::new(alloc);
+    let mut rest = events;
+    while !rest.is_empty() {
+        let count = push_first(&mut text, &rest[0], rest)?;
+        rest = rest.split_at(count).1;
+    }
+    Ok(text)
+}
+
 /// The text that spells the events; there is just one.
 ///
 /// The caller's condition: there is one within the limits. So workers are 0 to 63, the numbers of paths are at most
@@ -90,11 +105,48 @@ pub fn print_schedule(alloc: Global, events: &[Event]) -> Result<String, OutOfMe
     ensures spelled { IfOk result (λ text. IsSchedule (string_bytes text) events.now) }
     ensures one { IfOk result (λ text. (other : List ℕ) → IsSchedule other events.now → other ≡ string_bytes text) }
 {
-    let mut text = String::new(alloc);
-    let mut rest = events;
-    while !rest.is_empty() {
-        let count = push_first(&mut text, &rest[0], rest)?;
-        rest = rest.split_at(count).1;
-    }
+    let text = printed(alloc, events)?;
     Ok(text)
+}
+
+/// Whether both are the same event.
+fn is_same(a: &Event, b: &Event) -> bool
+    ensures { IsTrue result → a.now ≡ b.now }
+{
+    match (a, b) {
+        (Event::Step(a), Event::Step(b)) => a == b,
+        (Event::Steal(a, task), Event::Steal(b, other)) => a == b && task.is_same(other),
+        _ => false,
+    }
+}
+
+/// Whether both are the same events.
+fn are_same(a: &[Event], b: &[Event]) -> bool
+    ensures { IsTrue result → a.now ≡ b.now }
+{
+    if a.len() != b.len() {
+        return false;
+    }
+    for place in 0..a.len() {
+        if !is_same(&a[place], &b[place]) {
+            return false;
+        }
+    }
+    true
+}
+
+/// The text that spells the events, where it is within the limits: it is read again to tell.
+///
+/// # Errors
+///
+/// Memory was refused.
+pub fn spell_schedule(alloc: Global, events: &[Event]) -> Result<Option<String>, OutOfMemory>
+    ensures { IfOk result (λ found. IfSome found (λ text. IsSchedule (string_bytes text) events.now)) }
+{
+    let text = printed(alloc, events)?;
+    match read_schedule(alloc, text.as_bytes()) {
+        Ok(read) if are_same(read.as_slice(), events) => Ok(Some(text)),
+        Err(ScheduleFault::Memory) => Err(OutOfMemory),
+        _ => Ok(None),
+    }
 }

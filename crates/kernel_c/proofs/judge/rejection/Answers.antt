@@ -1,4 +1,3 @@
-use Rattle.std.specs.Prelude.{true}
 use Rattle.std.proofs.Common.{subst}
 use Rattle.ranges.specs.declared.unverified.Unverified.{Unverified}
 use Rattle.refusal.specs.declared.refused.Refused.{Refused}
@@ -6,5 +5,8 @@ use Rattle.verifier.specs.Accepted.{IsRefused, IsUnverified}
 use Rattle.kernel_c.proofs.judge.rejection.Goals as goal
 
 pub returns-in-Refused-clause-refused : goal.returns-in-Refused-clause-refused
-returns-in-Refused-clause-refused c = λ text h status.
-    subst (λ (r : Refused). IsRefused text r) (c.refusal.ensures.fault status) (subst (λ (why : Unverified). IsUnverified text true why) c.in-Refused.is h)
+returns-in-Refused-clause-refused c = λ text bounded h status.
+    subst (λ (r : Refused). IsRefused text r) (c.refusal.ensures.fault status) (subst (λ (why : Unverified). IsUnverified text bounded why) c.in-Refused.is h)
+
+pub returns-in-OutOfEffort-clause-effort : goal.returns-in-OutOfEffort-clause-effort
+returns-in-OutOfEffort-clause-effort c = λ text bounded h status. subst (λ (why : Unverified). IsUnverified text bounded why) c.in-OutOfEffort.is h

@@ -1,16 +1,6 @@
 use Rattle.std.proofs.Common.{subst, List, ℕ}
-use Rattle.std.specs.Prelude.{string_bytes}
 use Rattle.schedule_text.specs.ScheduleText.{IsSchedule}
-use Rattle.schedule_text.proofs.Printed.{some_events, more_printed, all_printed}
 use Rattle.schedule_text.proofs.print.print_schedule.Goals as goal
 
-pub loop-rest-preserved : goal.loop-rest-preserved
-loop-rest-preserved c = λ whole is.
-    let more = more_printed whole (string_bytes c.loop-rest.text) c.loop-rest.rest.now c.index-rest-0.result (c.loop-rest.invariant whole is) (some_events c.loop-rest.rest.now c.loop-rest-test.ensures) c.index-rest-0.is in
-    rw (c.in_ok-count.ensures.text, c.split_at.ensures.back, c.in_ok-count.ensures.count) more
-
 pub returns-clause-spelled : goal.returns-clause-spelled
-returns-clause-spelled c = subst (λ (t : List ℕ). IsSchedule t c.args.events.now) (all_printed c.requires.0 (string_bytes c.loop-rest.text) c.loop-rest.rest.now (c.loop-rest.invariant c.requires.0 c.requires.1) c.loop-rest-test.ensures) c.requires.1
-
-pub returns-clause-one : goal.returns-clause-one
-returns-clause-one c = λ other is. all_printed other (string_bytes c.loop-rest.text) c.loop-rest.rest.now (c.loop-rest.invariant other is) c.loop-rest-test.ensures
+returns-clause-spelled c = subst (λ (t : List ℕ). IsSchedule t c.args.events.now) (c.in_ok-text.ensures c.requires.0 c.requires.1) c.requires.1
