@@ -1,4 +1,4 @@
-ghost use Rattle.std.specs.Prelude.{◌≡◌, ◌≢◌, ◌+◌, ◌-◌, ◌^◌, IfErr, IfOk, IfSome, min};
+ghost use Rattle.std.specs.Prelude.{◌≡◌, ◌≢◌, ◌+◌, ◌-◌, ◌^◌, [], IfErr, IfOk, IfSome, min};
 ghost use Rattle.hosted_run.specs.Hosted.{IsProgress, IsTold, RunsFrom, WorksFor, start_of};
 ghost use Rattle.hosted_run.specs.declared.met.Met.TheVariants.{Stopped};
 ghost use Rattle.schedule_core.specs.Admission.{IsAdmitted};
@@ -60,6 +60,7 @@ fn board_as<L: Bench>(
     requires parts { blank.parts ≡ L.parts }
     requires one_each { blank.parts ≡ workers }
     ensures rests { IfOk result (λ made. IsAtRest (origin L.code L.arguments L.memory L.crew) made.0) }
+    ensures new { IfOk result (λ made. made.0.history.events ≡ []) }
     ensures places { IfOk result (λ made. ArePlaces L.code made.1) }
     ensures admitted { IsAdmitted verified.now arguments.now memory workers result }
 {
@@ -220,6 +221,7 @@ impl HostedRun {
     ) -> Result<HostedRun, RunFault>
         requires made { IsMadeFor verified.now memory }
         ensures runs { IfOk result (RunsFrom (origin verified.now arguments.now memory workers)) }
+        ensures new { IfOk result (λ run. run.board.history.events ≡ []) }
         ensures fuel { IfOk result (λ run. run.fuel ≡ fuel) }
         ensures admitted { IsAdmitted verified.now arguments.now memory workers result }
     {

@@ -13,11 +13,12 @@ use crate::block::RunBlock;
 use crate::board_handle::BoardHandle;
 use crate::told::{CLOSED, DONE, LONG_SCHEDULE, OUT_OF_MEMORY};
 use crate::words::put;
+use core::mem::replace_with;
 use lists::OutOfMemory;
 use schedule_text::spell_schedule;
 use shared_run::Event;
 use std::alloc::Global;
-use std::mem::{replace, replace_with};
+use std::mem::replace;
 
 /// The most events of a schedule.
 const MOST_EVENTS: u64 = 1_048_576;
