@@ -1,8 +1,27 @@
 -- What requirements set of one argument.
-use Rattle.std.proofs.Common.{◌≡◌, ◌∙◌, ◌⊎◌, inl, inr, Bool, true, ℕ, ℤ, List, Option, Some, None, is_some, slice_get, subst, sym}
-use Rattle.std.specs.Prelude.{IfSome, unwrap_or}
+use Rattle.std.proofs.Common.{◌≡◌, ◌∙◌, ◌<◌, ◌-ℤ◌, ◌⊎◌, [], pos, unwrap_or, length, get_or, refl, arith, inl, inr, Bool, true, ℕ, ℤ, List, Option, Some, None, is_some, slice_get, subst, sym}
+use Rattle.std.specs.Prelude.{IfSome}
+use Rattle.std.proofs.lemmas.Option.{slice_get_read}
+use Rattle.linear.specs.Forms.{Combination}
+use Rattle.linear.specs.declared.form.Term.{Term}
 use Rattle.program.specs.declared.annotation.Inequality.{Inequality}
 use Rattle.kernel_c.specs.Inside.{IsBound, SetsHigh, SetsLow}
+
+-- ---- one requirement
+
+pub bound_here : (number : ℕ) (alone other : Combination) (term : Term) (bound : ℤ) → length alone.terms ≡ 1 → term ≡ get_or alone.terms 0 term → term.register.0 ≡ number →
+    term.coefficient ≡ pos 1 → other.terms ≡ [] → bound ≡ other.constant -ℤ alone.constant → IsBound number alone other bound
+bound_here number alone other term bound one read register coefficient none difference = record {
+  alone_is = record {
+    one = one;
+    term = term;
+    there = slice_get_read alone.terms (length alone.terms) 0 term refl (omega (arith, one)) read;
+    register = register;
+    coefficient = coefficient;
+  };
+  other_is = none;
+  bound_is = difference;
+}
 
 -- ---- one requirement more
 

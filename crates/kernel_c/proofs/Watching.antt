@@ -8,7 +8,7 @@ use Rattle.store.specs.declared.outcome.Finished.{Finished}
 use Rattle.serial_machine.specs.Promise.{EndsWithinBudget, TakesMore}
 use Rattle.deque_pool.specs.lone.UnderWay.{IsRunOf, IsUnderWay}
 use Rattle.deque_pool.specs.declared.lone.run.LoneRun.{LoneRun}
-use Rattle.kernel_c.specs.Told.{RunsProgram}
+use Rattle.kernel_c.specs.Told.{ExceedsProgram, RunsProgram}
 use Rattle.kernel_c.specs.declared.told.Outcome.{Outcome}
 
 pub end_takes_more : (program : Program) (arguments : List ℤ) (memory : List NamedCells) (done : Finished) (fuel : ℕ) → EndsWithinBudget program arguments memory done → fuel < done.instructions →
@@ -47,3 +47,11 @@ more_fuel program fuel more arguments before after outcome low r = record {
   within = (let w = r.within in omega (arith, low, w));
   shown = r.shown;
 }
+
+-- from numbers that were kept
+pub runs_kept : (program : Program) (fuel : ℕ) (arguments before between after : List ℤ) (outcome : Outcome) → between ≡ before → RunsProgram program fuel arguments between after outcome →
+    RunsProgram program fuel arguments before after outcome
+runs_kept program fuel arguments before between after outcome same r = subst (λ (row : List ℤ). RunsProgram program fuel arguments row after outcome) same r
+
+pub exceeds_kept : (program : Program) (fuel : ℕ) (arguments before between : List ℤ) → between ≡ before → ExceedsProgram program fuel arguments between → ExceedsProgram program fuel arguments before
+exceeds_kept program fuel arguments before between same e = subst (λ (row : List ℤ). ExceedsProgram program fuel arguments row) same e

@@ -16,6 +16,7 @@ use std::alloc::Global as Heap;
 use std::mem::replace;
 
 /// How many globals the module has.
+#[tactic(auto, using(crate::proofs::Holding::globals_held, crate::proofs::Holding::globals_none))]
 #[unsafe(no_mangle)]
 pub extern "C" fn tapirvm_globals(alloc: Heap, handle: &mut Handle) -> usize
     ensures count { result ≡ globals_in handle.old.kernel.program }
@@ -40,6 +41,7 @@ fn count_arguments(program: &Program) -> usize
 }
 
 /// How many arguments the module's `main` takes.
+#[tactic(auto, using(crate::proofs::Holding::arguments_held, crate::proofs::Holding::arguments_none))]
 #[unsafe(no_mangle)]
 pub extern "C" fn tapirvm_arguments(alloc: Heap, handle: &mut Handle) -> usize
     ensures count { result ≡ arguments_in handle.old.kernel.program }
@@ -54,6 +56,7 @@ pub extern "C" fn tapirvm_arguments(alloc: Heap, handle: &mut Handle) -> usize
 }
 
 /// How many cells of its own a frame of the module has at most.
+#[tactic(auto, using(crate::proofs::Holding::frames_held, crate::proofs::Holding::frames_none))]
 #[unsafe(no_mangle)]
 pub extern "C" fn tapirvm_frame_cells(alloc: Heap, handle: &mut Handle) -> u64
     ensures most { HasFrames handle.old.kernel.program result }
@@ -81,6 +84,7 @@ fn find(globals: &[Global], name: &[u8]) -> Option<usize>
 }
 
 /// Finds a global by its name: where its cells begin, and how many it has.
+#[tactic(auto, using(crate::proofs::Finding::global_at))]
 fn global_of(program: &Program, name: &[u8]) -> Option<(u64, u64)>
     ensures found { IfSome result (λ place. IsGlobalOf program.now name.now place.0 place.1) }
     ensures none { IfNone result (LacksName program.now.globals name.now) }
@@ -124,6 +128,7 @@ pub extern "C" fn tapirvm_global(
 }
 
 /// Tells the global of this number: its name is written as far as there is room.
+#[tactic(auto, using(crate::proofs::Finding::global_at))]
 fn told(program: &Program, number: usize, out: &mut [u8], needed: &mut usize) -> Option<(u64, u64)>
     ensures found { IfSome result (λ place. (name : List ℕ) × IsGlobalAt program.now number name place.0 place.1 × StandsIn out.old name out.new needed.new) }
     ensures none { IfNone result ((length program.now.globals ≤ number) × (out.new ≡ out.old) × (needed.new ≡ needed.old)) }

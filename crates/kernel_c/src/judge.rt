@@ -57,6 +57,7 @@ pub fn rejection(why: Unverified) -> Verdict
 }
 
 /// The verdict on a text.
+#[tactic(auto, using(crate::proofs::Bounded::bounded_is))]
 fn judged(alloc: Global, text: &[u8], seed: &Seed, effort: u64) -> Verdict
     ensures accepted { result.status ≡ done → Accepts text.now result }
     ensures refused { result.status ≡ refused → Refuses text.now result.rule result.line }

@@ -28,6 +28,7 @@ fn kept(alloc: Global, kernel: Verified, names: Vec<Name>) -> Option<Handle>
 }
 
 /// The verdict on a text, and the module where it is accepted.
+#[tactic(auto, using(crate::proofs::Bounded::bounded_is))]
 fn opened(alloc: Global, text: &[u8], seed: &Seed, effort: u64) -> (Verdict, Handle)
     ensures accepted { result.0.status ≡ done → Opens text.now result.0 result.1.kernel.program }
     ensures refused { result.0.status ≡ refused → Refuses text.now result.0.rule result.0.line }

@@ -36,6 +36,7 @@ fn unbounded() -> Range
 }
 
 /// What the other form says of the argument of this number, where it stands alone.
+#[tactic(auto, using(crate::proofs::Ranges::bound_here))]
 fn bound(number: usize, alone: &Form, other: &Form) -> Option<i64>
     ensures { IfSome result (IsBound number alone.now other.now) }
 {

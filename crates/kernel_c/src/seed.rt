@@ -39,6 +39,7 @@ impl RandomSource for Seed {
 }
 
 /// The effort that a host's number grants.
+#[tactic(auto, using(crate::proofs::Bounded::all_effort, crate::proofs::Bounded::some_effort))]
 pub fn effort_of(effort: u64) -> Effort
     ensures { result ≡ is_bounded effort }
 {

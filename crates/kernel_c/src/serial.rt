@@ -125,7 +125,7 @@ fn run_on(
 
 /// Runs a prepared module within some fuel over a row of its globals' numbers, unless it is stopped. Where somebody may stop it, and it has more to do than
 /// its first instructions, it begins again, strand by strand.
-#[tactic(auto, using(crate::proofs::Watching::more_fuel))]
+#[tactic(auto, using(crate::proofs::Watching::more_fuel, crate::proofs::Watching::runs_kept, crate::proofs::Watching::exceeds_kept))]
 pub fn run_over(
     alloc: Global,
     kernel: &Prepared,
@@ -157,6 +157,7 @@ pub fn run_over(
 }
 
 /// Verifies a text within some effort, and runs its module within some fuel.
+#[tactic(auto, using(crate::proofs::Bounded::bounded_is))]
 fn run_text(
     alloc: Global,
     text: &[u8],

@@ -115,6 +115,7 @@ fn status_of(explanation: &Explanation) -> u32
 }
 
 /// Why a module is refused, or what it could do without, as far as the effort reaches; and the status.
+#[tactic(auto, using(crate::proofs::Bounded::bounded_is))]
 fn reasons(
     alloc: Global,
     text: &[u8],
