@@ -2,7 +2,7 @@
 use Rattle.std.proofs.Common.{◌≡◌, ◌∙◌, ℕ, ◌+◌, ◌<◌, ◌≤◌, Bool, true, false, List, Some, length, slice_get, take, get_or, refl, ap, subst, sym, arith}
 use Rattle.std.specs.Prelude.{◌≢◌, nat_lt}
 use Rattle.std.proofs.lemmas.Bool.{ltb-false, ltb-true}
-use Rattle.std.proofs.lemmas.Option.{same_Some, slice_get_read, slice_get_within}
+use Rattle.std.proofs.lemmas.Option.{get_or_from_slice_get, same_Some, slice_get_read, slice_get_within}
 use Rattle.program.specs.declared.function.Global.{Global}
 use Rattle.program.specs.declared.function.Program.{Program}
 use Rattle.kernel_c.specs.Told.{cells_of}
@@ -36,3 +36,10 @@ global_at program number name first cells globals global same within read named 
   first_is = begins ∙ ap (λ (l : List Global). cells_of (take number l)) same;
   cells_are = count;
 }
+
+pub global_found : (program : Program) (number : ℕ) (name : List ℕ) (first cells : ℕ) (globals : List Global) (found read : Global) → globals ≡ program.globals →
+    slice_get globals number ≡ Some found → found.name ≡ name → read ≡ get_or globals number read → first ≡ cells_of (take number globals) → cells ≡ read.cells →
+    IsGlobalAt program number name first cells
+global_found program number name first cells globals found read same there named is begins count =
+    let one : read ≡ found = is ∙ get_or_from_slice_get globals number found read there in
+    global_at program number name first cells globals read same (slice_get_within globals number found there) is (ap (λ (g : Global). g.name) one ∙ named) begins count

@@ -1,5 +1,5 @@
 -- What a host is told of what a module has.
-use Rattle.std.specs.Prelude.{◌≡◌, ◌≢◌, ◌⊎◌, ◌+◌, ◌-◌, ◌^◌, ◌≤◌, ◌<◌, ◌-ℤ◌, ℕ, ℤ, All, List, [], ◌∷◌, length, map, min, sum, take, Option, Some, None, true, false, slice_get, pos}
+use Rattle.std.specs.Prelude.{◌≡◌, ◌≢◌, ◌⊎◌, ◌+◌, ◌-◌, ◌^◌, ◌≤◌, ◌<◌, ◌-ℤ◌, ℕ, ℤ, List, [], ◌∷◌, length, map, min, sum, take, Option, Some, None, true, false, slice_get, pos}
 use Rattle.linear.specs.Forms.{Combination}
 use Rattle.linear.specs.declared.form.Term.{Term}
 use Rattle.program.specs.declared.annotation.Inequality.{Inequality}
@@ -37,7 +37,7 @@ frame_cells f = min (sum (map (λ (a : Alloca). a.cells) f.allocas)) (2 ^ 64 - 1
 
 -- no frame of these functions has more
 abbrev pub AreAtMost : List Function → ℕ → Type 0
-AreAtMost functions most = All (λ f. frame_cells f ≤ most) functions
+AreAtMost functions most = (k : ℕ) (f : Function) → slice_get functions k ≡ Some f → frame_cells f ≤ most
 
 abbrev pub HasFrames : Option Program → ℕ → Type 0
 HasFrames None most = most ≡ 0

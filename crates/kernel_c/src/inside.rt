@@ -31,6 +31,7 @@ pub extern "C" fn tapirvm_globals(alloc: Heap, handle: &mut Handle) -> usize
 }
 
 /// How many arguments `main` takes.
+#[tactic(auto, using(crate::proofs::Holding::parameters_held, crate::proofs::Holding::parameters_none))]
 fn count_arguments(program: &Program) -> usize
     ensures { result ≡ arguments_in (Some program.now) }
 {
@@ -84,7 +85,7 @@ fn find(globals: &[Global], name: &[u8]) -> Option<usize>
 }
 
 /// Finds a global by its name: where its cells begin, and how many it has.
-#[tactic(auto, using(crate::proofs::Finding::global_at))]
+#[tactic(auto, using(crate::proofs::Finding::global_found, std::proofs::lemmas::Option::slice_get_within))]
 fn global_of(program: &Program, name: &[u8]) -> Option<(u64, u64)>
     ensures found { IfSome result (λ place. IsGlobalOf program.now name.now place.0 place.1) }
     ensures none { IfNone result (LacksName program.now.globals name.now) }
