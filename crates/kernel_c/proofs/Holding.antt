@@ -5,16 +5,16 @@ use Rattle.program.specs.declared.function.Program.{Program}
 use Rattle.kernel_c.specs.Inside.{AreAtMost, HasFrames, arguments_in, globals_in, parameters_in}
 
 pub globals_held : (handle : Option Program) (program : Program) (count : ℕ) → handle ≡ Some program → count ≡ length program.globals → count ≡ globals_in handle
-globals_held handle program count is all = all ∙ sym (ap globals_in is)
+globals_held handle program count is all = all ∙ sym (ap (λ (o : Option Program). globals_in o) is)
 
 pub globals_none : (handle : Option Program) → handle ≡ None → 0 ≡ globals_in handle
-globals_none handle is = sym (ap globals_in is)
+globals_none handle is = sym (ap (λ (o : Option Program). globals_in o) is)
 
 pub arguments_held : (handle : Option Program) (program : Program) (count : ℕ) → handle ≡ Some program → count ≡ arguments_in (Some program) → count ≡ arguments_in handle
-arguments_held handle program count is all = all ∙ sym (ap arguments_in is)
+arguments_held handle program count is all = all ∙ sym (ap (λ (o : Option Program). arguments_in o) is)
 
 pub arguments_none : (handle : Option Program) → handle ≡ None → 0 ≡ arguments_in handle
-arguments_none handle is = sym (ap arguments_in is)
+arguments_none handle is = sym (ap (λ (o : Option Program). arguments_in o) is)
 
 pub frames_held : (handle : Option Program) (program : Program) (most : ℕ) → handle ≡ Some program → AreAtMost program.functions most → HasFrames handle most
 frames_held handle program most is all = subst (λ (o : Option Program). HasFrames o most) (sym is) all
@@ -23,7 +23,7 @@ pub frames_none : (handle : Option Program) (most : ℕ) → handle ≡ None →
 frames_none handle most is none = subst (λ (o : Option Program). HasFrames o most) (sym is) none
 
 pub parameters_held : (found : Option Function) (main : Function) (count : ℕ) → found ≡ Some main → count ≡ length main.parameters → count ≡ parameters_in found
-parameters_held found main count is all = all ∙ sym (ap parameters_in is)
+parameters_held found main count is all = all ∙ sym (ap (λ (o : Option Function). parameters_in o) is)
 
 pub parameters_none : (found : Option Function) → found ≡ None → 0 ≡ parameters_in found
-parameters_none found is = sym (ap parameters_in is)
+parameters_none found is = sym (ap (λ (o : Option Function). parameters_in o) is)
