@@ -1,7 +1,7 @@
 /* Each call of the library with the Nth request for memory and all later ones refused, and with the Nth alone, for each N: the answer is the known one or
  * TAPIRVM_OUT_OF_MEMORY, which keeps the cells, and all that was taken is given back.
  *
- * Usage: fails FILE ARGUMENT..  (a kernel that is accepted, and arguments that it takes)
+ * Usage: fails CALL FILE ARGUMENT..  (the name of one call below, or `all`; a kernel that is accepted, and arguments that it takes)
  * It is linked with -Wl,--wrap=malloc -Wl,--wrap=realloc -Wl,--wrap=free. */
 #include "tapirvm.h"
 
@@ -52,6 +52,7 @@ static uint8_t text[1 << 16];
 static size_t length, argument_count, cell_count;
 static int64_t arguments[8], cells[MOST_CELLS], before[MOST_CELLS];
 static struct tapirvm_handle kept = TAPIRVM_NOTHING;
+static struct tapirvm_stop stop = TAPIRVM_NOTHING;
 
 static uint32_t try_verify(void) {
     struct tapirvm_verdict verdict = {0};
@@ -84,13 +85,13 @@ static uint32_t try_serial(void) {
 
 static uint32_t try_run(void) {
     struct tapirvm_outcome outcome = {0};
-    tapirvm_run(&kept, TAPIRVM_UNBOUNDED, arguments, argument_count, cells, cell_count, &outcome);
+    tapirvm_run(&kept, TAPIRVM_UNBOUNDED, &stop, arguments, argument_count, cells, cell_count, &outcome);
     return outcome.status;
 }
 
 static uint32_t try_rows(void) {
     struct tapirvm_outcome outcome = {0};
-    tapirvm_rows(&kept, TAPIRVM_UNBOUNDED, argument_count, arguments, argument_count, cell_count, cells, cell_count, &outcome, 1);
+    tapirvm_rows(&kept, TAPIRVM_UNBOUNDED, &stop, argument_count, arguments, argument_count, cell_count, cells, cell_count, &outcome, 1);
     return outcome.status;
 }
 
@@ -99,6 +100,40 @@ static uint32_t try_replay(void) {
     struct tapirvm_outcome outcome = {0};
     tapirvm_replay(&kept, arguments, argument_count, cells, cell_count, 2, (const uint8_t *)schedule, sizeof schedule - 1, &outcome);
     return outcome.status == TAPIRVM_NOT_ENDED ? TAPIRVM_DONE : outcome.status;
+}
+
+static uint32_t try_stop(void) {
+    struct tapirvm_stop one = TAPIRVM_NOTHING, other = TAPIRVM_NOTHING;
+    uint32_t status = tapirvm_stop_open(&one);
+    if (status == TAPIRVM_DONE) status = tapirvm_stop_share(&one, &other);
+    tapirvm_stop_close(&one);
+    tapirvm_stop_close(&other);
+    return status;
+}
+
+/* three workers that one thread lets in, turn by turn; and the schedule before the answer */
+static uint32_t try_board(void) {
+    static uint8_t schedule[1 << 16];
+    struct tapirvm_board board = TAPIRVM_NOTHING;
+    struct tapirvm_worker workers[3] = {TAPIRVM_NOTHING, TAPIRVM_NOTHING, TAPIRVM_NOTHING};
+    struct tapirvm_outcome outcome = {0};
+    size_t offered, needed;
+    tapirvm_board_open(&kept, TAPIRVM_UNBOUNDED, &stop, arguments, argument_count, cells, cell_count, 3, &outcome, &board);
+    uint32_t status = outcome.status;
+    for (size_t k = 0; k < 3 && status == TAPIRVM_DONE; k++) status = tapirvm_worker_open(&board, (uint8_t)k, &workers[k]);
+    for (size_t k = 0; status == TAPIRVM_DONE; k = (k + 1) % 3) {
+        uint32_t met = tapirvm_meet(&board, &workers[k], &offered);
+        if (met == TAPIRVM_DONE) break;
+        status = met == TAPIRVM_WORK ? tapirvm_turn(&workers[k]) : met == TAPIRVM_IDLE ? TAPIRVM_DONE : met;
+    }
+    if (status == TAPIRVM_DONE) status = tapirvm_board_schedule(&board, schedule, sizeof schedule, &needed);
+    if (status == TAPIRVM_DONE) {
+        tapirvm_board_finish(&board, cells, cell_count, &outcome);
+        status = outcome.status;
+    }
+    for (size_t k = 0; k < 3; k++) tapirvm_worker_close(&workers[k]);
+    tapirvm_board_close(&board);
+    return status;
 }
 
 static uint32_t try_explain(void) {
@@ -118,8 +153,8 @@ static uint32_t try_rule(void) {
 static const struct {
     const char *name;
     uint32_t (*ask)(void);
-} calls[] = {{"verify", try_verify}, {"open", try_open},     {"share", try_share},     {"serial", try_serial}, {"run", try_run},
-             {"rows", try_rows},     {"replay", try_replay}, {"explain", try_explain}, {"rule", try_rule}};
+} calls[] = {{"verify", try_verify}, {"open", try_open},     {"share", try_share}, {"serial", try_serial},   {"run", try_run},   {"rows", try_rows},
+             {"stop", try_stop},     {"board", try_board},   {"replay", try_replay}, {"explain", try_explain}, {"rule", try_rule}};
 
 /* how many requests are refused in turn until none is left to refuse; counts what is wrong */
 static long sweep(const char *name, uint32_t (*ask)(void), int *wrong) {
@@ -140,26 +175,28 @@ static long sweep(const char *name, uint32_t (*ask)(void), int *wrong) {
 }
 
 int main(int count, char **words) {
-    if (count < 2 || count - 2 > 8) return 2;
-    FILE *file = fopen(words[1], "rb");
+    if (count < 3 || count - 3 > 8) return 2;
+    FILE *file = fopen(words[2], "rb");
     if (file == NULL) return 2;
     length = fread(text, 1, sizeof text, file);
     fclose(file);
-    argument_count = (size_t)count - 2;
-    for (size_t k = 0; k < argument_count; k++) arguments[k] = strtoll(words[k + 2], NULL, 10);
+    argument_count = (size_t)count - 3;
+    for (size_t k = 0; k < argument_count; k++) arguments[k] = strtoll(words[k + 3], NULL, 10);
     struct tapirvm_verdict verdict = {0};
     tapirvm_open(text, length, 1, 2, EFFORT, &verdict, &kept);
     if (verdict.status != TAPIRVM_DONE || verdict.cells > MOST_CELLS) return 2;
     cell_count = (size_t)verdict.cells;
     int wrong = 0;
-    long refused = 0;
+    long refused = 0, tried = 0;
     for (size_t k = 0; k < sizeof calls / sizeof *calls; k++) {
+        if (strcmp(words[1], "all") != 0 && strcmp(words[1], calls[k].name) != 0) continue;
+        tried++;
         once = false;
         refused += sweep(calls[k].name, calls[k].ask, &wrong);
         once = true;
         refused += sweep(calls[k].name, calls[k].ask, &wrong);
     }
     tapirvm_close(&kept);
-    printf("%ld requests refused in %zu calls in C, %d differences\n", refused, sizeof calls / sizeof *calls, wrong);
-    return wrong != 0;
+    printf("%ld requests refused in %ld calls in C, %d differences\n", refused, tried, wrong);
+    return wrong != 0 || tried == 0;
 }
