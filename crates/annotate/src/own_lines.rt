@@ -3,7 +3,7 @@
 ghost use Rattle.std.specs.Prelude.{◌≡◌, ◌<◌, ◌≤◌, ◌+◌, ◌∷◌, length, IsTrue, IfSome, List, ℕ};
 ghost use Rattle.std.specs.List.{prefix_len};
 ghost use Rattle.annotate.specs.Kept.{AreLinesAmong, IsAnnotated, is_annotation};
-ghost use Rattle.ir_lex.specs.Spelling.{is_space};
+ghost use Rattle.ir_lex.specs.Spelling.{is_note_mark, is_space};
 ghost use Rattle.ir_reader.specs.Lines.{content, is_inner, lines_of};
 
 /// How many bytes of a text stand before its first LF.
@@ -43,25 +43,38 @@ fn spaces(line: &[u8]) -> usize
         .count()
 }
 
-/// Whether a line is an annotation.
-fn is_annotation(line: &[u8]) -> bool
-    ensures { result ≡ is_annotation line.now }
+/// Whether two lines are the same, with or without the LF that ends them.
+fn are_same(line: &[u8], other: &[u8]) -> bool
+    ensures { IsTrue result → content line.now ≡ content other.now }
 {
-    let start = spaces(line);
-    match &line[start..] {
+    content(line) == content(other)
+}
+
+/// Whether a line, or what is left of it, begins with the mark of an annotation.
+fn is_note_mark(rest: &[u8]) -> bool
+    ensures { result ≡ is_note_mark rest.now }
+{
+    match rest {
         [first, second, ..] => *first == b';' && *second == b'!',
         _ => false,
     }
 }
 
+/// Whether a line is an annotation.
+fn is_annotation(line: &[u8]) -> bool
+    ensures { result ≡ is_annotation line.now }
+{
+    let start = spaces(line);
+    is_note_mark(&line[start..])
+}
+
 /// What is left of a text behind its first line, where that is this line; the text, where this line is an annotation.
-#[tactic(auto, using(crate::proofs::Among::kept_line, crate::proofs::Among::added_line))]
 fn left_behind<'a>(text: &'a [u8], line: &[u8]) -> Option<&'a [u8]>
     ensures { IfSome result (λ left. (more : List (List ℕ)) → AreLinesAmong (lines_of left.now) more → AreLinesAmong (lines_of text.now) (line.now ∷ more)) }
 {
     if !text.is_empty() {
         let (first, behind) = cut_line(text);
-        if content(first) == content(line) {
+        if are_same(first, line) {
             return Some(behind);
         }
     }
