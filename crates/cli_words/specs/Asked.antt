@@ -1,11 +1,13 @@
 -- What a command line asks for.
-use Rattle.std.specs.Prelude.{◌≡◌, ℕ, List, Some, codes}
+use Rattle.std.specs.Prelude.{◌≡◌, ℕ, List, Bool, true, false, Some, codes}
 use Rattle.clap.specs.Words.{HasMatchesOf, IsParsedFrom, app_of}
 use Rattle.clap.specs.Matches.{subcommand_name_of}
 use Rattle.clap.specs.declared.builder.command.Command.{Command}
 use Rattle.clap.specs.declared.parser.matches.ArgMatches.{ArgMatches}
 use Rattle.cli_words.specs.declared.request.Verb.{Verb}
 use Rattle.cli_words.specs.declared.request.Verb.TheVariants as verb
+use Rattle.cli_words.specs.declared.request.Grant.{Grant}
+use Rattle.cli_words.specs.declared.request.Grant.TheVariants as grant
 
 -- the word that names a verb
 abbrev pub word_of : Verb → List ℕ
@@ -28,3 +30,9 @@ pub record IsAsked (words : List (List ℕ)) (v : Verb) : Type 0 where
   pub is_parsed : IsParsedFrom command matches
   pub finds : HasMatchesOf (app_of command) words matches
   pub is_named : subcommand_name_of matches ≡ Some (word_of v)
+
+-- the effort that is granted ends
+abbrev pub is_bounded : Grant → Bool
+is_bounded grant.Usual = true
+is_bounded (grant.Steps steps) = true
+is_bounded grant.Unbounded = false
