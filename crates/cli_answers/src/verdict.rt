@@ -1,5 +1,9 @@
 //! The verdict on a module that a request names.
 
+ghost use Rattle.std.specs.Prelude.{Bool, IfErr, IfOk};
+ghost use Rattle.cli_answers.specs.Undecided.{IsSpentIfBounded};
+ghost use Rattle.cli_words.specs.Asked.{is_bounded};
+
 use crate::annotations::{in_own_lines, judged_text};
 use crate::requests::effort_of;
 use cli_words::{Beside, Request};
@@ -23,7 +27,9 @@ pub fn verdict_on(
     request: &Request,
     text: &[u8],
     beside: &mut Beside,
-) -> Result<Verdict, AllocError> {
+) -> Result<Verdict, AllocError>
+    ensures spent { IfOk result (λ v. IfErr v.answer (IsSpentIfBounded (is_bounded request.now.effort))) }
+{
     let more = match judged_text(alloc, state, request, text, &effort_of(request)) {
         Ok(more) => more,
         Err(refused) => return Ok(refused_at_once(alloc, refused)),
@@ -36,7 +42,9 @@ pub fn verdict_on(
 }
 
 /// The verdict on a text that cannot be read.
-fn refused_at_once(alloc: Global, refused: Refused) -> Verdict {
+fn refused_at_once(alloc: Global, refused: Refused) -> Verdict
+    ensures spent { (bounded : Bool) → IfErr result.answer (IsSpentIfBounded bounded) }
+{
     Verdict {
         text: Vec::new(alloc),
         answer: Err(Unverified::Refused(refused)),
