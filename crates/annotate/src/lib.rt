@@ -5,10 +5,12 @@
 #![tactic(auto)]
 
 mod new_lines;
+mod own_lines;
 mod plain;
 mod pruning;
 mod trial;
 mod trying;
+mod verdict;
 
 pub use new_lines::NewLines;
 pub use pruning::pruned;

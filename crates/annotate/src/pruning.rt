@@ -1,14 +1,17 @@
-ghost use Rattle.std.specs.Prelude.{◌≡◌, IfOk};
-ghost use Rattle.annotate.specs.Kept.{IsAcceptedText};
+ghost use Rattle.std.specs.Prelude.{◌≡◌, IfErr, IfOk};
+ghost use Rattle.annotate.specs.Kept.{IsAcceptedText, IsAnnotated};
+ghost use Rattle.verifier.specs.Accepted.{IsUnverified};
 
 use crate::new_lines::without;
+use crate::own_lines::is_annotated;
 use crate::trying::copied;
+use crate::verdict::verdict;
 use explain_facts::spend;
 use lists::ListBuffer;
 use ranges::{Effort, Unanswered};
 use std::alloc::{AllocError, Global};
 use std::hash::RandomState;
-use verifier::{Refused, Unverified, verify_within};
+use verifier::{Refused, Unverified};
 
 /// The steps that a byte of a text counts for that is judged once more.
 const STEPS_A_BYTE: usize = 50;
@@ -37,11 +40,8 @@ fn is_accepted(
     effort: &Effort,
 ) -> Result<bool, Unanswered> {
     spend(effort, text.len().saturating_mul(STEPS_A_BYTE))?;
-    match verify_within(alloc, state, text.as_bytes(), effort) {
-        Ok(verified) => {
-            drop(verified);
-            Ok(true)
-        }
+    match verdict(alloc, state, text.as_bytes(), effort) {
+        Ok(()) => Ok(true),
         Err(Unverified::Refused(Refused::Fault { .. })) => Ok(false),
         Err(Unverified::Refused(Refused::Memory)) => Err(Unanswered::OutOfMemory),
         Err(Unverified::OutOfEffort { .. }) => Err(Unanswered::OutOfEffort),
@@ -83,42 +83,61 @@ fn take_out_all(
 }
 
 /// An accepted text as it was.
-fn copied_accepted(alloc: Global, text: &[u8]) -> Result<Vec<u8>, Unverified>
-    ensures { IfOk result (λ out. out.items ≡ text.now) }
+fn as_it_was(alloc: Global, text: &[u8]) -> Result<Vec<u8>, AllocError>
+    requires { IsAcceptedText text.now }
+    ensures accepted { IfOk result (λ out. IsAcceptedText out.items) }
+    ensures annotated { IfOk result (λ out. IsAnnotated out.items text.now) }
 {
-    match copied(alloc, text) {
-        Ok(out) => Ok(out),
-        Err(refused) => Err(Unverified::Refused(refused)),
-    }
+    copied(alloc, text)
 }
 
-/// Takes the shorter one of two texts, if it is accepted, and else the other.
+/// An accepted text, of which another one is an annotated form.
+fn shortened(alloc: Global, text: &[u8], shorter: &[u8]) -> Result<Vec<u8>, AllocError>
+    requires accepted { IsAcceptedText shorter.now }
+    requires annotated { IsAnnotated shorter.now text.now }
+    ensures accepted { IfOk result (λ out. IsAcceptedText out.items) }
+    ensures annotated { IfOk result (λ out. IsAnnotated out.items text.now) }
+{
+    let _text = text;
+    copied(alloc, shorter)
+}
+
+/// Takes the shorter one of two texts, if it is the other one without annotations, and accepted; else the other.
 fn kept(
     alloc: Global,
     state: RandomState,
     text: &[u8],
     shorter: &[u8],
-    effort: &Effort,
-) -> Result<Vec<u8>, Unverified>
-    ensures { IfOk result (λ out. IsAcceptedText out.items) }
+) -> Result<Vec<u8>, AllocError>
+    requires { IsAcceptedText text.now }
+    ensures accepted { IfOk result (λ out. IsAcceptedText out.items) }
+    ensures annotated { IfOk result (λ out. IsAnnotated out.items text.now) }
 {
-    match verify_within(alloc, state, shorter, effort) {
-        Ok(verified) => {
-            drop(verified);
-            copied_accepted(alloc, shorter)
-        }
-        Err(_) => match verify_within(alloc, state, text, effort) {
-            Ok(verified) => {
-                drop(verified);
-                copied_accepted(alloc, text)
-            }
-            Err(unverified) => Err(unverified),
-        },
+    if !is_annotated(shorter, text) {
+        return as_it_was(alloc, text);
+    }
+    match verdict(alloc, state, shorter, &Effort::unlimited()) {
+        Ok(()) => shortened(alloc, text, shorter),
+        Err(_) => as_it_was(alloc, text),
     }
 }
 
-fn text_of(alloc: Global, text: &[u8]) -> Result<String, Refused> {
-    Ok(String::from_str(alloc, str::from_utf8(text).unwrap_or(""))?)
+/// An accepted text without annotations that it can do without, as far as the effort reaches.
+fn pruned_within(
+    alloc: Global,
+    state: RandomState,
+    text: &[u8],
+    effort: &Effort,
+) -> Result<Vec<u8>, AllocError>
+    requires { IsAcceptedText text.now }
+    ensures accepted { IfOk result (λ out. IsAcceptedText out.items) }
+    ensures annotated { IfOk result (λ out. IsAnnotated out.items text.now) }
+{
+    let mut shorter = String::from_str(alloc, str::from_utf8(text).unwrap_or(""))?;
+    match take_out_all(alloc, state, &mut shorter, effort) {
+        Err(Unanswered::OutOfMemory) => Err(AllocError),
+        _ => kept(alloc, state, text, shorter.as_bytes()),
+    }
 }
 
 /// An accepted text without annotations that it can do without, each tried by itself over what the ones before have left, as far as the effort reaches.
@@ -132,12 +151,14 @@ pub fn pruned(
     text: &[u8],
     effort: &Effort,
 ) -> Result<Vec<u8>, Unverified>
-    ensures { IfOk result (λ out. IsAcceptedText out.items) }
+    ensures accepted { IfOk result (λ out. IsAcceptedText out.items) }
+    ensures annotated { IfOk result (λ out. IsAnnotated out.items text.now) }
+    ensures verified { IfOk result (λ _. IsAcceptedText text.now) }
+    ensures refused { IfErr result (IsUnverified text.now effort.now) }
 {
-    drop(verify_within(alloc, state, text, effort)?);
-    let mut shorter = text_of(alloc, text)?;
-    match take_out_all(alloc, state, &mut shorter, effort) {
-        Err(Unanswered::OutOfMemory) => Err(Unverified::Refused(Refused::Memory)),
-        _ => kept(alloc, state, text, shorter.as_bytes(), &Effort::unlimited()),
+    verdict(alloc, state, text, effort)?;
+    match pruned_within(alloc, state, text, effort) {
+        Ok(out) => Ok(out),
+        Err(_) => Err(Unverified::Refused(Refused::Memory)),
     }
 }

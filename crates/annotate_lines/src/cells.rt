@@ -12,8 +12,8 @@ const MOST_ROUNDS: usize = 16;
 
 /// Cells of an object, and how they are touched.
 pub struct Cells<'a> {
-    mode: Mode,
-    object: &'a Address,
+    pub mode: Mode,
+    pub object: &'a Address,
     pub low: Sum<'a>,
     pub high: Sum<'a>,
 }

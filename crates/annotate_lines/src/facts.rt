@@ -10,15 +10,22 @@ mod fact;
 mod guess;
 mod heap;
 mod keep;
+mod learned;
+mod live;
 mod search;
 mod sum;
 
-pub use bound::{greatest, greatest_apart};
-pub use definition::{Equation, definition_of, is_exact, moved, value_of};
-pub use edge::{Edge, Way, block_at, definition_in, edges_of, last_of, phi_value, register_of};
+pub use bound::{greatest, greatest_apart, greatest_number, greatest_shown};
+pub use definition::{Equation, definition_of, is_exact, moved, sum_before, value_of};
+pub use edge::{
+    Edge, Way, block_at, block_numbered, defines, definition_in, edges_of, is_phi, is_used_beside,
+    last_of, phi_value, register_of,
+};
 pub use fact::Facts;
-pub use guess::{Place, Rise, dominators_of, rise_of};
+pub use guess::{Place, Rise, dominators_of, is_above, rise_of};
 pub use heap::Heap;
-pub use keep::{Known, MOST_BLOCKS, known_of, names_own};
-pub use search::lines_between;
+pub use keep::{Extra, Known, MOST_BLOCKS, known_of, names_own};
+pub use learned::{facts_of, most_before};
+pub use live::Lives;
+pub use search::{lines_between, times_for};
 pub use sum::Sum;

@@ -125,7 +125,7 @@ impl<'a> Scope<'a> {
     }
 
     /// How many cells an object has.
-    fn cells_of(self, address: &Address) -> Option<u64> {
+    pub fn cells_of(self, address: &Address) -> Option<u64> {
         match address {
             Address::Global(name) => self.global_cells(name),
             Address::Register(name) => match (

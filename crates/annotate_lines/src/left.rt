@@ -1,11 +1,11 @@
 //! What a block needs, from its own instructions and from what is left behind it.
 
 use crate::facts::{
-    Edge, Heap, Known, MOST_BLOCKS, Sum, Way, block_at, definition_of, greatest, moved, register_of,
+    Edge, Heap, Known, MOST_BLOCKS, Sum, Way, block_at, greatest, most_before, moved,
 };
 use crate::ring::{Ring, names_inner, ring_of};
 use lists::Name;
-use syntax::{Block, Instruction, Phi, Step};
+use syntax::{Block, Function, Instruction, Phi};
 
 /// Self calls and instructions.
 pub struct Need<'a> {
@@ -44,6 +44,30 @@ fn cost_of(costs: &[(&str, u128)], callee: &str) -> u128 {
     0
 }
 
+/// What the instructions of a block use, and its terminator.
+pub fn uses_of<'a>(
+    heap: &'a Heap,
+    function: &Function,
+    costs: &[(&'a str, u128)],
+    block: &Block,
+) -> Need<'a> {
+    let mut need = Need::none(heap);
+    need.instructions.add_number(1);
+    for step in block.steps.as_slice() {
+        need.instructions.add_number(1);
+        if let Instruction::Call { callee, .. } = &step.instruction {
+            if callee.is_same(&function.name) {
+                need.calls.add_number(1);
+            } else {
+                let cost = cost_of(costs, callee.as_str());
+                let cost = i128::try_from(cost).unwrap_or(i128::MAX);
+                need.instructions.add_number(cost);
+            }
+        }
+    }
+    need
+}
+
 impl<'a> Need<'a> {
     fn none(heap: &'a Heap) -> Need<'a> {
         Need {
@@ -57,24 +81,24 @@ impl<'a> Need<'a> {
         self.instructions.add(&other.instructions, 1);
     }
 
+    /// Takes another need off.
+    pub fn take(&mut self, other: &Need<'a>) {
+        self.calls.add(&other.calls, -1);
+        self.instructions.add(&other.instructions, -1);
+    }
+
+    /// What a need is along an edge to a block with these phis, from one of this label.
+    pub fn moved(&self, heap: &'a Heap, label: &Name, phis: &'a [Phi]) -> Need<'a> {
+        Need {
+            calls: moved(heap, &self.calls, label, phis),
+            instructions: moved(heap, &self.instructions, label, phis),
+        }
+    }
+
     /// Makes each of its sums the greater one of it and the other's, as far as that is known at the block.
     fn raise(&mut self, known: &Known<'a>, block: usize, other: &Need<'a>) {
         self.calls = known.greater(block, &self.calls, &other.calls);
         self.instructions = known.greater(block, &self.instructions, &other.instructions);
-    }
-}
-
-/// Puts in what an instruction's register is made of, if the sum has it; whether the sum is still one.
-fn put_in<'a>(heap: &'a Heap, sum: &mut Sum<'a>, instruction: &'a Instruction) -> bool {
-    match register_of(instruction) {
-        Some(name) if sum.has(name) => match definition_of(heap, instruction) {
-            Some(value) => {
-                sum.put(name, &value);
-                true
-            }
-            None => false,
-        },
-        _ => true,
     }
 }
 
@@ -86,14 +110,8 @@ fn sum_along<'a>(
     from: &'a Block,
     phis: &'a [Phi],
 ) -> Option<Sum<'a>> {
-    let mut sum = moved(heap, sum, &from.label, phis);
-    let steps = from.steps.as_slice();
-    for index in (0..steps.len()).rev() {
-        if !put_in(heap, &mut sum, &steps[index].instruction) {
-            return None;
-        }
-    }
-    Some(sum)
+    let sum = moved(heap, sum, &from.label, phis);
+    most_before(heap, &sum, from.steps.as_slice())
 }
 
 impl<'a> Finder<'_, 'a> {
@@ -170,7 +188,8 @@ impl<'a> Finder<'_, 'a> {
                 && !names_inner(self.known, ring.head, ring.last, &next.instructions)
     }
 
-    /// Joins what is needed behind all edges out of a loop to nothing. Whether all of them begin at the head; none where it is not known.
+    /// Joins what is needed behind all edges out of a loop to nothing. Whether the rounds that the rank counts cover what is done before; none where it is not
+    /// known.
     fn join_exits(&self, ring: &Ring<'a>, all: &mut Need<'a>) -> Option<bool> {
         let mut is_first = true;
         let mut is_tested_first = true;
@@ -183,24 +202,12 @@ impl<'a> Finder<'_, 'a> {
                 is_tested_first = is_tested_first && edge.from == ring.head;
             }
         }
-        Some(is_tested_first)
+        Some(is_tested_first || ring.is_tested_first)
     }
 
     /// Adds what the instructions of a block do, and its terminator.
     fn add_steps(&self, need: &mut Need<'a>, block: &Block) {
-        need.instructions.add_number(1);
-        for step in block.steps.as_slice() {
-            need.instructions.add_number(1);
-            if let Instruction::Call { callee, .. } = &step.instruction {
-                if callee.is_same(&self.known.function.name) {
-                    need.calls.add_number(1);
-                } else {
-                    let cost = cost_of(self.costs, callee.as_str());
-                    let cost = i128::try_from(cost).unwrap_or(i128::MAX);
-                    need.instructions.add_number(cost);
-                }
-            }
-        }
+        need.add(&uses_of(self.known.heap, self.known.function, self.costs, block));
     }
 
     /// What is needed at the head of a loop: so many rounds, as the rank says, and what is needed behind it.
@@ -377,7 +384,7 @@ fn rings_of<'a>(known: &Known<'a>, costs: &[(&'a str, u128)]) -> Vec<Ring<'a>> {
 }
 
 /// The `left` line of a block, where it has one.
-fn given<'a>(heap: &'a Heap, block: &'a Block) -> Option<Need<'a>> {
+pub fn given<'a>(heap: &'a Heap, block: &'a Block) -> Option<Need<'a>> {
     let left = &block.notes.left;
     if left.line == block.line {
         return None;

@@ -7,14 +7,18 @@
 #![tactic(auto)]
 
 mod cells;
+mod derived;
 mod facts;
+mod feet;
 mod goal;
 mod hull;
 mod left;
+mod order;
 mod pending;
 mod proposal;
 mod ring;
 mod step;
 mod total;
+mod wanted;
 
 pub use proposal::{Kind, proposed};

@@ -1,26 +1,39 @@
 //! The lines that are put in.
 
 use crate::cells::firsts_of;
-use crate::facts::{Heap, Known, Sum, edges_of, known_of};
+use crate::derived::{derived, ends_of};
+use crate::facts::{
+    Extra, Heap, Known, Lives, MOST_BLOCKS, Place, Sum, dominators_of, edges_of, known_of,
+};
+use crate::feet::{Stand, has_no_zones, waits_for_callee, zones_from};
 use crate::goal::Scope;
 use crate::hull::hulls_of;
-use crate::left::{Need, needs_of};
+use crate::left::{Need, needs_of, uses_of};
+use crate::order::put_in_order;
 use crate::pending::{Handed, handed_of};
-use crate::step::Walk;
+use crate::step::{Told, Walk};
 use crate::total::Total;
+use crate::wanted::Wants;
 use ir_annotation::push_zone;
 use ir_reader::read;
-use lists::TextBuffer;
+use lists::{Seq, TextBuffer};
 use refusal::Refused;
 use std::alloc::{AllocError, Global};
 use std::hash::RandomState;
-use syntax::{Block, Function, Module};
+use std::mem::replace;
+use syntax::{Block, Function, Module, Zone};
 
 /// The lines of one word that may stand at one place.
 const MOST_LINES: usize = 32;
 
 /// The facts and rests that are looked at for `shows` lines in all.
 const MOST_EFFORT: usize = 4_000_000;
+
+/// The facts of a function from which others are derived at most.
+const MOST_DERIVED_FROM: usize = 500;
+
+/// How often what follows from facts is found anew, with what followed before.
+const DERIVED_ROUNDS: usize = 2;
 
 /// Which lines are proposed.
 #[derive(Clone, Copy, PartialEq, Eq)]
@@ -29,8 +42,12 @@ pub enum Kind {
     Facts,
     /// `keeps` that may be so of counters and are to be tried, with what follows from them.
     Guesses,
+    /// `keeps` that would show what blocks ask.
+    Wanted,
     /// `shows`
     Steps,
+    /// `foot` of children, and `reads`, `writes` and `adds` of functions, where they have none.
+    Feet,
     /// `pending`
     Zones,
     /// `left` and `budget`
@@ -52,17 +69,33 @@ struct Draft<'a> {
     kind: Kind,
     /// What is left of the effort for `shows` lines.
     effort: usize,
-    /// In the order of the text, one for a line at most.
+    /// One for a line at most.
     proposals: Vec<Proposal>,
     costs: Vec<(&'a str, u128)>,
 }
 
-/// Whether a fact is known at a block, but not by its head or by a fact that says more.
-fn is_kept<'a>(known: &Known<'a>, index: usize, number: usize, fact: &Sum<'a>) -> bool {
+/// Whether a fact is known at a block, but not by its head or by a fact that says more, and may serve there.
+fn is_kept<'a>(
+    known: &Known<'a>,
+    lives: &Lives<'a>,
+    index: usize,
+    number: usize,
+    fact: &Sum<'a>,
+) -> bool {
     known.is_known(index, number)
         && !known.is_given(index, number)
         && fact.is_form()
+        && (known.is_guessed(index, number) || lives.are_live(index, fact))
         && !known.is_weaker(index, fact)
+}
+
+/// Where the registers of the facts are used that no text states.
+fn lives_of<'a>(heap: &'a Heap, known: &Known<'a>) -> Lives<'a> {
+    let mut lives = Lives::new(heap, known.function);
+    for fact in &known.facts.sums {
+        lives.ask(known.edges.as_slice(), fact);
+    }
+    lives
 }
 
 /// The last of a block's `keeps` lines, or its label.
@@ -84,6 +117,14 @@ fn end_of_pending(block: &Block) -> u32 {
 }
 
 impl<'a> Draft<'a> {
+    fn scope_of(&self, function: &'a Function) -> Scope<'a> {
+        Scope {
+            heap: self.heap,
+            module: self.module,
+            function,
+        }
+    }
+
     fn propose(&mut self, behind: u32, lines: TextBuffer) {
         if !lines.is_empty() {
             if let Some(lines) = self.heap.kept(lines.finish()) {
@@ -121,6 +162,11 @@ impl<'a> Draft<'a> {
             (None, Some(entry)) => self.propose_budget(function, entry),
             (total, _) => total,
         };
+        self.push_cost(function, total);
+    }
+
+    /// Keeps what calls of a function cost.
+    fn push_cost(&mut self, function: &'a Function, total: Option<Total>) {
         if let Some(total) = total {
             let cost = total.cost(function.notes.measure.bound);
             self.heap
@@ -129,11 +175,11 @@ impl<'a> Draft<'a> {
     }
 
     /// Proposes the facts that are known at a block and not stated there, as many as there is room for.
-    fn propose_keeps(&mut self, known: &Known<'a>, index: usize, block: &Block) {
+    fn propose_keeps(&mut self, known: &Known<'a>, lives: &Lives<'a>, index: usize, block: &Block) {
         let mut count = block.notes.keeps.len();
         let mut lines = self.heap.text();
         for (number, fact) in known.facts.sums.iter().enumerate() {
-            if count < MOST_LINES && is_kept(known, index, number, fact) {
+            if count < MOST_LINES && is_kept(known, lives, index, number, fact) {
                 lines.push_str("  ;! keeps ");
                 fact.spell_inequality(&mut lines);
                 lines.push_str("\n");
@@ -143,35 +189,89 @@ impl<'a> Draft<'a> {
         self.propose(block.line, lines);
     }
 
-    /// The same of all blocks; what an entry knows stands at the function's head already.
+    /// A walk over a block, of the child with this first block.
+    fn walk_over(
+        &mut self,
+        known: &Known<'a>,
+        index: usize,
+        block: &'a Block,
+        first: usize,
+    ) -> Walk<'a> {
+        let scope = self.scope_of(known.function);
+        let mut walk = Walk::new(scope, index, block, first, self.effort);
+        for step in block.steps.as_slice() {
+            walk.pass(step);
+        }
+        if let Some(ending) = &block.ending {
+            let uses = uses_of(self.heap, known.function, self.costs.as_slice(), block);
+            walk.end(known, ending, &uses);
+        }
+        self.effort = walk.effort;
+        walk
+    }
+
+    /// Facts that would show what blocks ask.
+    fn wanted(&mut self, function: &'a Function) -> Vec<Extra<'a>> {
+        let known = known_of(self.heap, function, false, &[]);
+        let blocks = function.blocks.as_slice();
+        let firsts = firsts_of(self.heap, known.edges.as_slice(), blocks.len());
+        let mut wants = Wants::new(self.heap, function, known.edges.as_slice());
+        for (index, block) in blocks.iter().enumerate() {
+            let first = firsts.get(index).copied().flatten().unwrap_or(0);
+            let mut walk = self.walk_over(&known, index, block, first);
+            wants.push_all(index, replace(&mut walk.missed, self.heap.list()));
+        }
+        wants.finish()
+    }
+
+    /// Facts that follow from others and from guesses, and what follows from these in turn.
+    fn derived(&self, function: &'a Function) -> Vec<Extra<'a>> {
+        let scope = self.scope_of(function);
+        let mut extras = self.heap.list();
+        for _round in 0..DERIVED_ROUNDS {
+            let known = known_of(self.heap, function, true, extras.as_slice());
+            if known.facts.sums.len() > MOST_DERIVED_FROM {
+                return extras;
+            }
+            extras = derived(scope, &known);
+        }
+        extras
+    }
+
+    /// Facts that may be so, beside those of counters.
+    fn extras(&mut self, function: &'a Function) -> Vec<Extra<'a>> {
+        match self.kind {
+            _ if function.blocks.len() > MOST_BLOCKS => self.heap.list(),
+            Kind::Wanted => self.wanted(function),
+            Kind::Guesses => self.derived(function),
+            _ => self.heap.list(),
+        }
+    }
+
+    /// Proposes the facts of all blocks; what an entry knows stands at the function's head already.
     fn add_facts(&mut self, function: &'a Function) {
-        let known = known_of(self.heap, function, self.kind == Kind::Guesses);
+        let extras = self.extras(function);
+        let has_guesses = self.kind == Kind::Guesses;
+        let known = known_of(self.heap, function, has_guesses, extras.as_slice());
+        let lives = lives_of(self.heap, &known);
         let blocks = function.blocks.as_slice();
         for index in 1..blocks.len() {
-            self.propose_keeps(&known, index, &blocks[index]);
+            self.propose_keeps(&known, &lives, index, &blocks[index]);
         }
     }
 
     /// Proposes how facts show what the steps of a block ask, and its end.
     fn add_steps_of(&mut self, known: &Known<'a>, index: usize, block: &'a Block, first: usize) {
-        let scope = Scope {
-            heap: self.heap,
-            module: self.module,
-            function: known.function,
-        };
-        let mut walk = Walk::new(scope, index, block, first, self.effort);
-        for step in block.steps.as_slice() {
-            self.propose(step.line.saturating_sub(1), walk.pass(step));
+        let mut walk = self.walk_over(known, index, block, first);
+        for told in replace(&mut walk.lines, self.heap.list()) {
+            let Told { behind, lines } = told;
+            self.propose(behind, lines);
         }
-        if let Some(ending) = &block.ending {
-            self.propose(ending.line.saturating_sub(1), walk.end(known, ending));
-        }
-        self.effort = walk.effort;
     }
 
     /// The same of all blocks.
     fn add_steps(&mut self, function: &'a Function) {
-        let known = known_of(self.heap, function, false);
+        let known = known_of(self.heap, function, false, &[]);
         let blocks = function.blocks.as_slice();
         let firsts = firsts_of(self.heap, known.edges.as_slice(), blocks.len());
         for (index, block) in blocks.iter().enumerate() {
@@ -180,14 +280,59 @@ impl<'a> Draft<'a> {
         }
     }
 
-    fn push_handed(&self, out: &mut TextBuffer, handed: Handed<'_>) {
-        let mut zone = self.heap.string("");
-        self.heap.kept(push_zone(&mut zone, handed.zone));
-        out.push_str("  ;! pending %");
-        out.push_str(handed.region);
-        out.push_str(" ");
-        out.push_str(zone.as_str());
+    /// Adds a line with a zone behind this word.
+    fn push_zone(&self, out: &mut TextBuffer, word: &str, zone: &Zone) {
+        let mut spelled = self.heap.string("");
+        self.heap.kept(push_zone(&mut spelled, zone));
+        out.push_str("  ;! ");
+        out.push_str(word);
+        out.push_str(spelled.as_str());
         out.push_str("\n");
+    }
+
+    /// Proposes the zones of what is touched from a block on, behind a line.
+    fn propose_touched(&mut self, stand: Stand<'_, 'a>, word: &str, behind: u32) {
+        let mut lines = self.heap.text();
+        for zone in &zones_from(stand) {
+            self.push_zone(&mut lines, word, zone);
+        }
+        self.propose(behind, lines);
+    }
+
+    /// Proposes the zones of the children that have none, and of the function, if it has none.
+    fn add_feet(&mut self, function: &'a Function) {
+        if function.blocks.len() > MOST_BLOCKS || waits_for_callee(self.scope_of(function)) {
+            return;
+        }
+        let known = known_of(self.heap, function, false, &[]);
+        let scope = self.scope_of(function);
+        let ends = ends_of(scope, &known);
+        let above = dominators_of(self.heap, known.edges.as_slice(), function.blocks.len());
+        for (block, own) in function.blocks.as_slice().iter().enumerate() {
+            let stand = Stand {
+                scope,
+                ends: ends.as_slice(),
+                place: Place {
+                    heap: self.heap,
+                    function,
+                    above: above.as_slice(),
+                    block,
+                },
+            };
+            if block == 0 && has_no_zones(function) {
+                self.propose_touched(stand, "", function.line);
+            } else if known.is_child(block) && own.notes.foot.is_empty() {
+                let behind = end_of_pending(own).max(own.notes.left.line);
+                self.propose_touched(stand, "foot ", behind);
+            }
+        }
+    }
+
+    fn push_handed(&self, out: &mut TextBuffer, handed: Handed<'_>) {
+        let mut word = self.heap.string("pending %");
+        self.heap.kept(word.push_str(handed.region));
+        self.heap.kept(word.push_str(" "));
+        self.push_zone(out, word.as_str(), handed.zone);
     }
 
     /// Proposes what is handed on to the head of a block, as far as there is room.
@@ -239,7 +384,7 @@ impl<'a> Draft<'a> {
 
     /// Proposes what is left at the heads of the blocks, and the budget.
     fn add_costs(&mut self, function: &'a Function) {
-        let known = known_of(self.heap, function, false);
+        let known = known_of(self.heap, function, false, &[]);
         let needs = needs_of(&known, self.costs.as_slice());
         if let [entry, ..] = needs.as_slice() {
             self.add_budget(function, entry);
@@ -250,10 +395,14 @@ impl<'a> Draft<'a> {
     fn add_functions(&mut self, functions: &'a [Function]) {
         for function in functions {
             match self.kind {
-                Kind::Facts | Kind::Guesses => self.add_facts(function),
+                Kind::Facts | Kind::Guesses | Kind::Wanted => self.add_facts(function),
                 Kind::Steps => self.add_steps(function),
+                Kind::Feet => self.add_feet(function),
                 Kind::Zones => self.add_zones(function),
                 Kind::Costs => self.add_costs(function),
+            }
+            if self.kind != Kind::Costs {
+                self.push_cost(function, Total::given(function));
             }
         }
     }
@@ -278,16 +427,26 @@ impl<'a> Draft<'a> {
     }
 }
 
-/// The module's text with the lines put in.
-fn with_lines(
-    alloc: Global,
-    module: &Module,
+/// Puts the blocks of all functions in order.
+fn put_all_in_order(heap: &Heap, module: &mut Module) {
+    let functions = replace(&mut module.functions, Seq::from_vec(heap.list())).into_vec();
+    let mut ordered = heap.list();
+    for mut function in functions {
+        put_in_order(heap, &mut function);
+        heap.push(&mut ordered, function);
+    }
+    module.functions = Seq::from_vec(ordered);
+}
+
+/// The text of a module, whose blocks are in order, with the lines put in.
+fn with_lines<'a>(
+    heap: &'a Heap,
+    module: &'a Module,
     text: &str,
     kind: Kind,
 ) -> Result<String, AllocError> {
-    let heap = Heap::new(alloc);
     let mut draft = Draft {
-        heap: &heap,
+        heap,
         module,
         kind,
         effort: MOST_EFFORT,
@@ -295,6 +454,9 @@ fn with_lines(
         costs: heap.list(),
     };
     draft.add_functions(module.functions.as_slice());
+    draft
+        .proposals
+        .sort_unstable_by_key(|proposal| proposal.behind);
     let out = draft.put_in(text);
     heap.finish()?;
     out.finish()
@@ -312,7 +474,9 @@ pub fn proposed(
     text: &[u8],
     kind: Kind,
 ) -> Result<String, Refused> {
-    let module = read(alloc, state, text)?;
+    let mut module = read(alloc, state, text)?;
+    let heap = Heap::new(alloc);
+    put_all_in_order(&heap, &mut module);
     let text = str::from_utf8(text).unwrap_or("");
-    Ok(with_lines(alloc, &module, text, kind)?)
+    Ok(with_lines(&heap, &module, text, kind)?)
 }

@@ -1,7 +1,8 @@
 //! Loops that a counter leads round: what falls each time, and what a round needs.
 
 use crate::facts::{
-    Edge, Known, Sum, block_at, greatest_apart, last_of, names_own, phi_value, value_of,
+    Edge, Known, Sum, block_at, defines, greatest_apart, is_phi, last_of, names_own, phi_value,
+    sum_before, value_of,
 };
 use syntax::{Block, Function, Operand};
 
@@ -15,6 +16,8 @@ pub struct Ring<'a> {
     pub step: i128,
     /// The least number that the rank has at the head.
     pub least: i128,
+    /// Whether the head tests it, so that a round that has begun is one of those that the rank counts.
+    pub is_tested_first: bool,
     /// The self calls and instructions of one time round, at most.
     pub calls: i128,
     pub instructions: i128,
@@ -34,11 +37,26 @@ impl<'a> Ring<'a> {
     }
 }
 
+/// Whether a sum names a register that a block's instructions define.
+fn makes_of(block: &Block, sum: &Sum<'_>) -> bool {
+    for (name, coefficient) in &sum.terms {
+        if *coefficient != 0 && defines(block, name) && !is_phi(block.phis.as_slice(), name) {
+            return true;
+        }
+    }
+    false
+}
+
 /// Whether a sum names a register that a block of the loop defines, but for its head's phis.
 pub fn names_inner(known: &Known<'_>, head: usize, last: usize, sum: &Sum<'_>) -> bool {
     for index in head..last.saturating_add(1) {
         if let Some(block) = block_at(known.function, index) {
-            if index != head && names_own(block, sum) {
+            let is_named = if index == head {
+                makes_of(block, sum)
+            } else {
+                names_own(block, sum)
+            };
+            if is_named {
                 return true;
             }
         }
@@ -128,6 +146,19 @@ fn rank_by<'a>(function: &'a Function, head: usize, edge: Edge<'a>, fact: &Sum<'
     }
 }
 
+/// A sum in which registers that a loop's blocks make of sums are replaced by these.
+fn by_outer<'a>(known: &Known<'a>, head: usize, last: usize, sum: Sum<'a>) -> Sum<'a> {
+    let mut sum = sum;
+    for index in (head..last.saturating_add(1)).rev() {
+        if let Some(block) = block_at(known.function, index) {
+            if let Some(before) = sum_before(known.heap, &sum, block.steps.as_slice()) {
+                sum = before;
+            }
+        }
+    }
+    sum
+}
+
 /// The least number that a rank has at the head where it falls by `step`.
 fn least_at<'a>(known: &Known<'a>, head: usize, rank: &Sum<'a>, step: i128) -> i128 {
     let nothing = Sum::number(known.heap, 0);
@@ -144,6 +175,7 @@ fn ring_by<'a>(
     fact: &Sum<'a>,
 ) -> Option<Ring<'a>> {
     let rank = rank_by(known.function, head, edge, fact);
+    let rank = by_outer(known, head, last, rank);
     if names_inner(known, head, last, &rank) {
         return None;
     }
@@ -157,6 +189,7 @@ fn ring_by<'a>(
         rank,
         step,
         least,
+        is_tested_first: edge.from == head,
         calls: 0,
         instructions: 0,
     })
@@ -181,16 +214,27 @@ fn ring_on<'a>(
     None
 }
 
-/// What falls each time round the loop of this head, by a branch at the head or on an edge that leads back; none where nothing is found.
+/// What falls each time round the loop of this head; none where nothing is found.
 pub fn ring_of<'a>(known: &Known<'a>, head: usize) -> Option<Ring<'a>> {
     let Some(last) = last_of(known.edges.as_slice(), head) else {
         return None;
     };
+    match ring_among(known, head, last, true) {
+        Some(ring) => Some(ring),
+        None => ring_among(known, head, last, false),
+    }
+}
+
+/// The same by a branch at the head or on an edge that leads back, or by one elsewhere.
+fn ring_among<'a>(known: &Known<'a>, head: usize, last: usize, is_near: bool) -> Option<Ring<'a>> {
     for number in 0..known.edges.len() {
         let edge = known.edges[number];
-        let is_inside = head <= edge.to && edge.to <= last;
-        let is_asked = edge.from == head || edge.to == head && edge.from >= head;
-        if is_inside && is_asked {
+        let is_inside = head <= edge.from
+            && edge.from <= last
+            && head <= edge.to
+            && edge.to <= last;
+        let is_asked = edge.from == head || edge.to == head;
+        if is_inside && is_asked == is_near {
             let ring = ring_on(known, head, last, number, edge);
             if ring.is_some() {
                 return ring;

@@ -2,9 +2,11 @@
 
 use crate::cells::Cells;
 use crate::facts::{
-    Equation, Known, Sum, Way, block_at, definition_of, is_exact, lines_between, moved, register_of,
+    Edge, Equation, Heap, Known, Sum, Way, block_at, definition_of, is_exact, lines_between, moved,
+    register_of, sum_before, times_for,
 };
 use crate::goal::{Call, Scope, ends_of};
+use crate::left::{Need, given};
 use lists::TextBuffer;
 use syntax::{
     BinaryOperator, Block, Conversion, Ending, Inequality, Instruction, Operand, Step, Terminator,
@@ -15,6 +17,13 @@ use syntax::{
 const MOST_FACTS: usize = 1_024;
 
 const MOST_LINES: usize = 32;
+
+/// Lines that may stand behind a line of the text.
+#[derive(Drop)]
+pub struct Told {
+    pub behind: u32,
+    pub lines: TextBuffer,
+}
 
 /// What is known in a block as far as one has come.
 pub struct Walk<'a> {
@@ -31,6 +40,12 @@ pub struct Walk<'a> {
     /// What is told before an instruction, beside so many lines of the text.
     told: Vec<Sum<'a>>,
     stated: usize,
+    /// How many steps were gone over.
+    passed: usize,
+    /// What is asked and not shown, at the block's start.
+    pub missed: Vec<Sum<'a>>,
+    /// The lines that were told.
+    pub lines: Vec<Told>,
 }
 
 /// Written out, so that no crate above proves it anew.
@@ -46,8 +61,25 @@ impl Drop for Walk<'_> {
             covering: _,
             told: _,
             stated: _,
+            passed: _,
+            missed: _,
+            lines: _,
         } = self;
     }
+}
+
+/// What is at least 0 where cells do not begin before a zone.
+fn begin_in<'a>(cells: &Cells<'a>, zone: &'a Zone) -> Sum<'a> {
+    let mut low = cells.low.copy();
+    low.add_form(&zone.low, -1);
+    low
+}
+
+/// What is at least 0 where cells do not end behind a zone.
+fn end_in<'a>(heap: &'a Heap, cells: &Cells<'a>, zone: &'a Zone) -> Sum<'a> {
+    let mut high = Sum::of_form(heap, &zone.high);
+    high.add(&cells.high, -1);
+    high
 }
 
 impl<'a> Walk<'a> {
@@ -69,12 +101,16 @@ impl<'a> Walk<'a> {
             covering: scope.covering(first),
             told: scope.heap.list(),
             stated: 0,
+            passed: 0,
+            missed: scope.heap.list(),
+            lines: scope.heap.list(),
         };
         walk.learn_all(if place == 0 {
             scope.function.notes.requirements.as_slice()
         } else {
             block.notes.keeps.as_slice()
         });
+        walk.ask_lefts();
         walk
     }
 
@@ -141,10 +177,27 @@ impl<'a> Walk<'a> {
         }
     }
 
+    /// Keeps what is asked and not shown.
+    fn miss(&mut self, goal: &Sum<'a>) {
+        let block = self.block;
+        let steps = block.steps.as_slice();
+        let passed = self.passed.min(steps.len());
+        if let Some(sum) = sum_before(self.scope.heap, goal, &steps[..passed]) {
+            self.scope.heap.push(&mut self.missed, sum);
+        }
+    }
+
+    /// Tells how the facts show what is asked, or keeps it.
+    fn ask(&mut self, goal: &Sum<'a>) {
+        if !self.reach(goal, false) {
+            self.miss(goal);
+        }
+    }
+
     /// Tells how the facts show what an instruction asks.
     fn reach_goals(&mut self, instruction: &'a Instruction) {
         for goal in self.scope.goals(instruction) {
-            self.reach(&goal, false);
+            self.ask(&goal);
         }
     }
 
@@ -154,7 +207,7 @@ impl<'a> Walk<'a> {
         for inequality in self.scope.function.notes.guarantees.as_slice() {
             let mut goal = Sum::of_inequality(self.scope.heap, inequality);
             goal.put(".ret", &result);
-            self.reach(&goal, false);
+            self.ask(&goal);
         }
     }
 
@@ -267,31 +320,39 @@ impl<'a> Walk<'a> {
         }
     }
 
-    /// Begins with the lines of the text before an instruction.
+    /// Begins with the lines of the text before an instruction, and tells how the facts show them.
     fn begin(&mut self, shows: &'a [Inequality]) {
-        self.told.clear();
         self.stated = shows.len();
-        self.learn_all(shows)
+        for inequality in shows {
+            let sum = Sum::of_inequality(self.scope.heap, inequality);
+            self.ask(&sum);
+            self.flush(inequality.line);
+            self.learn(sum);
+        }
     }
 
-    /// The lines before an instruction.
-    fn spell_told(&self) -> TextBuffer {
-        let mut lines = self.scope.heap.text();
+    /// Puts what is told before a line of the text.
+    fn flush(&mut self, line: u32) {
+        if self.told.is_empty() {
+            return;
+        }
+        let heap = self.scope.heap;
+        let mut lines = heap.text();
         for fact in &self.told {
             lines.push_str("  ;! shows ");
             fact.spell_inequality(&mut lines);
             lines.push_str("\n");
         }
-        lines
+        self.stated = self.stated.saturating_add(self.told.len());
+        self.told.clear();
+        let behind = line.saturating_sub(1);
+        heap.push(&mut self.lines, Told { behind, lines });
     }
 
     /// Tells how the facts show that cells lie in a zone. Whether they do.
     fn reach_ends(&mut self, cells: &Cells<'a>, zone: &'a Zone) -> bool {
-        let mut low = cells.low.copy();
-        low.add_form(&zone.low, -1);
-        let mut high = Sum::of_form(self.scope.heap, &zone.high);
-        high.add(&cells.high, -1);
-        self.reach(&low, false) && self.reach(&high, false)
+        let heap = self.scope.heap;
+        self.reach(&begin_in(cells, zone), false) && self.reach(&end_in(heap, cells, zone), false)
     }
 
     /// The same; nothing is told where they do not.
@@ -313,7 +374,18 @@ impl<'a> Walk<'a> {
                 return true;
             }
         }
+        for zone in zones {
+            if cells.may_lie_in(zone) {
+                self.miss_zone(cells, zone);
+            }
+        }
         false
+    }
+
+    /// Keeps what would show that cells lie in a zone.
+    fn miss_zone(&mut self, cells: &Cells<'a>, zone: &'a Zone) {
+        self.ask(&begin_in(cells, zone));
+        self.ask(&end_in(self.scope.heap, cells, zone))
     }
 
     /// The same of the covering zones; of the function's own cells nothing where it touches them itself.
@@ -344,17 +416,33 @@ impl<'a> Walk<'a> {
         }
     }
 
-    /// Goes over a step; the lines that may stand before it.
-    pub fn pass(&mut self, step: &'a Step) -> TextBuffer {
+    /// Goes over a step.
+    pub fn pass(&mut self, step: &'a Step) {
         self.begin(step.shows.as_slice());
         if self.effort == 0 {
-            return self.spell_told();
+            return;
         }
         self.reach_goals(&step.instruction);
         self.effort = self.effort.saturating_sub(self.block.steps.len());
         self.reach_covers(&step.instruction);
         self.learn_step(&step.instruction);
-        self.spell_told()
+        self.passed = self.passed.saturating_add(1);
+        self.flush(step.line)
+    }
+
+    /// Whether they show a sum with what being taken says of an edge, as often as a register of the sum asks for.
+    fn reach_with(&mut self, goal: &Sum<'a>, fact: &Sum<'a>) -> bool {
+        for (name, coefficient) in &goal.terms {
+            let times = times_for(*coefficient, fact.coefficient(name));
+            if let Some(times) = times {
+                let rest = goal.with(fact, 0i128.saturating_sub(times));
+                if self.reach(&rest, true) {
+                    return true;
+                }
+            }
+        }
+        let rest = goal.with(fact, -1);
+        self.reach(&rest, true)
     }
 
     /// Tells how the facts show a sum along an edge, with what being taken says of it, or without.
@@ -362,13 +450,78 @@ impl<'a> Walk<'a> {
         if self.reach(goal, false) {
             return;
         }
-        for number in known.facts_on(edge) {
+        for number in known.facts_by_taking(edge) {
             if let Some(fact) = known.facts.sums.get(*number) {
-                let rest = goal.with(fact, -1);
-                if self.reach(&rest, true) {
+                if self.reach_with(goal, fact) {
                     return;
                 }
             }
+        }
+        self.miss(goal)
+    }
+
+    /// Keeps what is left at the block's head, where two facts do not show that it is at least 0.
+    fn ask_left(&mut self, sum: &Sum<'a>) {
+        let heap = self.scope.heap;
+        let mut effort = self.effort;
+        let found = lines_between(heap, self.facts.as_slice(), sum, false, &mut effort);
+        self.effort = effort;
+        let is_shown = match &found {
+            Some(lines) => lines.is_empty(),
+            None => false,
+        };
+        if sum.as_number().is_none() && !is_shown {
+            heap.push(&mut self.missed, sum.copy());
+        }
+    }
+
+    /// The same of self calls and instructions.
+    fn ask_lefts(&mut self) {
+        if let Some(left) = given(self.scope.heap, self.block) {
+            self.ask_left(&left.calls);
+            self.ask_left(&left.instructions);
+        }
+    }
+
+    /// What is left behind an edge, where its target has a line for it.
+    fn left_behind(&self, edge: Edge<'a>) -> Option<Need<'a>> {
+        let heap = self.scope.heap;
+        match block_at(self.scope.function, edge.to) {
+            Some(to) => match given(heap, to) {
+                Some(left) => Some(left.moved(heap, &self.block.label, to.phis.as_slice())),
+                None => None,
+            },
+            None => None,
+        }
+    }
+
+    /// Tells how the facts show that enough is left behind the edges of the block; of a detach behind both together.
+    fn reach_lefts(&mut self, known: &Known<'a>, uses: &Need<'a>) {
+        let Some(mut rest) = given(self.scope.heap, self.block) else {
+            return;
+        };
+        rest.take(uses);
+        let mut is_last = true;
+        for (number, edge) in known.edges.iter().enumerate() {
+            if edge.from == self.place {
+                if let Some(next) = self.left_behind(*edge) {
+                    if matches!(edge.way, Way::Detached | Way::Continued(_)) {
+                        rest.take(&next);
+                    } else {
+                        is_last = false;
+                        self.reach_along(known, number, &rest.calls.with(&next.calls, -1));
+                        self.reach_along(
+                            known,
+                            number,
+                            &rest.instructions.with(&next.instructions, -1),
+                        );
+                    }
+                }
+            }
+        }
+        if is_last {
+            self.ask(&rest.calls);
+            self.ask(&rest.instructions)
         }
     }
 
@@ -399,13 +552,14 @@ impl<'a> Walk<'a> {
         }
     }
 
-    /// Goes over the end of the block; the lines that may stand before it.
-    pub fn end(&mut self, known: &Known<'a>, ending: &'a Ending) -> TextBuffer {
+    /// Goes over the end of the block.
+    pub fn end(&mut self, known: &Known<'a>, ending: &'a Ending, uses: &Need<'a>) {
         self.begin(ending.shows.as_slice());
         if let Terminator::Return { value: Some(value) } = &ending.terminator {
             self.reach_return(value);
         }
         self.reach_edges(known);
-        self.spell_told()
+        self.reach_lefts(known, uses);
+        self.flush(ending.line)
     }
 }

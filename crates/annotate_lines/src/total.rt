@@ -1,6 +1,6 @@
 //! What a function may use in all, by what is left at its entry.
 
-use crate::facts::{Heap, Sum, greatest};
+use crate::facts::{Heap, Sum, greatest_shown};
 use crate::left::Need;
 use syntax::Function;
 
@@ -14,8 +14,8 @@ pub struct Total {
 impl Total {
     /// The budget that covers what is left at the entry, whatever the arguments are by these facts; none where there is none.
     pub fn of_need<'a>(facts: &[Sum<'a>], need: &Need<'a>) -> Option<Total> {
-        let self_calls = greatest(facts, &need.calls);
-        let instructions = greatest(facts, &need.instructions);
+        let self_calls = greatest_shown(facts, &need.calls);
+        let instructions = greatest_shown(facts, &need.instructions);
         match (self_calls, instructions) {
             (Some(self_calls), Some(instructions)) => Some(Total {
                 self_calls,

@@ -1,5 +1,6 @@
 //! Bounds of registers by facts about them alone, and of sums by those.
 
+use crate::facts::search::is_factor;
 use crate::facts::sum::Sum;
 
 /// The greatest number of a budget.
@@ -82,14 +83,59 @@ fn greatest_by<'a>(facts: &[Sum<'_>], sum: &Sum<'a>, fact: &Sum<'a>) -> Option<i
     most
 }
 
-/// The greatest number that a sum may come to, from 0 to that of a budget; none where there is none.
-pub fn greatest<'a>(facts: &[Sum<'a>], sum: &Sum<'a>) -> Option<u64> {
+/// The greatest number that a sum may come to, by the bounds of its registers and one more fact.
+pub fn greatest_number<'a>(facts: &[Sum<'a>], sum: &Sum<'a>) -> Option<i128> {
     let mut most = greatest_apart(facts, sum);
     for fact in facts {
         most = bound_among(most, greatest_by(facts, sum, fact), true);
     }
-    match most {
+    most
+}
+
+/// The same, from 0 to that of a budget; none where there is none.
+pub fn greatest<'a>(facts: &[Sum<'a>], sum: &Sum<'a>) -> Option<u64> {
+    match greatest_number(facts, sum) {
         Some(most) if most <= MOST => u64::try_from(most).ok(),
         _ => None,
+    }
+}
+
+/// How many registers a sum has.
+fn size_of(sum: &Sum<'_>) -> usize {
+    let mut size = 0usize;
+    for (_name, coefficient) in &sum.terms {
+        if *coefficient != 0 {
+            size = size.saturating_add(1);
+        }
+    }
+    size
+}
+
+/// Whether a fact that takes a register out of a sum has a factor then by which it may show that.
+fn may_show(sum: &Sum<'_>, fact: &Sum<'_>) -> bool {
+    for (name, coefficient) in &fact.terms {
+        if *coefficient != 0 && sum.has(name) {
+            let times = sum.coefficient(name).checked_div(*coefficient).unwrap_or(0);
+            return is_factor(sum, times.saturating_abs());
+        }
+    }
+    false
+}
+
+/// The greatest number that a sum may come to, as two facts show it; none where they show none.
+pub fn greatest_shown<'a>(facts: &[Sum<'a>], sum: &Sum<'a>) -> Option<u64> {
+    let mut most = if size_of(sum) <= 2 {
+        greatest_apart(facts, sum)
+    } else {
+        None
+    };
+    for fact in facts {
+        if size_of(fact) == 2 && may_show(sum, fact) {
+            most = bound_among(most, greatest_by(facts, sum, fact), true);
+        }
+    }
+    match most {
+        Some(most) if most <= MOST => u64::try_from(most).ok(),
+        _ => greatest(facts, sum),
     }
 }

@@ -1,20 +1,21 @@
 //! What instructions and phis make of registers.
 
-use crate::facts::edge::{definition_in, phi_value};
+use crate::facts::edge::{definition_in, phi_value, register_of};
 use crate::facts::heap::Heap;
 use crate::facts::sum::Sum;
 use lists::Name;
-use syntax::{BinaryOperator, Function, Instruction, Operand, Phi};
+use syntax::{BinaryOperator, Function, Instruction, Operand, Phi, Step};
 
 /// How often an operator's left and right operand stand in the sum that it makes, but for what its width cannot hold; none where it makes
 /// no sum.
-fn times_of(operator: BinaryOperator, right: &Operand) -> Option<(i128, i128)> {
+fn times_of(operator: BinaryOperator, left: &Operand, right: &Operand) -> Option<(i128, i128)> {
     match operator {
         BinaryOperator::Add | BinaryOperator::AddNoWrap => Some((1, 1)),
         BinaryOperator::Subtract | BinaryOperator::SubtractNoWrap => Some((1, -1)),
-        BinaryOperator::Multiply | BinaryOperator::MultiplyNoWrap => match right {
-            Operand::Number(number) => Some((i128::from(*number), 0)),
-            Operand::Register(_) => None,
+        BinaryOperator::Multiply | BinaryOperator::MultiplyNoWrap => match (left, right) {
+            (_, Operand::Number(number)) => Some((i128::from(*number), 0)),
+            (Operand::Number(number), Operand::Register(_)) => Some((0, i128::from(*number))),
+            _ => None,
         },
         _ => None,
     }
@@ -31,7 +32,7 @@ pub fn definition_of<'a>(heap: &'a Heap, instruction: &'a Instruction) -> Option
     else {
         return None;
     };
-    let Some((of_left, of_right)) = times_of(*operator, right) else {
+    let Some((of_left, of_right)) = times_of(*operator, left, right) else {
         return None;
     };
     let mut sum = Sum::of_operand(heap, left, of_left);
@@ -76,6 +77,31 @@ impl<'a> Equation<'a> {
             least: own.with(value, -1),
         }
     }
+}
+
+/// Puts in what an instruction's register is made of, if the sum has it; whether the sum is still one.
+fn put_in<'a>(heap: &'a Heap, sum: &mut Sum<'a>, instruction: &'a Instruction) -> bool {
+    match register_of(instruction) {
+        Some(name) if sum.has(name) => match definition_of(heap, instruction) {
+            Some(value) => {
+                sum.put(name, &value);
+                true
+            }
+            None => false,
+        },
+        _ => true,
+    }
+}
+
+/// A sum before these steps of a block, as it is behind them: what they define is replaced by what it is made of. None where that is no sum.
+pub fn sum_before<'a>(heap: &'a Heap, sum: &Sum<'a>, steps: &'a [Step]) -> Option<Sum<'a>> {
+    let mut sum = sum.copy();
+    for index in (0..steps.len()).rev() {
+        if !put_in(heap, &mut sum, &steps[index].instruction) {
+            return None;
+        }
+    }
+    Some(sum)
 }
 
 /// A sum at a block's start, with what its phis take on an edge from a block of this label put in.

@@ -28,7 +28,7 @@ pub struct Edge<'a> {
 }
 
 /// The number of the block of this label.
-fn block_of(blocks: &[Block], label: &Name) -> Option<usize> {
+pub fn block_numbered(blocks: &[Block], label: &Name) -> Option<usize> {
     for number in 0..blocks.len() {
         if blocks[number].label.is_same(label) {
             return Some(number);
@@ -48,7 +48,7 @@ struct Finder<'a> {
 impl<'a> Finder<'a> {
     /// Adds an edge to the block of a label; where no block has it there is none.
     fn push(&mut self, from: usize, label: &Name, way: Way<'a>) {
-        if let Some(to) = block_of(self.blocks, label) {
+        if let Some(to) = block_numbered(self.blocks, label) {
             self.heap.push(&mut self.edges, Edge { from, to, way });
         }
     }
@@ -132,7 +132,7 @@ pub fn register_of(instruction: &Instruction) -> Option<&str> {
     }
 }
 
-fn is_register(operand: &Operand, name: &str) -> bool {
+pub fn is_register(operand: &Operand, name: &str) -> bool {
     match operand {
         Operand::Register(register) => register.as_str() == name,
         Operand::Number(_) => false,
@@ -168,7 +168,7 @@ fn uses(instruction: &Instruction, name: &str) -> bool {
     }
 }
 
-fn block_uses(block: &Block, name: &str) -> bool {
+pub fn block_uses(block: &Block, name: &str) -> bool {
     for step in block.steps.as_slice() {
         if uses(&step.instruction, name) {
             return true;
@@ -227,6 +227,18 @@ pub fn is_phi(phis: &[Phi], name: &str) -> bool {
 /// Whether the block defines the register.
 pub fn defines(block: &Block, name: &str) -> bool {
     definition_among(block.steps.as_slice(), name).is_some() || is_phi(block.phis.as_slice(), name)
+}
+
+/// Whether one of these phis takes the register where the run comes from a block of this label.
+pub fn phi_takes(phis: &[Phi], name: &str, predecessor: &Name) -> bool {
+    for phi in phis {
+        for entry in phi.entries.as_slice() {
+            if entry.predecessor.is_same(predecessor) && is_register(&entry.value, name) {
+                return true;
+            }
+        }
+    }
+    false
 }
 
 /// What a phi takes where the run comes from a block of this label.

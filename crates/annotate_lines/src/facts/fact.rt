@@ -1,8 +1,9 @@
 //! What inequalities, and the conditions of branches, say.
 
-use crate::facts::definition::{Equation, definition_of, is_exact};
+use crate::facts::definition::{definition_of, sum_before};
 use crate::facts::edge::{Edge, Way, block_at, is_used_beside, register_of};
 use crate::facts::heap::Heap;
+use crate::facts::learned::facts_of;
 use crate::facts::sum::Sum;
 use std::mem::replace;
 use syntax::{Function, Inequality, Instruction, Operand, Predicate, Step};
@@ -74,27 +75,32 @@ impl<'a> Facts<'a> {
         }
     }
 
-    /// States `low <= high`, or `low < high`.
-    fn order(&mut self, low: &'a Operand, high: &'a Operand, is_strict: bool) {
+    /// States `low <= high`, or `low < high`, behind these steps of a block, and what that is before them.
+    fn order(&mut self, steps: &'a [Step], low: &'a Operand, high: &'a Operand, is_strict: bool) {
         let mut sum = Sum::of_operand(self.heap, high, 1);
         sum.add_operand(low, -1);
         sum.add_number(if is_strict { -1 } else { 0 });
+        let before = sum_before(self.heap, &sum, steps);
         self.add(sum);
+        if let Some(before) = before {
+            self.add(before);
+        }
     }
 
     /// States what a comparison says of signed numbers where it holds, or where it does not.
     fn compare(
         &mut self,
+        steps: &'a [Step],
         predicate: Predicate,
         left: &'a Operand,
         right: &'a Operand,
         holds: bool,
     ) {
         if let Some(is_strict) = order_of(predicate, holds, false) {
-            self.order(left, right, is_strict);
+            self.order(steps, left, right, is_strict);
         }
         if let Some(is_strict) = order_of(predicate, holds, true) {
-            self.order(right, left, is_strict);
+            self.order(steps, right, left, is_strict);
         }
     }
 
@@ -110,7 +116,7 @@ impl<'a> Facts<'a> {
             } = &step.instruction
             {
                 if register.as_str() == condition {
-                    self.compare(*predicate, left, right, holds);
+                    self.compare(steps, *predicate, left, right, holds);
                 }
             }
         }
@@ -118,16 +124,31 @@ impl<'a> Facts<'a> {
 
     /// States what an instruction says of a register that blocks beside its own take.
     fn make(&mut self, index: usize, instruction: &'a Instruction) {
-        let Some(name) = register_of(instruction) else {
-            return;
-        };
-        if is_exact(instruction) && is_used_beside(self.function, index, name) {
-            if let Some(value) = definition_of(self.heap, instruction) {
-                let equation = Equation::of(self.heap, name, &value);
-                self.add(equation.most);
-                self.add(equation.least);
+        if let Some(name) = register_of(instruction) {
+            if is_used_beside(self.function, index, name) {
+                for fact in facts_of(self.heap, name, instruction) {
+                    let fact = self.travelling(index, name, fact);
+                    self.add(fact);
+                }
             }
         }
+    }
+
+    /// A fact of a register, where others that the block makes of sums and that no other block takes are replaced by these.
+    fn travelling(&self, index: usize, name: &str, fact: Sum<'a>) -> Sum<'a> {
+        let mut sum = fact;
+        if let Some(block) = block_at(self.function, index) {
+            for step in block.steps.as_slice().iter().rev() {
+                if let Some(own) = register_of(&step.instruction) {
+                    if own != name && sum.has(own) && !is_used_beside(self.function, index, own) {
+                        if let Some(value) = definition_of(self.heap, &step.instruction) {
+                            sum.put(own, &value);
+                        }
+                    }
+                }
+            }
+        }
+        sum
     }
 
     /// States what a block's own instructions make of registers that other blocks take, unless the function has many.
@@ -151,18 +172,23 @@ impl<'a> Facts<'a> {
         }
     }
 
-    /// States what a block adds on one of its edges: its `shows`, and the outcome of its branch.
+    /// States what the `shows` lines of a block say.
+    pub fn show_all(&mut self, index: usize) {
+        if let Some(block) = block_at(self.function, index) {
+            for step in block.steps.as_slice() {
+                self.state(step.shows.as_slice());
+            }
+            if let Some(ending) = &block.ending {
+                self.state(ending.shows.as_slice());
+            }
+        }
+    }
+
+    /// States the outcome of a block's branch on one of its edges.
     pub fn pass(&mut self, edge: Edge<'a>) {
-        let Some(block) = block_at(self.function, edge.from) else {
-            return;
-        };
-        for step in block.steps.as_slice() {
-            self.state(step.shows.as_slice());
+        if let Some(block) = block_at(self.function, edge.from) {
+            self.branch(block.steps.as_slice(), edge.way);
         }
-        if let Some(ending) = &block.ending {
-            self.state(ending.shows.as_slice());
-        }
-        self.branch(block.steps.as_slice(), edge.way)
     }
 }
 

@@ -1,7 +1,7 @@
 //! What is known wherever a block begins, because all ways to it bring it along.
 
 use crate::facts::bound::bound_among;
-use crate::facts::edge::{Edge, defines, edges_of};
+use crate::facts::edge::{Edge, Way, defines, edges_of};
 use crate::facts::fact::Facts;
 use crate::facts::guess::{Place, dominators_of};
 use crate::facts::heap::Heap;
@@ -11,6 +11,25 @@ use syntax::{Block, Function};
 /// The most blocks of a function in which something is guessed, and rounds are counted.
 pub const MOST_BLOCKS: usize = 256;
 
+/// A fact that may be so, and is to be tried.
+pub struct Extra<'a> {
+    pub block: usize,
+    /// Whether it is so where the block begins, or from its end on.
+    pub is_at_head: bool,
+    pub fact: Sum<'a>,
+}
+
+/// Written out, so that no crate above proves it anew.
+impl Drop for Extra<'_> {
+    fn drop(self) {
+        let Extra {
+            block: _,
+            is_at_head: _,
+            fact: _,
+        } = self;
+    }
+}
+
 /// The facts of a function, and which of them hold where.
 pub struct Known<'a> {
     pub heap: &'a Heap,
@@ -19,12 +38,16 @@ pub struct Known<'a> {
     /// For each block the numbers of the edges that lead to it.
     into: Vec<Vec<usize>>,
     pub facts: Facts<'a>,
+    /// How many of the facts the text states, or a branch of it; those behind them follow, or may be so.
+    stated: usize,
     /// For each block the numbers of the facts that its head states.
     given: Vec<Vec<usize>>,
     /// For each block the numbers of the facts that may be so at it, and are to be tried.
     guessed: Vec<Vec<usize>>,
     /// For each edge the numbers of the facts that its source adds.
-    pub added: Vec<Vec<usize>>,
+    added: Vec<Vec<usize>>,
+    /// Those of them that being taken says of it.
+    taken: Vec<Vec<usize>>,
     /// For each block the numbers of the facts that its own instructions make.
     made: Vec<Vec<usize>>,
     /// For each block whether each fact is brought along to it; no fact that is not is marked.
@@ -40,9 +63,11 @@ impl Drop for Known<'_> {
             edges: _,
             into: _,
             facts: _,
+            stated: _,
             given: _,
             guessed: _,
             added: _,
+            taken: _,
             made: _,
             marks: _,
         } = self;
@@ -65,6 +90,13 @@ fn row_has(rows: &[Vec<usize>], row: usize, number: usize) -> bool {
         }
     }
     false
+}
+
+/// Adds numbers to a row, where it is there.
+fn extend(heap: &Heap, rows: &mut Vec<Vec<usize>>, row: usize, numbers: &[usize]) {
+    if row < rows.len() {
+        heap.kept(rows[row].extend_from_slice(numbers));
+    }
 }
 
 /// For each block the numbers of the edges that lead to it.
@@ -92,11 +124,23 @@ impl<'a> Known<'a> {
         }
     }
 
-    /// States what the edges add.
+    /// States what the edges add; what the lines of a block show is the same on all of its edges, which stand next to each other.
     fn add_all(&mut self) {
+        let mut shown = self.heap.list();
+        let mut from = None;
         for edge in &self.edges {
+            if from != Some(edge.from) {
+                from = Some(edge.from);
+                self.facts.show_all(edge.from);
+                shown = self.facts.take();
+            }
             self.facts.pass(*edge);
-            self.heap.push(&mut self.added, self.facts.take());
+            let taken = self.facts.take();
+            let mut row = self.heap.list();
+            self.heap.kept(row.extend_from_slice(taken.as_slice()));
+            self.heap.kept(row.extend_from_slice(shown.as_slice()));
+            self.heap.push(&mut self.added, row);
+            self.heap.push(&mut self.taken, taken);
         }
     }
 
@@ -118,13 +162,14 @@ impl<'a> Known<'a> {
         };
         let sums = self.facts.sums.as_slice();
         let from = first.min(sums.len());
-        let guesses = place.guesses(&sums[from..]);
+        let guesses = if first == 0 {
+            place.guesses(&sums[from..])
+        } else {
+            place.guesses_of_taken(&sums[from..])
+        };
         self.facts.add_all(guesses);
         let stated = self.facts.take();
-        if block < self.guessed.len() {
-            let added = self.guessed[block].extend_from_slice(stated.as_slice());
-            self.heap.kept(added);
-        }
+        extend(self.heap, &mut self.guessed, block, stated.as_slice());
     }
 
     /// The same of all blocks.
@@ -134,12 +179,27 @@ impl<'a> Known<'a> {
         }
     }
 
+    /// Begins with no guess at each block.
+    fn begin_guesses(&mut self) {
+        for _block in 0..self.function.blocks.len() {
+            self.heap.push(&mut self.guessed, self.heap.list());
+        }
+    }
+
+    /// States a fact that may be so.
+    fn add_extra(&mut self, extra: &Extra<'a>) {
+        self.facts.add(extra.fact.copy());
+        let stated = self.facts.take();
+        if extra.is_at_head {
+            extend(self.heap, &mut self.guessed, extra.block, stated.as_slice());
+        } else {
+            extend(self.heap, &mut self.made, extra.block, stated.as_slice());
+        }
+    }
+
     /// States what may be so at the heads of loops, unless the function has many blocks; then what may be so if that is.
     fn guess_all(&mut self) {
         let count = self.function.blocks.len();
-        for _block in 0..count {
-            self.heap.push(&mut self.guessed, self.heap.list());
-        }
         if count > MOST_BLOCKS {
             return;
         }
@@ -152,6 +212,11 @@ impl<'a> Known<'a> {
     /// The numbers of the facts that the source of an edge adds on it.
     pub fn facts_on(&self, edge: usize) -> &[usize] {
         row_of(self.added.as_slice(), edge)
+    }
+
+    /// The numbers of the facts that being taken says of an edge.
+    pub fn facts_by_taking(&self, edge: usize) -> &[usize] {
+        row_of(self.taken.as_slice(), edge)
     }
 
     /// The facts that are known at a block.
@@ -184,6 +249,16 @@ impl<'a> Known<'a> {
         row_has(self.given.as_slice(), block, fact)
     }
 
+    /// Whether a block is the first one of a child.
+    pub fn is_child(&self, block: usize) -> bool {
+        for edge in &self.edges {
+            if edge.to == block && matches!(edge.way, Way::Detached) {
+                return true;
+            }
+        }
+        false
+    }
+
     /// Whether the fact is marked at the block.
     pub fn is_known(&self, block: usize, fact: usize) -> bool {
         if block >= self.marks.len() {
@@ -210,12 +285,26 @@ impl<'a> Known<'a> {
     }
 
     /// How much a sum lacks to be at least 0, by one fact that is known at the block.
-    fn lack(&self, block: usize, sum: &Sum<'a>) -> Option<i128> {
+    fn lack_alone(&self, block: usize, sum: &Sum<'a>) -> Option<i128> {
         let mut least = None;
         for number in 0..self.facts.sums.len() {
             if self.is_known(block, number) {
                 let lack = lack_by(sum, &self.facts.sums[number]);
                 least = bound_among(least, lack, true);
+            }
+        }
+        least
+    }
+
+    /// The same by two facts, of which the first takes a register out.
+    fn lack(&self, block: usize, sum: &Sum<'a>) -> Option<i128> {
+        let mut least = self.lack_alone(block, sum);
+        for number in 0..self.facts.sums.len() {
+            if self.is_known(block, number) {
+                if let Some(rest) = rest_of(sum, &self.facts.sums[number]) {
+                    let lack = self.lack_alone(block, &rest);
+                    least = bound_among(least, lack, true);
+                }
             }
         }
         least
@@ -329,12 +418,17 @@ impl<'a> Known<'a> {
     }
 
     /// Finds the facts, and marks what is known at each block.
-    fn find(&mut self, has_guesses: bool) {
+    fn find(&mut self, has_guesses: bool, extras: &[Extra<'a>]) {
         self.give_all();
         self.add_all();
+        self.stated = self.facts.sums.len();
         self.make_all();
+        self.begin_guesses();
         if has_guesses {
             self.guess_all();
+        }
+        for extra in extras {
+            self.add_extra(extra);
         }
         self.mark_all();
         for _round in 0..self.function.blocks.len() {
@@ -343,6 +437,18 @@ impl<'a> Known<'a> {
             }
         }
     }
+}
+
+/// A sum without as much of a fact as takes the fact's first register out of it; none where the sum has that not, or with the other sign.
+fn rest_of<'a>(sum: &Sum<'a>, fact: &Sum<'a>) -> Option<Sum<'a>> {
+    let Some((name, coefficient)) = fact.first() else {
+        return None;
+    };
+    let times = sum.coefficient(name).checked_div(coefficient).unwrap_or(0);
+    if times <= 0 {
+        return None;
+    }
+    Some(sum.with(fact, 0i128.saturating_sub(times)))
 }
 
 /// How much a sum lacks to be at least 0 if a fact is, where it is a multiple of that and a number.
@@ -371,8 +477,13 @@ pub fn names_own(block: &Block, sum: &Sum<'_>) -> bool {
 }
 
 /// What is known at each block, by what heads state, `shows` and the outcomes of branches. A fact about registers that the block defines
-/// anew is not brought along to it. What may be so of counters is among it, if guesses are asked for.
-pub fn known_of<'a>(heap: &'a Heap, function: &'a Function, has_guesses: bool) -> Known<'a> {
+/// anew is not brought along to it. What may be so of counters is among it, if guesses are asked for, and further facts that may be so.
+pub fn known_of<'a>(
+    heap: &'a Heap,
+    function: &'a Function,
+    has_guesses: bool,
+    extras: &[Extra<'a>],
+) -> Known<'a> {
     let edges = edges_of(heap, function);
     let into = into_blocks(heap, edges.as_slice(), function.blocks.len());
     let mut known = Known {
@@ -381,12 +492,14 @@ pub fn known_of<'a>(heap: &'a Heap, function: &'a Function, has_guesses: bool) -
         edges,
         into,
         facts: Facts::new(heap, function),
+        stated: 0,
         given: heap.list(),
         guessed: heap.list(),
         added: heap.list(),
+        taken: heap.list(),
         made: heap.list(),
         marks: heap.list(),
     };
-    known.find(has_guesses);
+    known.find(has_guesses, extras);
     known
 }

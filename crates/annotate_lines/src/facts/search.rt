@@ -27,7 +27,7 @@ struct Search<'w, 'a> {
 }
 
 /// How often a fact is taken out of a rest for a register with these coefficients; none where the signs differ.
-fn times_for(coefficient: i128, of_fact: i128) -> Option<i128> {
+pub fn times_for(coefficient: i128, of_fact: i128) -> Option<i128> {
     if coefficient == 0 || of_fact == 0 || (coefficient < 0) != (of_fact < 0) {
         return None;
     }
@@ -35,7 +35,7 @@ fn times_for(coefficient: i128, of_fact: i128) -> Option<i128> {
 }
 
 /// Whether a fact may be taken so many times in a sum: once, or as often as one of the sum's coefficients says.
-fn is_factor(sum: &Sum<'_>, times: i128) -> bool {
+pub fn is_factor(sum: &Sum<'_>, times: i128) -> bool {
     for (_name, coefficient) in &sum.terms {
         if coefficient.unsigned_abs() == times.unsigned_abs() {
             return true;

@@ -1,0 +1,144 @@
+//! What instructions make known of the registers that they define.
+
+use crate::facts::definition::{Equation, definition_of, is_exact};
+use crate::facts::edge::register_of;
+use crate::facts::heap::Heap;
+use crate::facts::sum::Sum;
+use syntax::{BinaryOperator, Conversion, Instruction, Operand, Step};
+
+/// The greatest number by which a quotient is known.
+const MOST_DIVISOR: i128 = 1_000_000;
+
+/// Facts of a register, while they are gathered.
+#[derive(Drop)]
+struct Learned<'a> {
+    heap: &'a Heap,
+    name: &'a str,
+    facts: Vec<Sum<'a>>,
+}
+
+impl<'a> Learned<'a> {
+    fn push(&mut self, fact: Sum<'a>) {
+        self.heap.push(&mut self.facts, fact);
+    }
+
+    fn own(&self, times: i128) -> Sum<'a> {
+        Sum::of_register(self.heap, self.name, times)
+    }
+
+    fn push_between(&mut self, low: i128, high: i128) {
+        let least = self.own(1).raised(0i128.saturating_sub(low));
+        let most = self.own(-1).raised(high);
+        self.push(least);
+        self.push(most);
+    }
+
+    fn push_equal(&mut self, value: &Sum<'a>) {
+        let equation = Equation::of(self.heap, self.name, value);
+        self.push(equation.most);
+        self.push(equation.least);
+    }
+
+    /// A quotient by a number, rounded down.
+    fn push_quotient(&mut self, whole: &'a Operand, divisor: i128) {
+        let mut rest = Sum::of_operand(self.heap, whole, 1);
+        rest.add_term(self.name, 0i128.saturating_sub(divisor));
+        let over = rest.below(divisor.saturating_sub(1));
+        let own = self.own(1);
+        self.push(own);
+        self.push(rest);
+        self.push(over);
+    }
+
+    /// An operation with a number on its right.
+    fn push_operation(&mut self, operator: BinaryOperator, left: &'a Operand, right: i128) {
+        let is_divisor = 1 <= right && right <= MOST_DIVISOR;
+        match operator {
+            BinaryOperator::And if right >= 0 => self.push_between(0, right),
+            BinaryOperator::SignedRemainder if is_divisor => {
+                self.push_between(0, right.saturating_sub(1));
+            }
+            BinaryOperator::SignedDivide if is_divisor => self.push_quotient(left, right),
+            _ => {}
+        }
+    }
+
+    fn push_all(&mut self, instruction: &'a Instruction) {
+        match instruction {
+            Instruction::Binary { .. } if is_exact(instruction) => {
+                if let Some(value) = definition_of(self.heap, instruction) {
+                    self.push_equal(&value);
+                }
+            }
+            Instruction::Binary {
+                operator,
+                left,
+                right: Operand::Number(right),
+                ..
+            } => self.push_operation(*operator, left, i128::from(*right)),
+            Instruction::Convert {
+                conversion: Conversion::SignExtend,
+                value,
+                ..
+            } => {
+                let value = Sum::of_operand(self.heap, value, 1);
+                self.push_equal(&value);
+            }
+            _ => {}
+        }
+    }
+}
+
+/// What an instruction makes known of its register, or may make known, where its operands are as it wants them.
+pub fn facts_of<'a>(heap: &'a Heap, name: &'a str, instruction: &'a Instruction) -> Vec<Sum<'a>> {
+    let mut learned = Learned {
+        heap,
+        name,
+        facts: heap.list(),
+    };
+    learned.push_all(instruction);
+    learned.facts
+}
+
+/// No less than a sum, without a register of it, by what its instruction makes known; none where that bounds it not.
+fn most_without<'a>(
+    heap: &'a Heap,
+    sum: &Sum<'a>,
+    name: &'a str,
+    instruction: &'a Instruction,
+) -> Option<Sum<'a>> {
+    if let Some(value) = definition_of(heap, instruction) {
+        let mut rest = sum.copy();
+        rest.put(name, &value);
+        return Some(rest);
+    }
+    let coefficient = sum.coefficient(name);
+    for fact in facts_of(heap, name, instruction) {
+        let times = coefficient.checked_div(fact.coefficient(name)).unwrap_or(0);
+        let times = 0i128.saturating_sub(times);
+        if times > 0 {
+            let rest = sum.with(&fact, times);
+            if !rest.has(name) {
+                return Some(rest);
+            }
+        }
+    }
+    None
+}
+
+/// No less than a sum, before these steps of a block; none where nothing bounds what they define.
+pub fn most_before<'a>(heap: &'a Heap, sum: &Sum<'a>, steps: &'a [Step]) -> Option<Sum<'a>> {
+    let mut most = sum.copy();
+    for index in (0..steps.len()).rev() {
+        let instruction = &steps[index].instruction;
+        if let Some(name) = register_of(instruction) {
+            if most.has(name) {
+                match most_without(heap, &most, name, instruction) {
+                    Some(rest) => most = rest,
+                    None => return None,
+                }
+            }
+        }
+    }
+    Some(most)
+}

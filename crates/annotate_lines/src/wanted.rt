@@ -1,0 +1,170 @@
+//! Facts that would show what a block asks and its facts do not show: tried where their registers are made, and on the ways there.
+
+use crate::facts::{
+    Edge, Extra, Heap, Sum, block_at, defines, dominators_of, is_above, is_phi, moved, names_own,
+    sum_before,
+};
+use syntax::{Block, Function};
+
+/// The most facts of a function that are wanted, and how far back a fact is moved.
+const MOST_WANTS: usize = 256;
+
+const MOST_MOVES: usize = 4;
+
+/// What is wanted at a block's start, if that can still be moved back so often.
+#[derive(Drop)]
+struct Want<'a> {
+    block: usize,
+    sum: Sum<'a>,
+    moves: usize,
+}
+
+/// What is wanted in a function, and the facts that would show it.
+#[derive(Drop)]
+pub struct Wants<'w, 'a> {
+    heap: &'a Heap,
+    function: &'a Function,
+    edges: &'w [Edge<'a>],
+    /// For each block one that is on all ways to it.
+    above: Vec<usize>,
+    wants: Vec<Want<'a>>,
+    extras: Vec<Extra<'a>>,
+}
+
+/// Whether a register of the sum is one that the block's instructions define.
+fn is_made_in(block: &Block, sum: &Sum<'_>) -> bool {
+    for (name, coefficient) in &sum.terms {
+        if *coefficient != 0 && defines(block, name) && !is_phi(block.phis.as_slice(), name) {
+            return true;
+        }
+    }
+    false
+}
+
+impl<'w, 'a> Wants<'w, 'a> {
+    pub fn new(heap: &'a Heap, function: &'a Function, edges: &'w [Edge<'a>]) -> Wants<'w, 'a> {
+        Wants {
+            heap,
+            function,
+            edges,
+            above: dominators_of(heap, edges, function.blocks.len()),
+            wants: heap.list(),
+            extras: heap.list(),
+        }
+    }
+
+    fn is_wanted(&self, block: usize, sum: &Sum<'a>) -> bool {
+        for want in &self.wants {
+            if want.block == block && matches!(want.sum.number_with(sum, -1), Some(0)) {
+                return true;
+            }
+        }
+        false
+    }
+
+    /// Wants a sum to be at least 0 at a block's start.
+    fn push(&mut self, block: usize, sum: Sum<'a>, moves: usize) {
+        if sum.first().is_some()
+            && sum.is_form()
+            && self.wants.len() < MOST_WANTS
+            && !self.is_wanted(block, &sum)
+        {
+            let want = Want { block, sum, moves };
+            self.heap.push(&mut self.wants, want);
+        }
+    }
+
+    /// Wants sums to be at least 0 at a block's start.
+    pub fn push_all(&mut self, block: usize, sums: Vec<Sum<'a>>) {
+        for sum in sums {
+            self.push(block, sum, MOST_MOVES);
+        }
+    }
+
+    /// The block in which the last of a sum's registers is defined, if all others are known there; none where that is the entry's head.
+    fn home_of(&self, sum: &Sum<'a>) -> Option<usize> {
+        let blocks = self.function.blocks.as_slice();
+        let mut home = None;
+        for (index, block) in blocks.iter().enumerate() {
+            if names_own(block, sum) {
+                match home {
+                    Some(before) if !is_above(self.above.as_slice(), before, index) => {
+                        return None;
+                    }
+                    _ => home = Some(index),
+                }
+            }
+        }
+        home
+    }
+
+    /// Tries a sum where the last of its registers is made.
+    fn want_at_home(&mut self, home: usize, sum: &Sum<'a>, moves: usize) {
+        let Some(block) = block_at(self.function, home) else {
+            return;
+        };
+        if is_made_in(block, sum) {
+            if let Some(before) = sum_before(self.heap, sum, block.steps.as_slice()) {
+                self.push(home, before, moves);
+            }
+            self.push_extra(home, false, sum.copy());
+        } else {
+            self.push(home, sum.copy(), moves);
+        }
+    }
+
+    /// Tries a sum at a block, and wants it on the ways there.
+    fn want_at(&mut self, index: usize, sum: &Sum<'a>, moves: usize) {
+        self.push_extra(index, true, sum.copy());
+        let Some(block) = block_at(self.function, index) else {
+            return;
+        };
+        if moves > 0 {
+            for edge in self.edges {
+                if edge.to == index {
+                    self.want_along(*edge, block, sum, moves.saturating_sub(1));
+                }
+            }
+        }
+    }
+
+    fn push_extra(&mut self, block: usize, is_at_head: bool, fact: Sum<'a>) {
+        let extra = Extra {
+            block,
+            is_at_head,
+            fact,
+        };
+        self.heap.push(&mut self.extras, extra);
+    }
+
+    /// Wants a sum of a block's phis on an edge that leads there.
+    fn want_along(&mut self, edge: Edge<'a>, to: &'a Block, sum: &Sum<'a>, moves: usize) {
+        if let Some(from) = block_at(self.function, edge.from) {
+            let sum = moved(self.heap, sum, &from.label, to.phis.as_slice());
+            if let Some(before) = sum_before(self.heap, &sum, from.steps.as_slice()) {
+                self.push(edge.from, before, moves);
+            }
+        }
+    }
+
+    /// The facts that would show what is wanted.
+    pub fn finish(self) -> Vec<Extra<'a>> {
+        let mut wants = self;
+        for index in 0..MOST_WANTS {
+            let Some(want) = wants.wants.get(index) else {
+                break;
+            };
+            let (block, sum, moves) = (want.block, want.sum.copy(), want.moves);
+            if block > 0 {
+                wants.want_at(block, &sum, moves);
+            }
+            if let Some(home) = wants.home_of(&sum) {
+                if home != block {
+                    wants.want_at_home(home, &sum, moves);
+                }
+            }
+        }
+        let Wants { extras, .. } = wants;
+        extras
+    }
+}
