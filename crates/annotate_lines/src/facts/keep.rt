@@ -38,8 +38,6 @@ pub struct Known<'a> {
     /// For each block the numbers of the edges that lead to it.
     into: Vec<Vec<usize>>,
     pub facts: Facts<'a>,
-    /// How many of the facts the text states, or a branch of it; those behind them follow, or may be so.
-    stated: usize,
     /// For each block the numbers of the facts that its head states.
     given: Vec<Vec<usize>>,
     /// For each block the numbers of the facts that may be so at it, and are to be tried.
@@ -63,7 +61,6 @@ impl Drop for Known<'_> {
             edges: _,
             into: _,
             facts: _,
-            stated: _,
             given: _,
             guessed: _,
             added: _,
@@ -421,7 +418,6 @@ impl<'a> Known<'a> {
     fn find(&mut self, has_guesses: bool, extras: &[Extra<'a>]) {
         self.give_all();
         self.add_all();
-        self.stated = self.facts.sums.len();
         self.make_all();
         self.begin_guesses();
         if has_guesses {
@@ -492,7 +488,6 @@ pub fn known_of<'a>(
         edges,
         into,
         facts: Facts::new(heap, function),
-        stated: 0,
         given: heap.list(),
         guessed: heap.list(),
         added: heap.list(),
