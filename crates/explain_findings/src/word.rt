@@ -223,6 +223,59 @@ impl<'a> Told<'a> {
         }
     }
 
+    /// Whether a `getelementptr` of the line counts in arrays.
+    fn has_array_element(&self, tokens: &[Token]) -> bool {
+        let mut is_element = false;
+        for token in tokens {
+            match self.part(token) {
+                "getelementptr" => is_element = true,
+                "inbounds" => {}
+                "[" if is_element => return true,
+                _ => is_element = false,
+            }
+        }
+        false
+    }
+
+    /// How an element is written that LLVM counts in arrays.
+    fn push_array_element(&mut self, tokens: &[Token]) {
+        if self.has_array_element(tokens) {
+            self.notes.push_str(
+                "  an element is counted in cells: `getelementptr inbounds i64, ptr @x, i64 %x`, without the array's type and its first index\n",
+            );
+        }
+    }
+
+    /// Whether a label is a target in these tokens.
+    fn is_target(&self, tokens: &[Token], label: &str) -> bool {
+        let mut previous = "";
+        for token in tokens {
+            let word = self.part(token);
+            if previous == "label" && word == label {
+                return true;
+            }
+            previous = word;
+        }
+        false
+    }
+
+    /// Names the first target to which the line leads twice.
+    fn push_double_target(&mut self, tokens: &[Token]) {
+        let mut previous = "";
+        for (index, token) in tokens.iter().enumerate() {
+            let label = self.part(token);
+            let before = tokens.get(..index).unwrap_or(&[]);
+            if previous == "label" && self.is_target(before, label) {
+                writeln!(
+                    self.notes,
+                    "  `{label}` is a target twice, and the targets of a line differ: lead one of the two to a block of its own with `br label {label}`"
+                );
+                return;
+            }
+            previous = label;
+        }
+    }
+
     /// What is wrong with the tokens of the line: of an annotation no word of LLVM is told.
     fn push_tokens(&mut self, tokens: &[Token]) {
         match tokens.first() {
@@ -232,6 +285,8 @@ impl<'a> Told<'a> {
                 for token in tokens {
                     push_left_out(self.part(token), &mut self.notes);
                 }
+                self.push_array_element(tokens);
+                self.push_double_target(tokens);
                 self.push_edits(tokens, WORDS);
             }
         }
