@@ -6,6 +6,9 @@ use lists::{OutOfMemory, TextBuffer};
 use refusal::{push_heads, push_meanings, push_mends};
 use std::alloc::Global;
 
+/// How many faults others are compared with, to tell alike ones as one.
+const MOST_COMPARED: usize = 64;
+
 /// What it means that this line breaks a rule; where its cause is known, without the others that the rule has.
 fn meaning_of(alloc: Global, finding: &Finding, broken: &str) -> Result<String, OutOfMemory> {
     let mut meaning = String::new(alloc);
@@ -40,33 +43,71 @@ fn push_reasons(
     Ok(())
 }
 
-/// The line that breaks a rule, and why it does.
-fn push_finding_text(
-    alloc: Global,
-    out: &mut TextBuffer,
-    text: &str,
-    finding: &Finding,
-) -> Result<(), OutOfMemory> {
-    let line = line_at(text, finding.line);
-    if let Some(line) = line {
-        let shown = line.trim().escape_debug();
-        writeln!(out, "  | {shown}");
-    }
-    push_reasons(alloc, out, line.unwrap_or("").trim(), finding)
+/// A fault with what is told of it, and the lines of later ones of its rule of which the same is told.
+#[derive(Drop)]
+struct Entry<'a> {
+    finding: &'a Finding,
+    reasons: String,
+    alike: Vec<u32>,
 }
 
-/// A fault behind this word, with its rule and its line.
-fn push_finding(
-    alloc: Global,
-    out: &mut TextBuffer,
-    text: &str,
-    word: &str,
-    finding: &Finding,
-) -> Result<(), OutOfMemory> {
-    let number = finding.number;
-    let line = finding.line;
+/// What is told of a fault.
+fn entry_of<'a>(alloc: Global, text: &str, finding: &'a Finding) -> Result<Entry<'a>, OutOfMemory> {
+    let mut reasons = TextBuffer::new(alloc);
+    let line = line_at(text, finding.line).unwrap_or("").trim();
+    push_reasons(alloc, &mut reasons, line, finding)?;
+    Ok(Entry {
+        finding,
+        reasons: reasons.finish()?,
+        alike: Vec::new(alloc),
+    })
+}
+
+/// Where the same is told of a fault of the same rule.
+fn place_alike(all: &[Entry<'_>], new: &Entry<'_>) -> Option<usize> {
+    for (place, told) in all.iter().enumerate() {
+        let is_same_rule = told.finding.number == new.finding.number;
+        if is_same_rule && told.reasons.as_str() == new.reasons.as_str() {
+            return Some(place);
+        }
+    }
+    None
+}
+
+/// Adds a fault, or only its line where the same is told of one before. Of very many faults the later ones stand for themselves.
+fn push_entry<'a>(all: &mut Vec<Entry<'a>>, new: Entry<'a>) -> Result<(), OutOfMemory> {
+    let compared = all.len().min(MOST_COMPARED);
+    match place_alike(&all[..compared], &new) {
+        Some(place) if place < all.len() => all[place].alike.push(new.finding.line)?,
+        _ => all.push(new)?,
+    }
+    Ok(())
+}
+
+/// The lines of the faults of which the same is told.
+fn push_alike(out: &mut TextBuffer, told: &Entry<'_>) {
+    let number = told.finding.number;
+    let mut parting = "  the same is told of";
+    for line in &told.alike {
+        write!(out, "{parting} {number} line {line}");
+        parting = ",";
+    }
+    if !told.alike.is_empty() {
+        out.push_str("\n");
+    }
+}
+
+/// A fault behind this word, with its rule and its line, and why the line breaks it.
+fn push_finding(out: &mut TextBuffer, text: &str, word: &str, told: &Entry<'_>) {
+    let number = told.finding.number;
+    let line = told.finding.line;
     writeln!(out, "{word} {number} line {line}");
-    push_finding_text(alloc, out, text, finding)
+    if let Some(code) = line_at(text, line) {
+        let shown = code.trim().escape_debug();
+        writeln!(out, "  | {shown}");
+    }
+    out.push_str(told.reasons.as_str());
+    push_alike(out, told);
 }
 
 /// The fault that the verifier names, and those that are told beside it in full: they do not follow from an earlier one.
@@ -77,11 +118,17 @@ fn push_refused(
     first: &Finding,
     others: &[Finding],
 ) -> Result<(), OutOfMemory> {
-    push_finding(alloc, out, text, "refused", first)?;
+    let mut all: Vec<Entry<'_>> = Vec::new(alloc);
+    all.push(entry_of(alloc, text, first)?)?;
     for other in others {
         if !other.follows {
-            push_finding(alloc, out, text, "also", other)?;
+            push_entry(&mut all, entry_of(alloc, text, other)?)?;
         }
+    }
+    let mut word = "refused";
+    for told in &all {
+        push_finding(out, text, word, told);
+        word = "also";
     }
     push_following(out, others);
     Ok(())
