@@ -1,6 +1,7 @@
 //! Faults of costs, each with both sides and the difference.
 
 use crate::left::{Need, missing_left};
+use crate::missing_budget::missing_budget;
 use crate::sums::{Counted, Share, amount, less_form, number_sum, plus_form};
 use cost_table::{Table, Work, make_table, work_of};
 use explain_facts::{
@@ -474,7 +475,14 @@ fn push_budget(
         &left.instructions,
         &mut notes,
     )?;
-    push_if_written(findings, 704, budget.line, notes)
+    let notes = notes.finish()?;
+    let has_line = budget.line != trying.known.scene.function.line;
+    let notes = if notes.is_empty() || has_line || !trying.is_told() {
+        notes
+    } else {
+        missing_budget(alloc, trying, left, notes.as_str())?
+    };
+    push_if_any(findings, 704, budget.line, notes)
 }
 
 /// 705 of a function.

@@ -4,6 +4,7 @@
 mod budgets;
 mod cost;
 mod left;
+mod missing_budget;
 mod sums;
 
 pub use budgets::push_budgets;
