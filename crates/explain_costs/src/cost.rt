@@ -1,13 +1,13 @@
 //! Faults of costs, each with both sides and the difference.
 
-use crate::left::{Need, missing_left};
+use crate::left::{Missing, Need, missing_left};
 use crate::missing_budget::missing_budget;
 use crate::sums::{Counted, Share, amount, less_form, number_sum, plus_form};
 use cost_table::{Table, Work, make_table, work_of};
 use explain_facts::{
     Known, Matched, Scene, Trying, edge_known, fact_lines, lack_of, push_form, start_lines,
 };
-use explain_findings::{Finding, Source, push_finding};
+use explain_findings::{Finding, Source, push_finding, push_found};
 use linear::{Fact, Form};
 use lists::{ListBuffer, OutOfMemory, TextBuffer};
 use program::{Argument, Block, BlockId, Ending, Function, Instruction, Left, Step, Terminator};
@@ -141,14 +141,27 @@ impl Doing<'_, '_> {
         notes: TextBuffer,
         findings: &mut Vec<Finding>,
     ) -> Result<(), Unanswered> {
+        let line = self.trying.known.line;
         let notes = notes.finish()?;
         let has_left = self.block.left.line != self.block.line;
-        let notes = if notes.is_empty() || has_left || !self.trying.is_told() {
-            notes
-        } else {
-            missing_left(alloc, self.trying, self.block, self.work, needs)?
+        if notes.is_empty() || has_left || !self.trying.is_told() {
+            return push_if_any(findings, 702, line, notes);
+        }
+        let Missing { notes, follows } = missing_left(
+            alloc,
+            self.trying,
+            self.block,
+            self.work,
+            needs,
+        )?;
+        let found = Finding {
+            number: 702,
+            line,
+            cause: None,
+            follows,
+            notes,
         };
-        push_if_any(findings, 702, self.trying.known.line, notes)
+        Ok(push_found(findings, found)?)
     }
 }
 

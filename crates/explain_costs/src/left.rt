@@ -1,5 +1,6 @@
 //! What is said of a block without a `left` line, and the line that would do.
 
+use crate::rounds::push_rounds;
 use crate::sums::{Counted, Share, amount, less_form, number_sum, plus_form};
 use cost_table::Work;
 use explain_facts::{Scene, Trying, push_form, within_bounds};
@@ -323,14 +324,23 @@ impl Bare<'_, '_> {
     }
 }
 
-/// That the block has no `left` line, what it does and what comes next on each of its ways, and a line that would do.
+/// What is said of a block without a `left` line.
+#[derive(Drop)]
+pub struct Missing {
+    pub notes: String,
+    /// Whether it may follow from what is said of a block behind it.
+    pub follows: bool,
+}
+
+/// That the block has no `left` line, what it does and what comes next on each of its ways, and a line that would do; of a loop's first block, where there
+/// is none, what counts the rounds.
 pub fn missing_left(
     alloc: Global,
     trying: Trying<'_, '_>,
     block: &Block,
     work: Work,
     needs: &[Need<'_>],
-) -> Result<String, Unanswered> {
+) -> Result<Missing, Unanswered> {
     let bare = Bare {
         trying,
         block,
@@ -338,12 +348,19 @@ pub fn missing_left(
     };
     let mut out = TextBuffer::new(alloc);
     bare.push_head(&mut out);
+    let mut follows = false;
     if bare.push_needs(needs, &mut out) {
         bare.push_enough(alloc, needs, &mut out)?;
     } else {
-        out.push_str(
-            "    begin with the last blocks; in a loop `tapirvm annotate` finds the lines where the counter has bounds\n",
-        );
+        let known = trying.known;
+        let is_loop = push_rounds(alloc, known.scene, known.block, known.effort, &mut out)?;
+        if !is_loop {
+            out.push_str("    begin with the last blocks\n");
+        }
+        follows = !is_loop;
     }
-    Ok(out.finish()?)
+    Ok(Missing {
+        notes: out.finish()?,
+        follows,
+    })
 }

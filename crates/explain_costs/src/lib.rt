@@ -5,6 +5,7 @@ mod budgets;
 mod cost;
 mod left;
 mod missing_budget;
+mod rounds;
 mod sums;
 
 pub use budgets::push_budgets;
