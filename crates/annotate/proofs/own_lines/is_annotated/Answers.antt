@@ -1,7 +1,7 @@
-use Rattle.std.proofs.Common.{◌≡◌, ℕ, List, [], sym, ◌∙◌}
+use Rattle.std.proofs.Common.{◌≡◌, [], sym, ◌∙◌}
 use Rattle.std.proofs.lemmas.Bool.{eqb-true}
 use Rattle.std.proofs.lemmas.List.{nil_from_length}
-use Rattle.annotate.specs.Kept.{AreLinesAmong, None}
+use Rattle.annotate.specs.Kept.{None}
 use Rattle.ir_reader.specs.Lines.{lines_of}
 use Rattle.annotate.proofs.own_lines.is_annotated.Goals as goal
 

@@ -1,4 +1,4 @@
-use Rattle.std.proofs.Common.{◌≡◌, List, ℕ, sym, subst}
+use Rattle.std.proofs.Common.{◌≡◌, sym, subst}
 use Rattle.std.proofs.lemmas.Result.{IfOk-weaker}
 use Rattle.annotate.specs.Kept.{IsAnnotated, StaysAccepted}
 use Rattle.annotate.proofs.trying.with_more.Goals as goal
