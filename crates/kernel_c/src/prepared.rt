@@ -3,7 +3,7 @@
 ghost use Rattle.std.specs.Prelude.{◌≡◌, IfSome};
 ghost use Rattle.serial_machine.specs.Decoding.{IsCodeOf};
 
-use lists::OutOfMemory;
+use lists::{Name, OutOfMemory};
 use serial_machine::Decoded;
 use std::alloc::Global;
 use std::marker::Model;
@@ -13,6 +13,8 @@ use verifier::Verified;
 pub struct Prepared {
     verified: Verified,
     code: Decoded,
+    /// Those of `main`'s arguments.
+    names: Vec<Name>,
 }
 
 impl Model for Prepared {
@@ -32,17 +34,22 @@ impl Drop for Prepared {
         let Prepared {
             verified: _,
             code: _,
+            names: _,
         } = self;
     }
 }
 
 impl Prepared {
     /// Decodes a module. Where memory is refused, it is let go.
-    pub fn of(alloc: Global, verified: Verified) -> Option<Prepared>
+    pub fn of(alloc: Global, verified: Verified, names: Vec<Name>) -> Option<Prepared>
         ensures { IfSome result (λ kernel. kernel ≡ verified) }
     {
         match Decoded::of(alloc, &verified) {
-            Ok(code) => Some(Prepared { verified, code }),
+            Ok(code) => Some(Prepared {
+                verified,
+                code,
+                names,
+            }),
             Err(OutOfMemory) => None,
         }
     }
@@ -52,6 +59,11 @@ impl Prepared {
         ensures { result.now ≡ self.now }
     {
         &self.verified
+    }
+
+    /// The names of `main`'s arguments.
+    pub fn names(&self) -> &[Name] {
+        self.names.as_slice()
     }
 
     /// Its code.

@@ -1,4 +1,4 @@
-use Rattle.std.proofs.Common.{Some}
+use Rattle.kernel_c.specs.Told.{granted_by}
 use Rattle.kernel_c.proofs.open.opened.Goals as goal
 
 pub returns-in-Some-clause-accepted : goal.returns-in-Some-clause-accepted
@@ -10,4 +10,4 @@ returns-in-Some-clause-accepted c is_done =
     }
 
 pub returns-in-Err-clause-refused : goal.returns-in-Err-clause-refused
-returns-in-Err-clause-refused c = c.rejection.ensures.refused c.args.text.now (Some c.args.effort) c.in-Err.ensures.refused
+returns-in-Err-clause-refused c = c.rejection.ensures.refused c.args.text.now (granted_by c.args.effort) c.in-Err.ensures.refused
