@@ -16,11 +16,11 @@ use std::alloc::Global;
 use std::mem::replace;
 use verifier::Verified;
 
-/// Keeps a module, decoded, with the names of its arguments, unless memory is refused.
-fn kept(alloc: Global, kernel: Verified, names: Vec<Name>) -> Option<Handle>
+/// Keeps a module, decoded, with the names of its arguments and its mark, unless memory is refused.
+fn kept(alloc: Global, kernel: Verified, names: Vec<Name>, mark: u64) -> Option<Handle>
     ensures { IfSome result (λ handle. handle.kernel.program ≡ Some kernel) }
 {
-    let shared = Shared::new(alloc, Prepared::of(alloc, kernel, names)?)?;
+    let shared = Shared::new(alloc, Prepared::of(alloc, kernel, names, mark)?)?;
     match Box::new(alloc, shared) {
         Ok(block) => Some(Handle::kept(block)),
         Err(_) => None,
@@ -42,7 +42,7 @@ fn opened(alloc: Global, text: &[u8], seed: &Seed, effort: u64) -> (Verdict, Han
             let Some(names) = argument_names(alloc, seed, text) else {
                 return (plain_verdict(OUT_OF_MEMORY), Handle::closed(alloc));
             };
-            match kept(alloc, kernel, names) {
+            match kept(alloc, kernel, names, seed.mark_of(text)) {
                 Some(handle) => (verdict, handle),
                 None => (plain_verdict(OUT_OF_MEMORY), Handle::closed(alloc)),
             }

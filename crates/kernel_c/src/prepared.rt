@@ -15,6 +15,8 @@ pub struct Prepared {
     code: Decoded,
     /// Those of `main`'s arguments.
     names: Vec<Name>,
+    /// It stands for the text and the seed.
+    mark: u64,
 }
 
 impl Model for Prepared {
@@ -35,13 +37,19 @@ impl Drop for Prepared {
             verified: _,
             code: _,
             names: _,
+            mark: _,
         } = self;
     }
 }
 
 impl Prepared {
     /// Decodes a module. Where memory is refused, it is let go.
-    pub fn of(alloc: Global, verified: Verified, names: Vec<Name>) -> Option<Prepared>
+    pub fn of(
+        alloc: Global,
+        verified: Verified,
+        names: Vec<Name>,
+        mark: u64,
+    ) -> Option<Prepared>
         ensures { IfSome result (λ kernel. kernel ≡ verified) }
     {
         match Decoded::of(alloc, &verified) {
@@ -49,6 +57,7 @@ impl Prepared {
                 verified,
                 code,
                 names,
+                mark,
             }),
             Err(OutOfMemory) => None,
         }
@@ -64,6 +73,11 @@ impl Prepared {
     /// The names of `main`'s arguments.
     pub fn names(&self) -> &[Name] {
         self.names.as_slice()
+    }
+
+    /// Whether both come from one text, judged with one seed.
+    pub fn is_same(&self, other: &Prepared) -> bool {
+        self.mark == other.mark
     }
 
     /// Its code.

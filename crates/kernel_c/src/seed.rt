@@ -5,6 +5,7 @@ ghost use Rattle.std.specs.Prelude.{◌≡◌, ◌++◌, IfErr, IfOk, length};
 ghost use Rattle.kernel_c.specs.Told.{granted_by};
 ghost use Rattle.verifier.specs.Accepted.{IsProgramOf, IsUnverified};
 
+use core::hash::{Hasher, keyed_hasher};
 use std::alloc::Global;
 use std::hash::RandomState;
 use std::io;
@@ -16,6 +17,15 @@ use verifier::{Effort, Refused, Unverified, Verified, verify_within};
 pub struct Seed {
     pub low: u64,
     pub high: u64,
+}
+
+impl Seed {
+    /// A number that stands for the text: who does not know the seed finds no other text that has it.
+    pub fn mark_of(&self, text: &[u8]) -> u64 {
+        let mut hasher = keyed_hasher(self.low, self.high);
+        hasher.write(text);
+        hasher.finish()
+    }
 }
 
 impl RandomSource for Seed {

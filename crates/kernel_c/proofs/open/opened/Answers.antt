@@ -1,4 +1,5 @@
 use Rattle.kernel_c.specs.Told.{granted_by}
+use Rattle.kernel_c.proofs.Bounded.{bounded_is}
 use Rattle.kernel_c.proofs.open.opened.Goals as goal
 
 pub returns-in-Some-clause-accepted : goal.returns-in-Some-clause-accepted
@@ -11,3 +12,7 @@ returns-in-Some-clause-accepted c is_done =
 
 pub returns-in-Err-clause-refused : goal.returns-in-Err-clause-refused
 returns-in-Err-clause-refused c = c.rejection.ensures.refused c.args.text.now (granted_by c.args.effort) c.in-Err.ensures.refused
+
+pub returns-in-Err-clause-effort : goal.returns-in-Err-clause-effort
+returns-in-Err-clause-effort c = λ is.
+    bounded_is c.args.effort (c.rejection.ensures.effort c.args.text.now (granted_by c.args.effort) c.in-Err.ensures.refused is)
