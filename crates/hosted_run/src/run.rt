@@ -127,7 +127,6 @@ fn meet_as<L: Bench>(
 }
 
 /// How far a run has come.
-#[tactic(auto, using(crate::proofs::Standing::stands, crate::proofs::Standing::progress_here, crate::proofs::Standing::ended_here))]
 fn look_as<L: Bench>(
     alloc: Global,
     verified: &Verified,
