@@ -29,13 +29,13 @@ pub low_goes_on : (number k : ℕ) (rs : List Inequality) (r : Inequality) (a b 
     IfSome b (λ z. IsBound number r.high r.low z) → IfSome o (λ z. (a ≡ Some z) ⊎ (b ≡ Some z)) → IfSome o (λ z. SetsLow number rs z)
 low_goes_on number k rs r a b None there had new is = tt
 low_goes_on number k rs r a b (Some z) there had new (inl e) = subst (λ (m : Option ℤ). IfSome m (λ y. SetsLow number rs y)) e had
-low_goes_on number k rs r a b (Some z) there had new (inr e) = (k, (r, (there, subst (λ (m : Option ℤ). IfSome m (λ y. IsBound number r.high r.low y)) e new)))
+low_goes_on number k rs r a b (Some z) there had new (inr e) = (k, r, there, subst (λ (m : Option ℤ). IfSome m (λ y. IsBound number r.high r.low y)) e new)
 
 pub high_goes_on : (number k : ℕ) (rs : List Inequality) (r : Inequality) (a b o : Option ℤ) → slice_get rs k ≡ Some r → IfSome a (λ z. SetsHigh number rs z) →
     IfSome b (λ z. IsBound number r.low r.high z) → IfSome o (λ z. (a ≡ Some z) ⊎ (b ≡ Some z)) → IfSome o (λ z. SetsHigh number rs z)
 high_goes_on number k rs r a b None there had new is = tt
 high_goes_on number k rs r a b (Some z) there had new (inl e) = subst (λ (m : Option ℤ). IfSome m (λ y. SetsHigh number rs y)) e had
-high_goes_on number k rs r a b (Some z) there had new (inr e) = (k, (r, (there, subst (λ (m : Option ℤ). IfSome m (λ y. IsBound number r.low r.high y)) e new)))
+high_goes_on number k rs r a b (Some z) there had new (inr e) = (k, r, there, subst (λ (m : Option ℤ). IfSome m (λ y. IsBound number r.low r.high y)) e new)
 
 -- ---- what is told
 

@@ -82,7 +82,7 @@ stays_none old new is none = subst (λ (o : Option Run). StaysHeld o new) (sym i
 
 pub stays_same : (old new : Option Run) → new ≡ old → StaysHeld old new
 stays_same None new same = same
-stays_same (Some run) new same = (run, (same, goes_nowhere run))
+stays_same (Some run) new same = (run, same, goes_nowhere run)
 
 -- ---- at the end
 
