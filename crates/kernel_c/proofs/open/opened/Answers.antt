@@ -2,12 +2,12 @@ use Rattle.kernel_c.specs.Told.{granted_by}
 use Rattle.kernel_c.proofs.Bounded.{bounded_is}
 use Rattle.kernel_c.proofs.open.opened.Goals as goal
 
-pub returns-in-Some-clause-accepted : goal.returns-in-Some-clause-accepted
-returns-in-Some-clause-accepted c is_done =
+pub returns-in-Some-kept-clause-accepted : goal.returns-in-Some-kept-clause-accepted
+returns-in-Some-kept-clause-accepted c is_done =
     let said = c.acceptance-verdict.ensures in
     record {
       accepts = record { program = c.in-Ok.kernel; means = c.in-Ok.ensures.accepted; budget = said.budget; depth = said.depth; cells = said.cells };
-      held = c.in-Some.ensures;
+      held = c.in-Some-kept.ensures;
     }
 
 pub returns-in-Err-clause-refused : goal.returns-in-Err-clause-refused
