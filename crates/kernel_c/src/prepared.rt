@@ -44,12 +44,7 @@ impl Drop for Prepared {
 
 impl Prepared {
     /// Decodes a module. Where memory is refused, it is let go.
-    pub fn of(
-        alloc: Global,
-        verified: Verified,
-        names: Vec<Name>,
-        mark: u64,
-    ) -> Option<Prepared>
+    pub fn of(alloc: Global, verified: Verified, names: Vec<Name>, mark: u64) -> Option<Prepared>
         ensures { IfSome result (λ kernel. kernel ≡ verified) }
     {
         match Decoded::of(alloc, &verified) {
