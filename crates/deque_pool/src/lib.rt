@@ -20,6 +20,7 @@ mod workers;
 pub use deque_pool_tickets::{Hands, Taken, Thief, each_as_often};
 pub use figures::Figures;
 pub use gate::{Gate, Go, OpenGate};
+pub use lone::LoneRun;
 pub use recorded::Recorded;
 pub use shared_run::{Entry, Event, History, Machine, replay};
 pub use threads::{run, run_recorded};

@@ -1,26 +1,32 @@
-ghost use Rattle.std.specs.Prelude.{◌≡◌, IfErr, IfOk};
-ghost use Rattle.hosted_run.specs.Hosted.{RunsFrom, WorksFor, start_of};
+ghost use Rattle.std.specs.Prelude.{◌≡◌, ◌≢◌, ◌+◌, ◌-◌, ◌^◌, [], IfErr, IfOk, IfSome, min};
+ghost use Rattle.hosted_run.specs.Hosted.{IsProgress, IsTold, RunsFrom, WorksFor, start_of};
+ghost use Rattle.hosted_run.specs.declared.met.Met.TheVariants.{Stopped};
 ghost use Rattle.schedule_core.specs.Admission.{IsAdmitted};
 ghost use Rattle.schedule_core.specs.store.Made.{IsMadeFor};
 ghost use Rattle.schedule_workers.specs.Starts.{ArePlaces};
-ghost use Rattle.shared_run.specs.Answer.{IsSerialAnswer};
+ghost use Rattle.shared_run.specs.Answer.{IsSerialAnswer, LeadTo};
 ghost use Rattle.shared_run.specs.Resting.{IsAtRest, StaysPut};
-ghost use Rattle.shared_run.specs.Story.{origin};
+ghost use Rattle.shared_run.specs.Story.{origin, reached};
 
-use crate::worker::HostedWorker;
+use crate::met::{Met, Progress, progress_of, told};
+use crate::stop::Stop;
+use crate::worker::{Ears, HostedWorker};
 use lists::OutOfMemory;
 use schedule_core::SharedPlaces;
-use shared_run::{Bench, Board, BoardRest, Finished, Memory, RunFault, StackRest, Verified};
+use shared_run::{Bench, Board, BoardRest, Event, Finished, Memory, RunFault, StackRest, Verified};
 use std::alloc::Global;
 use std::marker::Brand;
 use std::sync::ledger::Blank;
-use strand_turns::{Habits, Met, Offers, meet};
+use strand_turns::{Habits, Met as Served, Offers, meet};
 
 /// A run between two calls of its host.
 pub struct HostedRun {
     pub(crate) board: BoardRest,
     pub(crate) places: SharedPlaces,
     pub(crate) offers: Offers,
+    /// The run is not to go on once it has done so many instructions.
+    pub(crate) fuel: u64,
+    pub(crate) stop: Stop,
 }
 
 /// Written out, so that no crate above proves it anew.
@@ -30,6 +36,8 @@ impl Drop for HostedRun {
             board: _,
             places: _,
             offers: _,
+            fuel: _,
+            stop: _,
         } = self;
     }
 }
@@ -52,6 +60,7 @@ fn board_as<L: Bench>(
     requires parts { blank.parts ≡ L.parts }
     requires one_each { blank.parts ≡ workers }
     ensures rests { IfOk result (λ made. IsAtRest (origin L.code L.arguments L.memory L.crew) made.0) }
+    ensures new { IfOk result (λ made. made.0.history.events ≡ []) }
     ensures places { IfOk result (λ made. ArePlaces L.code made.1) }
     ensures admitted { IsAdmitted verified.now arguments.now memory workers result }
 {
@@ -63,25 +72,27 @@ fn board_as<L: Bench>(
 }
 
 /// Tells those who go on outside whether others wait. Where memory was refused to a worker the run cannot go on for any.
-fn note(offers: &mut Offers, met: (Met, usize)) -> (Met, usize) {
-    if met.0 == Met::OutOfMemory {
+fn note(offers: &mut Offers, served: Served) -> Served {
+    if served == Served::OutOfMemory {
         offers.starved = true;
     }
     offers.tell();
     if offers.starved {
-        (Met::OutOfMemory, 0)
+        Served::OutOfMemory
     } else {
-        met
+        served
     }
 }
 
-/// A worker meets the board.
+/// A worker meets the board, where there is fuel.
+#[tactic(auto, using(crate::proofs::Standing::stands, crate::proofs::Standing::told_here, crate::proofs::Standing::ended_here))]
 fn meet_as<L: Bench>(
     alloc: Global,
     verified: &Verified,
     blank: Blank,
     board: BoardRest,
     offers: &mut Offers,
+    fuel: u64,
     places: &SharedPlaces,
     number: u8,
     stack: StackRest,
@@ -96,14 +107,77 @@ fn meet_as<L: Bench>(
     requires stack { StaysPut verified.now stack }
     ensures board { IsAtRest (origin L.code L.arguments L.memory L.crew) result.0 }
     ensures stack { StaysPut L.code result.1 }
+    ensures told { IsTold (reached (origin L.code L.arguments L.memory L.crew) result.0.history.events) fuel result.2.0 }
+    ensures not_stopped { result.2.0 ≢ Stopped }
 {
-    if board.workers() <= usize::from(number) {
-        return (board, stack, (Met::Idle, 0));
-    }
-    let (mut board, mut seat) = board.wake::<L>(alloc, verified, blank, number);
+    let has_seat = usize::from(number) < board.workers();
+    let own = if has_seat { number } else { 0 };
+    let (mut board, mut seat) = board.wake::<L>(alloc, verified, blank, own);
     let mut stack = stack.wake::<L>(verified, places.get());
-    let met = meet(&mut board, offers, &mut seat, &mut stack, habits);
-    (board.rest(), stack.rest(), note(offers, met))
+    let done = board.machine().instructions();
+    let (served, offered) = match told(board.end(), done, fuel, Served::Work) {
+        Met::Work if has_seat => meet(&mut board, offers, &mut seat, &mut stack, habits),
+        _ => (Served::Idle, 0),
+    };
+    let served = note(offers, served);
+    let ended = board.end();
+    let instructions = board.machine().instructions();
+    let met = told(ended, instructions, fuel, served);
+    (board.rest(), stack.rest(), (met, offered))
+}
+
+/// How far a run has come.
+fn look_as<L: Bench>(
+    alloc: Global,
+    verified: &Verified,
+    blank: Blank,
+    board: BoardRest,
+) -> (BoardRest, Progress)
+    requires code { verified.now ≡ L.code }
+    requires name { blank.name ≡ L.name }
+    requires parts { blank.parts ≡ L.parts }
+    requires one { blank.parts ≡ 1 }
+    requires board { IsAtRest (origin L.code L.arguments L.memory L.crew) board }
+    ensures board { IsAtRest (origin L.code L.arguments L.memory L.crew) result.0 }
+    ensures same { result.0.history.events ≡ board.history.events }
+    ensures progress { IsProgress (reached (origin L.code L.arguments L.memory L.crew) result.0.history.events) result.1 }
+{
+    let (board, _seat) = board.wake::<L>(alloc, verified, blank, 0);
+    let ended = board.end();
+    let instructions = board.machine().instructions();
+    let peak = board.machine().peak();
+    let progress = progress_of(ended, instructions, peak);
+    (board.rest(), progress)
+}
+
+/// The events of a run one by one, unless there are more than so many.
+fn events_as<L: Bench>(
+    alloc: Global,
+    verified: &Verified,
+    blank: Blank,
+    board: BoardRest,
+    most: u64,
+) -> (BoardRest, Result<Option<Vec<Event>>, OutOfMemory>)
+    requires code { verified.now ≡ L.code }
+    requires name { blank.name ≡ L.name }
+    requires parts { blank.parts ≡ L.parts }
+    requires one { blank.parts ≡ 1 }
+    requires board { IsAtRest (origin L.code L.arguments L.memory L.crew) board }
+    ensures board { IsAtRest (origin L.code L.arguments L.memory L.crew) result.0 }
+    ensures same { result.0.history.events ≡ board.history.events }
+    ensures events { IfOk result.1 (λ found. IfSome found (λ events. events.items ≡ board.history.events)) }
+{
+    let (board, _seat) = board.wake::<L>(alloc, verified, blank, 0);
+    let history = board.history();
+    let events = if most < history.total() {
+        Ok(None)
+    } else {
+        match history.events(alloc) {
+            Ok(events) => Ok(Some(events)),
+            Err(refused) => Err(refused),
+        }
+    };
+    (board.rest(), events)
 }
 
 /// The answer of a run that has ended.
@@ -119,6 +193,7 @@ fn finish_as<L: Bench>(
     requires one { blank.parts ≡ 1 }
     requires board { IsAtRest (origin L.code L.arguments L.memory L.crew) board }
     ensures answer { IfOk result (IsSerialAnswer (origin L.code L.arguments L.memory L.crew)) }
+    ensures replays { IfOk result (LeadTo (origin L.code L.arguments L.memory L.crew) board.history.events) }
     ensures rests { IfErr result (IsAtRest (origin L.code L.arguments L.memory L.crew)) }
 {
     match board.finish::<L>(alloc, verified, blank) {
@@ -128,7 +203,7 @@ fn finish_as<L: Bench>(
 }
 
 impl HostedRun {
-    /// A run of a module, from memory that was made for it, before its first event.
+    /// A run of a module, from memory that was made for it, before its first event, with so much fuel.
     ///
     /// # Errors
     ///
@@ -140,9 +215,13 @@ impl HostedRun {
         arguments: &[i64],
         memory: Memory,
         workers: usize,
+        fuel: u64,
+        stop: Stop,
     ) -> Result<HostedRun, RunFault>
         requires made { IsMadeFor verified.now memory }
         ensures runs { IfOk result (RunsFrom (origin verified.now arguments.now memory workers)) }
+        ensures new { IfOk result (λ run. run.board.history.events ≡ []) }
+        ensures fuel { IfOk result (λ run. run.fuel ≡ fuel) }
         ensures admitted { IsAdmitted verified.now arguments.now memory workers result }
     {
         let blank = Blank::new(workers as u64);
@@ -154,6 +233,8 @@ impl HostedRun {
                 board,
                 places,
                 offers,
+                fuel,
+                stop,
             }),
             Err(OutOfMemory) => Err(RunFault::OutOfMemory),
         }
@@ -178,11 +259,15 @@ impl HostedRun {
             places: self.places.share()?,
             stack: StackRest::new(alloc, verified)?,
             habits: Habits::new(alloc),
-            wanted: self.offers.share()?,
+            ears: Ears {
+                wanted: self.offers.share()?,
+                stop: self.stop.share()?,
+            },
         })
     }
 
-    /// A worker meets the board: what it wants is done there. It is told what to do next, and how many tasks it has offered to others.
+    /// A worker meets the board: what it wants is done there, unless the stop is set or the fuel is spent. It is told what to do next, and how many tasks it
+    /// has offered to others. Without a seat it is told that there is no task.
     pub fn meet(
         self,
         alloc: Global,
@@ -193,19 +278,28 @@ impl HostedRun {
         requires works { WorksFor verified.now worker }
         ensures runs { RunsFrom (start_of verified.now self) result.0 }
         ensures works { WorksFor verified.now result.1 }
+        ensures fuel { result.0.fuel ≡ self.fuel }
+        ensures told { IsTold (reached (start_of verified.now self) result.0.board.history.events) self.fuel result.2.0 }
+        ensures stopped { result.2.0 ≡ Stopped → result.0.board.history.events ≡ self.board.history.events }
     {
+        if self.stop.is_set() {
+            return (self, worker, (Met::Stopped, 0));
+        }
         let HostedRun {
             board,
             places,
             mut offers,
+            fuel,
+            stop,
         } = self;
-        let (number, own, stack, mut habits, wanted) = worker.parts();
+        let (number, own, stack, mut habits, ears) = worker.parts();
         let (board, stack, met) = meet_as::<Brand>(
             alloc,
             verified,
             Blank::new(1),
             board,
             &mut offers,
+            fuel,
             &places,
             number,
             stack,
@@ -215,27 +309,102 @@ impl HostedRun {
             board,
             places,
             offers,
+            fuel,
+            stop,
         };
         let worker = HostedWorker {
             number,
             places: own,
             stack,
             habits,
-            wanted,
+            ears,
         };
         (run, worker, met)
+    }
+
+    /// Grants more fuel, at most 2^64 - 1 in all.
+    pub fn grant(&mut self, more: u64)
+        ensures fuel { self.new.fuel ≡ min (self.old.fuel + more) (2 ^ 64 - 1) }
+        ensures board { self.new.board ≡ self.old.board }
+        ensures places { self.new.places ≡ self.old.places }
+    {
+        self.fuel = self.fuel.saturating_add(more);
+    }
+
+    /// How far the run has come.
+    pub fn look(self, alloc: Global, verified: &Verified) -> (HostedRun, Progress)
+        requires { RunsFrom (start_of verified.now self) self }
+        ensures runs { RunsFrom (start_of verified.now self) result.0 }
+        ensures fuel { result.0.fuel ≡ self.fuel }
+        ensures same { result.0.board.history.events ≡ self.board.history.events }
+        ensures progress { IsProgress (reached (start_of verified.now self) result.0.board.history.events) result.1 }
+    {
+        let HostedRun {
+            board,
+            places,
+            offers,
+            fuel,
+            stop,
+        } = self;
+        let (board, progress) = look_as::<Brand>(alloc, verified, Blank::new(1), board);
+        let run = HostedRun {
+            board,
+            places,
+            offers,
+            fuel,
+            stop,
+        };
+        (run, progress)
+    }
+
+    /// The events one by one, unless there are more than so many.
+    ///
+    /// # Errors
+    ///
+    /// Memory was refused: it is taken for each event.
+    pub fn events(
+        self,
+        alloc: Global,
+        verified: &Verified,
+        most: u64,
+    ) -> (HostedRun, Result<Option<Vec<Event>>, OutOfMemory>)
+        requires { RunsFrom (start_of verified.now self) self }
+        ensures runs { RunsFrom (start_of verified.now self) result.0 }
+        ensures fuel { result.0.fuel ≡ self.fuel }
+        ensures same { result.0.board.history.events ≡ self.board.history.events }
+        ensures events { IfOk result.1 (λ found. IfSome found (λ events. events.items ≡ self.board.history.events)) }
+    {
+        let HostedRun {
+            board,
+            places,
+            offers,
+            fuel,
+            stop,
+        } = self;
+        let (board, events) = events_as::<Brand>(alloc, verified, Blank::new(1), board, most);
+        let run = HostedRun {
+            board,
+            places,
+            offers,
+            fuel,
+            stop,
+        };
+        (run, events)
     }
 
     /// The answer of a run that has ended; else the run again, also where memory is refused.
     pub fn finish(self, alloc: Global, verified: &Verified) -> Result<Finished, HostedRun>
         requires { RunsFrom (start_of verified.now self) self }
         ensures answer { IfOk result (IsSerialAnswer (start_of verified.now self)) }
+        ensures replays { IfOk result (LeadTo (start_of verified.now self) self.board.history.events) }
         ensures runs { IfErr result (RunsFrom (start_of verified.now self)) }
     {
         let HostedRun {
             board,
             places,
             offers,
+            fuel,
+            stop,
         } = self;
         match finish_as::<Brand>(alloc, verified, Blank::new(1), board) {
             Ok(finished) => Ok(finished),
@@ -243,6 +412,8 @@ impl HostedRun {
                 board,
                 places,
                 offers,
+                fuel,
+                stop,
             }),
         }
     }

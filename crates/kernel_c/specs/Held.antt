@@ -3,7 +3,7 @@ use Rattle.std.specs.Prelude.{◌≡◌, ◌≢◌, ◌⊎◌, ℕ, ◌*◌, Lis
 use Rattle.program.specs.declared.function.Program.{Program}
 use Rattle.store.specs.Requirements.{unmet_in}
 use Rattle.kernel_c.specs.Told.{Accepts, ExceedsProgram, IsRunStatus, RunsProgram, sizes_in}
-use Rattle.kernel_c.specs.Told.{bad_arguments, done, other_cells, out_of_fuel, out_of_memory}
+use Rattle.kernel_c.specs.Told.{bad_arguments, done, other_cells, out_of_fuel, out_of_memory, stopped}
 use Rattle.kernel_c.specs.declared.told.Outcome.{Outcome}
 use Rattle.kernel_c.specs.declared.told.Verdict.{Verdict}
 
@@ -11,7 +11,7 @@ abbrev pub closed : ℕ
 closed = 4
 
 abbrev pub IsHeldStatus : ℕ → Type 0
-IsHeldStatus n = (n ≡ closed) ⊎ IsRunStatus n
+IsHeldStatus n = (n ≡ closed) ⊎ ((n ≡ stopped) ⊎ IsRunStatus n)
 
 abbrev pub IsShareStatus : ℕ → Type 0
 IsShareStatus n = (n ≡ done) ⊎ ((n ≡ closed) ⊎ (n ≡ out_of_memory))

@@ -60,6 +60,7 @@ pub record HasEndedIn (machine : running.Machine) (row : List ℤ) (outcome : Ou
 pub record StandsIn (machine : running.Machine) (outcome : Outcome) : Type 0 where
   pub unended : machine.core.result ≡ None
   pub instructions : outcome.instructions ≡ machine.core.done
+  pub peak : outcome.peak ≡ machine.core.peak
 
 -- the definitions' machine after these events, from the numbers of a row; it keeps the schedule theorem
 pub record IsAfter (program : Program) (arguments row : List ℤ) (workers : ℕ) (events : List Event) (machine : running.Machine) : Type 0 where

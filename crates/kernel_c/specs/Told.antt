@@ -1,5 +1,5 @@
 -- What a host in C is told, by the statuses of its header.
-use Rattle.std.specs.Prelude.{◌≡◌, ◌≢◌, ◌⊎◌, ℕ, ◌^◌, ◌-◌, ◌≤◌, List, length, map, min, sum, Some, None, ℤ}
+use Rattle.std.specs.Prelude.{◌≡◌, ◌≢◌, ◌⊎◌, ◌==◌, if◌then◌else◌, ℕ, ◌^◌, ◌-◌, ◌≤◌, List, length, map, min, sum, Option, Some, None, ℤ}
 use Rattle.program.specs.declared.function.Global.{Global}
 use Rattle.program.specs.declared.function.Program.{Program}
 use Rattle.verifier.specs.Accepted.{IsProgramOf, IsRefused}
@@ -35,6 +35,9 @@ bad_arguments = 801
 abbrev pub out_of_memory : ℕ
 out_of_memory = 803
 
+abbrev pub stopped : ℕ
+stopped = 804
+
 -- of a text that is not accepted
 abbrev pub IsRejection : ℕ → Type 0
 IsRejection n = (n ≡ refused) ⊎ ((n ≡ out_of_effort) ⊎ (n ≡ out_of_memory))
@@ -42,7 +45,7 @@ IsRejection n = (n ≡ refused) ⊎ ((n ≡ out_of_effort) ⊎ (n ≡ out_of_mem
 abbrev pub IsVerdictStatus : ℕ → Type 0
 IsVerdictStatus n = (n ≡ done) ⊎ IsRejection n
 
--- of a program that is accepted
+-- of a program that is accepted, in a run that nobody stops
 abbrev pub IsRunStatus : ℕ → Type 0
 IsRunStatus n = (n ≡ done) ⊎ ((n ≡ bad_arguments) ⊎ ((n ≡ other_cells) ⊎ ((n ≡ out_of_fuel) ⊎ (n ≡ out_of_memory))))
 
@@ -51,13 +54,24 @@ IsOutcomeStatus n = (n ≡ refused) ⊎ ((n ≡ out_of_effort) ⊎ IsRunStatus n
 
 -- ---- what each means
 
+-- as much effort as it takes
+abbrev pub unbounded : ℕ
+unbounded = 18446744073709551615
+
+-- how many steps are granted, if they are bounded
+abbrev pub granted_by : ℕ → Option ℕ
+granted_by effort = if effort == unbounded then None else Some effort
+
 -- the cells of each global
 abbrev pub sizes_in : Program → List ℕ
 sizes_in program = map (λ (g : Global). g.cells) program.globals
 
 -- all their cells, as far as 64 bits count
+abbrev pub cells_of : List Global → ℕ
+cells_of globals = min (sum (map (λ (g : Global). g.cells) globals)) (2 ^ 64 - 1)
+
 abbrev pub cells_in : Program → ℕ
-cells_in program = min (sum (sizes_in program)) (2 ^ 64 - 1)
+cells_in program = cells_of program.globals
 
 -- the globals, with the numbers of a row one after another
 abbrev pub memory_from : Program → List ℤ → List NamedCells

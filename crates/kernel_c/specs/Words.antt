@@ -5,6 +5,9 @@ use Rattle.kernel_c.specs.Told.{done, out_of_effort, out_of_memory, refused}
 abbrev pub no_rule : ℕ
 no_rule = 7
 
+abbrev pub not_found : ℕ
+not_found = 8
+
 -- of a rule
 abbrev pub IsRuleStatus : ℕ → Type 0
 IsRuleStatus n = (n ≡ done) ⊎ ((n ≡ no_rule) ⊎ (n ≡ out_of_memory))

@@ -2,13 +2,27 @@
 
 ghost use Rattle.std.specs.Prelude.{◌≡◌};
 
-/// The version of the header that these calls meet.
-const VERSION: u32 = 2;
+/// A call that is changed or taken away raises it.
+const MAJOR: u32 = 3;
 
-/// The version of the header that the library meets, for hosts of a shared library.
+/// A call that is added raises it.
+const MINOR: u32 = 0;
+
+/// Both as text.
+pub const VERSION: &[u8] = b"3.0";
+
+/// The major number of the version of the header that the library meets: hosts of a shared library compare it with their own.
 #[unsafe(no_mangle)]
 pub extern "C" fn tapirvm_abi() -> u32
-    ensures { result ≡ 2 }
+    ensures { result ≡ 3 }
 {
-    VERSION
+    MAJOR
+}
+
+/// The minor number of that version: a host's own is not above it.
+#[unsafe(no_mangle)]
+pub extern "C" fn tapirvm_minor() -> u32
+    ensures { result ≡ 0 }
+{
+    MINOR
 }

@@ -1,8 +1,8 @@
 //! The verdict on a text, and the call that answers it alone.
 
-ghost use Rattle.std.specs.Prelude.{◌≡◌, ◌⊎◌, List, Option, ℕ};
+ghost use Rattle.std.specs.Prelude.{◌≡◌, ◌≢◌, ◌⊎◌, IsSome, List, Option, ℕ};
 ghost use Rattle.refusal.specs.declared.refused.Refused.TheVariants.{Fault};
-ghost use Rattle.kernel_c.specs.Told.{Accepts, IsRejection, IsVerdictStatus, Refuses, cells_in, done, out_of_memory, refused};
+ghost use Rattle.kernel_c.specs.Told.{Accepts, IsRejection, IsVerdictStatus, Refuses, cells_in, done, out_of_effort, out_of_memory, refused, unbounded};
 ghost use Rattle.verifier.specs.Accepted.{IsUnverified};
 ghost use Rattle.verifier.specs.Budgets.{IsDepthOf, budget_of};
 
@@ -47,6 +47,7 @@ fn refusal(why: Refused) -> Verdict
 /// The verdict on a text that is not accepted.
 pub fn rejection(why: Unverified) -> Verdict
     ensures refused { (text : List ℕ) (effort : Option ℕ) → IsUnverified text effort why → result.status ≡ refused → Refuses text result.rule result.line }
+    ensures effort { (text : List ℕ) (effort : Option ℕ) → IsUnverified text effort why → result.status ≡ out_of_effort → IsSome effort }
     ensures statuses { IsRejection result.status }
 {
     match why {
@@ -56,9 +57,11 @@ pub fn rejection(why: Unverified) -> Verdict
 }
 
 /// The verdict on a text.
+#[tactic(auto, using(crate::proofs::Bounded::bounded_is))]
 fn judged(alloc: Global, text: &[u8], seed: &Seed, effort: u64) -> Verdict
     ensures accepted { result.status ≡ done → Accepts text.now result }
     ensures refused { result.status ≡ refused → Refuses text.now result.rule result.line }
+    ensures effort { result.status ≡ out_of_effort → effort ≢ unbounded }
     ensures statuses { IsVerdictStatus result.status }
 {
     match verify_seeded(alloc, seed, text, effort) {
@@ -79,6 +82,7 @@ pub extern "C" fn tapirvm_verify(
 )
     ensures accepted { verdict.new.status ≡ done → Accepts text.now verdict.new }
     ensures refused { verdict.new.status ≡ refused → Refuses text.now verdict.new.rule verdict.new.line }
+    ensures effort { verdict.new.status ≡ out_of_effort → effort ≢ unbounded }
     ensures statuses { IsVerdictStatus verdict.new.status }
 {
     let seed = Seed {

@@ -1,24 +1,26 @@
 //! The calls by which a host judges a module once and keeps it.
 
 ghost use Rattle.std.specs.Prelude.{◌≡◌, ◌≢◌, IfSome, None, Some};
-ghost use Rattle.kernel_c.specs.Told.{IsVerdictStatus, Refuses, done, out_of_memory, refused};
+ghost use Rattle.kernel_c.specs.Told.{IsVerdictStatus, Refuses, done, out_of_effort, out_of_memory, refused, unbounded};
 ghost use Rattle.kernel_c.specs.Held.{IsShareStatus, Opens, closed};
 
 use crate::handle::Handle;
 use crate::judge::{acceptance, rejection};
+use crate::names::argument_names;
 use crate::prepared::Prepared;
 use crate::seed::{Seed, verify_seeded};
 use crate::shared::Shared;
 use crate::told::{CLOSED, DONE, OUT_OF_MEMORY, Verdict, plain_verdict};
+use lists::Name;
 use std::alloc::Global;
 use std::mem::replace;
 use verifier::Verified;
 
-/// Keeps a module, decoded, unless memory is refused.
-fn kept(alloc: Global, kernel: Verified) -> Option<Handle>
+/// Keeps a module, decoded, with the names of its arguments and its mark, unless memory is refused.
+fn kept(alloc: Global, kernel: Verified, names: Vec<Name>, mark: u64) -> Option<Handle>
     ensures { IfSome result (λ handle. handle.kernel.program ≡ Some kernel) }
 {
-    let shared = Shared::new(alloc, Prepared::of(alloc, kernel)?)?;
+    let shared = Shared::new(alloc, Prepared::of(alloc, kernel, names, mark)?)?;
     match Box::new(alloc, shared) {
         Ok(block) => Some(Handle::kept(block)),
         Err(_) => None,
@@ -26,16 +28,21 @@ fn kept(alloc: Global, kernel: Verified) -> Option<Handle>
 }
 
 /// The verdict on a text, and the module where it is accepted.
+#[tactic(auto, using(crate::proofs::Bounded::bounded_is))]
 fn opened(alloc: Global, text: &[u8], seed: &Seed, effort: u64) -> (Verdict, Handle)
     ensures accepted { result.0.status ≡ done → Opens text.now result.0 result.1.kernel.program }
     ensures refused { result.0.status ≡ refused → Refuses text.now result.0.rule result.0.line }
+    ensures effort { result.0.status ≡ out_of_effort → effort ≢ unbounded }
     ensures closed { result.0.status ≢ done → result.1.kernel.program ≡ None }
     ensures statuses { IsVerdictStatus result.0.status }
 {
     match verify_seeded(alloc, seed, text, effort) {
         Ok(kernel) => {
             let verdict = acceptance(&kernel);
-            match kept(alloc, kernel) {
+            let Some(names) = argument_names(alloc, seed, text) else {
+                return (plain_verdict(OUT_OF_MEMORY), Handle::closed(alloc));
+            };
+            match kept(alloc, kernel, names, seed.mark_of(text)) {
                 Some(handle) => (verdict, handle),
                 None => (plain_verdict(OUT_OF_MEMORY), Handle::closed(alloc)),
             }
@@ -57,6 +64,7 @@ pub extern "C" fn tapirvm_open(
 )
     ensures accepted { verdict.new.status ≡ done → Opens text.now verdict.new handle.new.kernel.program }
     ensures refused { verdict.new.status ≡ refused → Refuses text.now verdict.new.rule verdict.new.line }
+    ensures effort { verdict.new.status ≡ out_of_effort → effort ≢ unbounded }
     ensures closed { verdict.new.status ≢ done → handle.new.kernel.program ≡ None }
     ensures statuses { IsVerdictStatus verdict.new.status }
 {

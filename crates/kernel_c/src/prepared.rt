@@ -3,7 +3,7 @@
 ghost use Rattle.std.specs.Prelude.{◌≡◌, IfSome};
 ghost use Rattle.serial_machine.specs.Decoding.{IsCodeOf};
 
-use lists::OutOfMemory;
+use lists::{Name, OutOfMemory};
 use serial_machine::Decoded;
 use std::alloc::Global;
 use std::marker::Model;
@@ -13,6 +13,10 @@ use verifier::Verified;
 pub struct Prepared {
     verified: Verified,
     code: Decoded,
+    /// Those of `main`'s arguments.
+    names: Vec<Name>,
+    /// It stands for the text and the seed.
+    mark: u64,
 }
 
 impl Model for Prepared {
@@ -32,17 +36,24 @@ impl Drop for Prepared {
         let Prepared {
             verified: _,
             code: _,
+            names: _,
+            mark: _,
         } = self;
     }
 }
 
 impl Prepared {
     /// Decodes a module. Where memory is refused, it is let go.
-    pub fn of(alloc: Global, verified: Verified) -> Option<Prepared>
+    pub fn of(alloc: Global, verified: Verified, names: Vec<Name>, mark: u64) -> Option<Prepared>
         ensures { IfSome result (λ kernel. kernel ≡ verified) }
     {
         match Decoded::of(alloc, &verified) {
-            Ok(code) => Some(Prepared { verified, code }),
+            Ok(code) => Some(Prepared {
+                verified,
+                code,
+                names,
+                mark,
+            }),
             Err(OutOfMemory) => None,
         }
     }
@@ -52,6 +63,16 @@ impl Prepared {
         ensures { result.now ≡ self.now }
     {
         &self.verified
+    }
+
+    /// The names of `main`'s arguments.
+    pub fn names(&self) -> &[Name] {
+        self.names.as_slice()
+    }
+
+    /// Whether both come from one text, judged with one seed.
+    pub fn is_same(&self, other: &Prepared) -> bool {
+        self.mark == other.mark
     }
 
     /// Its code.

@@ -48,6 +48,7 @@ fn come_to(machine: Machine<'_>, cells: &mut [i64]) -> Outcome
         }
         None => Outcome {
             instructions,
+            peak,
             ..plain_outcome(NOT_ENDED)
         },
     }

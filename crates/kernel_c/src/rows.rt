@@ -6,7 +6,9 @@ ghost use Rattle.kernel_c.specs.Held.{AreRuns, IsRun};
 use crate::handle::Handle;
 use crate::prepared::Prepared;
 use crate::serial::run_over;
-use crate::told::{CLOSED, Outcome, plain_outcome};
+use crate::stop::StopHandle;
+use crate::told::{CLOSED, OUT_OF_MEMORY, Outcome, plain_outcome};
+use hosted_run::Stop;
 use std::alloc::Global;
 use std::mem::replace;
 
@@ -17,10 +19,11 @@ fn run_row(
     fuel: u64,
     arguments: &[i64],
     cells: &mut [i64],
+    stop: &Stop,
 ) -> Outcome
     ensures { IsRun (Some kernel.now) fuel arguments.now cells.old cells.new result }
 {
-    run_over(alloc, kernel, fuel, arguments, cells)
+    run_over(alloc, kernel, fuel, arguments, cells, stop)
 }
 
 /// Where the numbers of a row end: it has as many as each row, or what is left.
@@ -36,6 +39,7 @@ fn run_rows(
     alloc: Global,
     kernel: &Prepared,
     fuel: u64,
+    stop: &Stop,
     arguments_each: usize,
     arguments: &[i64],
     cells_each: usize,
@@ -55,6 +59,7 @@ fn run_rows(
             fuel,
             &arguments[argument..argument_end],
             &mut cells[cell..cell_end],
+            stop,
         );
         argument = argument_end;
         cell = cell_end;
@@ -66,6 +71,7 @@ fn run_rows_held(
     alloc: Global,
     handle: Handle,
     fuel: u64,
+    stop: &Stop,
     arguments_each: usize,
     arguments: &[i64],
     cells_each: usize,
@@ -81,6 +87,7 @@ fn run_rows_held(
                 alloc,
                 block.module(),
                 fuel,
+                stop,
                 arguments_each,
                 arguments,
                 cells_each,
@@ -103,6 +110,7 @@ pub extern "C" fn tapirvm_rows(
     alloc: Global,
     handle: &mut Handle,
     fuel: u64,
+    stop: &mut StopHandle,
     arguments_each: usize,
     arguments: &[i64],
     cells_each: usize,
@@ -111,12 +119,20 @@ pub extern "C" fn tapirvm_rows(
 )
     ensures rows { AreRuns handle.old.kernel.program fuel arguments_each cells_each arguments.now cells.old cells.new outcomes.new }
     ensures same { handle.new.kernel.program ≡ handle.old.kernel.program }
+    ensures stop { stop.new.stop.kept ≡ stop.old.stop.kept }
 {
+    let (heard, own) = replace(stop, StopHandle::closed(alloc)).heard(alloc);
+    *stop = own;
+    let Some(heard) = heard else {
+        outcomes.fill(plain_outcome(OUT_OF_MEMORY));
+        return;
+    };
     let held = replace(handle, Handle::closed(alloc));
     *handle = run_rows_held(
         alloc,
         held,
         fuel,
+        &heard,
         arguments_each,
         arguments,
         cells_each,

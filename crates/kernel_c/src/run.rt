@@ -6,7 +6,9 @@ ghost use Rattle.kernel_c.specs.Held.{ExceedsHeld, HasOtherCellsHeld, IsHeldStat
 
 use crate::handle::Handle;
 use crate::serial::run_over;
-use crate::told::{CLOSED, Outcome, plain_outcome};
+use crate::stop::StopHandle;
+use crate::told::{CLOSED, OUT_OF_MEMORY, Outcome, plain_outcome};
+use hosted_run::Stop;
 use std::alloc::Global;
 use std::mem::replace;
 
@@ -15,6 +17,7 @@ fn run_held(
     alloc: Global,
     handle: Handle,
     fuel: u64,
+    stop: &Stop,
     arguments: &[i64],
     cells: &mut [i64],
 ) -> (Outcome, Handle)
@@ -29,19 +32,20 @@ fn run_held(
 {
     match handle.taken() {
         Some(block) => {
-            let outcome = run_over(alloc, block.module(), fuel, arguments, cells);
+            let outcome = run_over(alloc, block.module(), fuel, arguments, cells, stop);
             (outcome, Handle::kept(block))
         }
         None => (plain_outcome(CLOSED), Handle::closed(alloc)),
     }
 }
 
-/// Runs the serial elision of the module that is held, within some fuel, from the numbers of its globals, each global after the one before it.
+/// Runs the serial elision of the module that is held, within some fuel and unless it is stopped, from the numbers of its globals, each global after the one before it.
 #[unsafe(no_mangle)]
 pub extern "C" fn tapirvm_run(
     alloc: Global,
     handle: &mut Handle,
     fuel: u64,
+    stop: &mut StopHandle,
     arguments: &[i64],
     cells: &mut [i64],
     outcome: &mut Outcome,
@@ -54,9 +58,16 @@ pub extern "C" fn tapirvm_run(
     ensures kept { outcome.new.status ≢ done → cells.new ≡ cells.old }
     ensures statuses { IsHeldStatus outcome.new.status }
     ensures same { handle.new.kernel.program ≡ handle.old.kernel.program }
+    ensures stop { stop.new.stop.kept ≡ stop.old.stop.kept }
 {
+    let (heard, own) = replace(stop, StopHandle::closed(alloc)).heard(alloc);
+    *stop = own;
+    let Some(heard) = heard else {
+        *outcome = plain_outcome(OUT_OF_MEMORY);
+        return;
+    };
     let held = replace(handle, Handle::closed(alloc));
-    let (said, back) = run_held(alloc, held, fuel, arguments, cells);
+    let (said, back) = run_held(alloc, held, fuel, &heard, arguments, cells);
     *outcome = said;
     *handle = back;
 }

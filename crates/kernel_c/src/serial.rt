@@ -1,20 +1,23 @@
 //! The serial run over a row of the globals' numbers, and the call that judges a text anew for it.
 
-ghost use Rattle.std.specs.Prelude.{◌≡◌, ◌≢◌, ◌⊎◌, IfErr, IfOk, OnOk, Some, length, sum};
+ghost use Rattle.std.specs.Prelude.{◌≡◌, ◌≢◌, ◌⊎◌, IfErr, IfOk, None, OnOk, Some, length, sum};
 ghost use Rattle.store.specs.Requirements.{unmet_in};
 ghost use Rattle.store.specs.Made.{HasGlobalCells, IsMadeFor};
 ghost use Rattle.store.specs.Rows.{sizes_of};
 ghost use Rattle.serial_machine.specs.Decoding.{IsCodeOf};
+ghost use Rattle.kernel_c.specs.Until.{IsWatchedStatus};
 ghost use Rattle.kernel_c.specs.Told.{Exceeds, ExceedsProgram, HasOtherCells, IsOutcomeStatus, IsRunStatus, Lacks, Refuses, Runs, RunsProgram, Shows};
-ghost use Rattle.kernel_c.specs.Told.{bad_arguments, done, memory_from, other_cells, out_of_fuel, out_of_memory, refused, sizes_in};
+ghost use Rattle.kernel_c.specs.Told.{bad_arguments, done, memory_from, other_cells, out_of_effort, out_of_fuel, out_of_memory, refused, sizes_in, stopped, unbounded};
 
 use crate::cells::count_cells;
 use crate::judge::rejection;
 use crate::prepared::Prepared;
 use crate::seed::{Seed, verify_seeded};
 use crate::told::{
-    BAD_ARGUMENTS, DONE, OTHER_CELLS, OUT_OF_FUEL, OUT_OF_MEMORY, Outcome, plain_outcome,
+    BAD_ARGUMENTS, DONE, OTHER_CELLS, OUT_OF_FUEL, OUT_OF_MEMORY, Outcome, STOPPED, plain_outcome,
 };
+use crate::until::{FIRST, Watched, run_watched};
+use hosted_run::Stop;
 use lists::OutOfMemory;
 use serial_machine::{Decoded, Unfinished, serial_run_within_by};
 use std::alloc::Global;
@@ -92,32 +95,69 @@ fn run_by(
     }
 }
 
-/// Runs a prepared module within some fuel over a row of its globals' numbers.
+/// Runs a module strand by strand over a row of its globals' numbers, unless it is stopped.
+fn run_on(
+    alloc: Global,
+    kernel: &Verified,
+    fuel: u64,
+    stop: &Stop,
+    arguments: &[i64],
+    cells: &mut [i64],
+) -> Outcome
+    requires taken { unmet_in kernel.now arguments.now ≡ None }
+    ensures ran { result.status ≡ done → RunsProgram kernel.now fuel arguments.now cells.old cells.new result }
+    ensures fuel { result.status ≡ out_of_fuel → ExceedsProgram kernel.now fuel arguments.now cells.old }
+    ensures cells { result.status ≡ other_cells → length cells.old ≢ sum (sizes_in kernel.now) }
+    ensures kept { result.status ≢ done → cells.new ≡ cells.old }
+    ensures statuses { IsWatchedStatus result.status }
+{
+    let memory = match filled(alloc, kernel, cells) {
+        Ok(memory) => memory,
+        Err(status) => return plain_outcome(status),
+    };
+    match run_watched(alloc, kernel, fuel, stop, arguments, memory) {
+        Watched::Finished(finished) => finish(&finished, cells),
+        Watched::OutOfFuel => plain_outcome(OUT_OF_FUEL),
+        Watched::Stopped => plain_outcome(STOPPED),
+        Watched::OutOfMemory => plain_outcome(OUT_OF_MEMORY),
+    }
+}
+
+/// Runs a prepared module within some fuel over a row of its globals' numbers, unless it is stopped. Where somebody may stop it, and it has more to do than
+/// its first instructions, it begins again, strand by strand.
+#[tactic(auto, using(crate::proofs::Watching::more_fuel, crate::proofs::Watching::runs_kept, crate::proofs::Watching::exceeds_kept))]
 pub fn run_over(
     alloc: Global,
     kernel: &Prepared,
     fuel: u64,
     arguments: &[i64],
     cells: &mut [i64],
+    stop: &Stop,
 ) -> Outcome
     ensures ran { result.status ≡ done → RunsProgram kernel.now fuel arguments.now cells.old cells.new result }
     ensures fuel { result.status ≡ out_of_fuel → ExceedsProgram kernel.now fuel arguments.now cells.old }
     ensures arguments { result.status ≡ bad_arguments → unmet_in kernel.now arguments.now ≡ Some result.requirement }
     ensures cells { result.status ≡ other_cells → length cells.old ≢ sum (sizes_in kernel.now) }
     ensures kept { result.status ≢ done → cells.new ≡ cells.old }
-    ensures statuses { IsRunStatus result.status }
+    ensures statuses { (result.status ≡ stopped) ⊎ IsRunStatus result.status }
 {
-    run_by(
-        alloc,
-        kernel.verified(),
-        kernel.code(),
-        fuel,
-        arguments,
-        cells,
-    )
+    if stop.is_set() {
+        return plain_outcome(STOPPED);
+    }
+    let (module, code) = (kernel.verified(), kernel.code());
+    if !stop.is_live() || fuel <= FIRST {
+        return run_by(alloc, module, code, fuel, arguments, cells);
+    }
+    let outcome = run_by(alloc, module, code, FIRST, arguments, cells);
+    if outcome.status == OUT_OF_FUEL {
+        run_on(alloc, module, fuel, stop, arguments, cells)
+    } else {
+        outcome
+    }
 }
 
 /// Verifies a text within some effort, and runs its module within some fuel.
+#[tactic(auto, using(crate::proofs::Bounded::bounded_is))]
 fn run_text(
     alloc: Global,
     text: &[u8],
@@ -130,6 +170,7 @@ fn run_text(
     ensures ran { result.status ≡ done → Runs text.now fuel arguments.now cells.old cells.new result }
     ensures fuel { result.status ≡ out_of_fuel → Exceeds text.now fuel arguments.now cells.old }
     ensures refused { result.status ≡ refused → Refuses text.now result.rule result.line }
+    ensures effort { result.status ≡ out_of_effort → effort ≢ unbounded }
     ensures arguments { result.status ≡ bad_arguments → Lacks text.now arguments.now result.requirement }
     ensures cells { result.status ≡ other_cells → HasOtherCells text.now cells.old }
     ensures kept { result.status ≢ done → cells.new ≡ cells.old }
@@ -168,6 +209,7 @@ pub extern "C" fn tapirvm_serial(
     ensures ran { outcome.new.status ≡ done → Runs text.now fuel arguments.now cells.old cells.new outcome.new }
     ensures fuel { outcome.new.status ≡ out_of_fuel → Exceeds text.now fuel arguments.now cells.old }
     ensures refused { outcome.new.status ≡ refused → Refuses text.now outcome.new.rule outcome.new.line }
+    ensures effort { outcome.new.status ≡ out_of_effort → effort ≢ unbounded }
     ensures arguments { outcome.new.status ≡ bad_arguments → Lacks text.now arguments.now outcome.new.requirement }
     ensures cells { outcome.new.status ≡ other_cells → HasOtherCells text.now cells.old }
     ensures kept { outcome.new.status ≢ done → cells.new ≡ cells.old }

@@ -17,14 +17,26 @@ pub const OUT_OF_EFFORT: u32 = 3;
 /// The handle holds nothing.
 pub const CLOSED: u32 = 4;
 
-/// The run does more instructions than the fuel allows.
+/// The run does more instructions than the fuel allows, or on threads has done as many.
 pub const OUT_OF_FUEL: u32 = 5;
 
-/// The schedule is over, and the run is not.
+/// The run has not ended.
 pub const NOT_ENDED: u32 = 6;
 
 /// No rule has this number.
 pub const NO_RULE: u32 = 7;
+
+/// There is none of this name or number.
+pub const NOT_FOUND: u32 = 8;
+
+/// The worker is of another module.
+pub const FOREIGN: u32 = 9;
+
+/// The worker has a task: `tapirvm_turn` is next.
+pub const WORK: u32 = 10;
+
+/// There is no task for the worker now.
+pub const IDLE: u32 = 11;
 
 /// The arguments are not those of `main`.
 pub const BAD_ARGUMENTS: u32 = 801;
@@ -34,6 +46,9 @@ pub const BAD_WORKERS: u32 = 802;
 
 /// Memory was refused.
 pub const OUT_OF_MEMORY: u32 = 803;
+
+/// The stop is set.
+pub const STOPPED: u32 = 804;
 
 /// A line of the schedule is none.
 pub const BAD_SCHEDULE: u32 = 901;

@@ -42,6 +42,7 @@ fn next_want<L: Bench, H: Hunger>(
                     reason: Reason::Full,
                 };
             }
+            Standing::Going if wanted.is_over() => return Want::Nothing,
             Standing::Going => {
                 let done = stack.done();
                 if done == MOST_INSTRUCTIONS || habits.heights.is_low(done, stack.frames_below()) {
@@ -62,10 +63,12 @@ fn next_want<L: Bench, H: Hunger>(
     }
 }
 
-/// Goes on outside of the board, as long as nothing is wanted of it.
+/// Goes on outside of the board, as long as nothing is wanted of it and it is not over.
 pub fn turn<L: Bench, H: Hunger>(stack: &mut PrivateStack<'_, L>, habits: &mut Habits, wanted: &H) {
     habits.is_new = false;
-    if let Want::Nothing = habits.want {
+    if let Want::Nothing = habits.want
+        && !wanted.is_over()
+    {
         habits.want = next_want(stack, habits, wanted);
     }
 }

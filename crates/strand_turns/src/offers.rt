@@ -1,4 +1,4 @@
-use crate::tasks::{Hunger, Tasks, Told};
+use crate::tasks::{Tasks, Told};
 use lists::OutOfMemory;
 use shared_run::Ticket;
 use std::alloc::Global;
@@ -108,10 +108,4 @@ impl Tasks for Offers {
     }
 
     fn note(&mut self, _told: Told) {}
-}
-
-impl Hunger for AtomicU64 {
-    fn is_there(&self) -> bool {
-        self.load(Ordering::SeqCst) != 0
-    }
 }

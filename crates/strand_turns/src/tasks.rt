@@ -49,7 +49,13 @@ pub trait Tasks {
     fn note(&mut self, told: Told);
 }
 
-/// Tells workers that go on outside of the board whether others wait for tasks.
+/// Tells workers that go on outside of the board what is wanted of them. Nothing rests on it.
 pub trait Hunger {
+    /// Whether others wait for tasks.
     fn is_there(&self) -> bool;
+
+    /// Whether they are to pause where they are. Who goes on later goes on there.
+    fn is_over(&self) -> bool {
+        false
+    }
 }

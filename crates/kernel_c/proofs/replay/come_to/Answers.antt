@@ -31,4 +31,5 @@ pub returns-in-None-clause-stands : goal.returns-in-None-clause-stands
 returns-in-None-clause-stands c is m s = record {
   unended = sym (c.result.ensures m s) ∙ c.in-None.is;
   instructions = c.instructions-instructions.ensures m s;
+  peak = c.peak-peak.ensures m s;
 }

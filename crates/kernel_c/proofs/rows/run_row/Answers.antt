@@ -1,14 +1,15 @@
-use Rattle.std.proofs.Common.{◌≡◌, ℕ, inl, inr, refl, arith}
-use Rattle.kernel_c.specs.Told.{IsRunStatus}
+use Rattle.std.proofs.Common.{◌≡◌, ◌⊎◌, ℕ, inl, inr, refl, arith}
+use Rattle.kernel_c.specs.Told.{IsRunStatus, stopped}
 use Rattle.kernel_c.specs.Held.{closed}
 use Rattle.kernel_c.proofs.rows.run_row.Goals as goal
 
-is_open : (status : ℕ) → IsRunStatus status → status ≡ closed → ⊥
+is_open : (status : ℕ) → (status ≡ stopped) ⊎ IsRunStatus status → status ≡ closed → ⊥
 is_open status (inl e) is = absurd (omega (arith, e, is))
 is_open status (inr (inl e)) is = absurd (omega (arith, e, is))
 is_open status (inr (inr (inl e))) is = absurd (omega (arith, e, is))
 is_open status (inr (inr (inr (inl e)))) is = absurd (omega (arith, e, is))
-is_open status (inr (inr (inr (inr e)))) is = absurd (omega (arith, e, is))
+is_open status (inr (inr (inr (inr (inl e))))) is = absurd (omega (arith, e, is))
+is_open status (inr (inr (inr (inr (inr e))))) is = absurd (omega (arith, e, is))
 
 pub returns : goal.returns
 returns c =

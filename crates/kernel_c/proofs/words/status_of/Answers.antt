@@ -8,3 +8,6 @@ returns-in-Accepted-clause-accepted c = λ text effort h is. subst (λ (e : Expl
 
 pub returns-in-Refused-clause-refused : goal.returns-in-Refused-clause-refused
 returns-in-Refused-clause-refused c = λ text effort h is. (_, _, subst (λ (e : Explanation). IsVerdictOn text effort e) c.in-Refused.is h)
+
+pub returns-in-Undecided-clause-effort : goal.returns-in-Undecided-clause-effort
+returns-in-Undecided-clause-effort c = λ text effort h is. subst (λ (e : Explanation). IsVerdictOn text effort e) c.in-Undecided.is h
