@@ -50,6 +50,7 @@ static inline int64_t *new_cells(size_t count) {
 
 /* The next case, run serially. */
 static inline bool next_case(FILE *list, struct host_case *it) {
+    struct tapirvm_stop nobody = TAPIRVM_NOTHING;
     size_t given = 0;
     memset(it, 0, sizeof *it);
     if (fscanf(list, "%511s %zu", it->path, &it->argument_count) != 2 || it->argument_count > MOST_ARGUMENTS) return false;
@@ -62,7 +63,7 @@ static inline bool next_case(FILE *list, struct host_case *it) {
     for (size_t k = 0; k < given; k++)
         if (fscanf(list, "%" SCNd64, &it->begin[k]) != 1) exit(2);
     memcpy(it->cells, it->begin, it->cell_count * sizeof *it->cells);
-    tapirvm_run(&it->kernel, TAPIRVM_UNBOUNDED, it->arguments, it->argument_count, it->cells, it->cell_count, &it->serial);
+    tapirvm_run(&it->kernel, TAPIRVM_UNBOUNDED, &nobody, it->arguments, it->argument_count, it->cells, it->cell_count, &it->serial);
     return true;
 }
 

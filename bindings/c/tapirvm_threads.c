@@ -22,9 +22,7 @@ struct seat {
 };
 
 struct run {
-    struct tapirvm_board board;
-    struct tapirvm_worker workers[TAPIRVM_MOST_WORKERS];
-    size_t count;         /* of the workers */
+    struct tapirvm_crew *crew;
     pthread_mutex_t lock; /* of the board, of `sleepers` and of `status` */
     pthread_cond_t bell;
     size_t sleepers;
@@ -69,11 +67,11 @@ static void leave(struct run *run, uint32_t status) {
 
 /* The worker meets the board, and sleepers hear what it offers. */
 static uint32_t meet(struct run *run, size_t number, size_t *offered) {
-    struct tapirvm_worker *worker = &run->workers[number];
+    struct tapirvm_worker *worker = &run->crew->workers[number];
     *offered = 0;
     take(run);
-    uint32_t status = worker->live ? TAPIRVM_DONE : tapirvm_worker_open(&run->board, (uint8_t)number, worker);
-    if (status == TAPIRVM_DONE) status = tapirvm_meet(&run->board, worker, offered);
+    uint32_t status = worker->live ? TAPIRVM_DONE : tapirvm_worker_open(&run->crew->board, (uint8_t)number, worker);
+    if (status == TAPIRVM_DONE) status = tapirvm_meet(&run->crew->board, worker, offered);
     if (*offered > 0) {
         atomic_fetch_add(&run->rings, 1);
         for (size_t k = 0; k < *offered && k < run->sleepers; k++) pthread_cond_signal(&run->bell);
@@ -107,14 +105,16 @@ static void rest(struct run *run, unsigned heard) {
 
 static void *work(void *given);
 
-/* Other workers get their threads. Signals are for the host's own. Where the system starts no more there are fewer: none has begun anything. */
+/* Other workers get their threads. Signals are for the host's own. A worker that has begun something has to go on; of the others there may be fewer. */
 static void start_others(struct run *run) {
     sigset_t all, before;
     sigfillset(&all);
     pthread_sigmask(SIG_SETMASK, &all, &before);
-    for (size_t k = 1; k < run->count; k++) {
+    for (size_t k = 1; k < run->crew->count; k++) {
+        bool has_begun = run->crew->workers[k].live;
         run->seats[k] = (struct seat){.run = run, .number = k};
         run->seats[k].has_thread = pthread_create(&run->seats[k].thread, NULL, work, &run->seats[k]) == 0;
+        if (has_begun && !run->seats[k].has_thread) leave(run, TAPIRVM_OUT_OF_MEMORY);
     }
     pthread_sigmask(SIG_SETMASK, &before, NULL);
 }
@@ -132,40 +132,61 @@ static void *work(void *given) {
         }
         if (status == TAPIRVM_IDLE) rest(run, heard);
         if (status != TAPIRVM_WORK) continue;
-        status = tapirvm_turn(&run->workers[seat->number]);
+        status = tapirvm_turn(&run->crew->workers[seat->number]);
         if (status != TAPIRVM_DONE) leave(run, status);
     }
     return NULL;
 }
 
-/* Until the run has ended or cannot go on. */
-static void work_all(struct run *run) {
-    pthread_condattr_t clock;
-    pthread_mutex_init(&run->lock, NULL);
-    pthread_condattr_init(&clock);
-    pthread_condattr_setclock(&clock, CLOCK_MONOTONIC);
-    pthread_cond_init(&run->bell, &clock);
-    pthread_condattr_destroy(&clock);
-    run->seats[0] = (struct seat){.run = run, .is_alone = true};
-    work(&run->seats[0]);
-    for (size_t k = 1; k < run->count; k++)
-        if (run->seats[k].has_thread) pthread_join(run->seats[k].thread, NULL);
-    pthread_cond_destroy(&run->bell);
-    pthread_mutex_destroy(&run->lock);
+/* Whether another worker than the first has begun something: in a run that goes on. */
+static bool is_shared(const struct tapirvm_crew *crew) {
+    for (size_t k = 1; k < crew->count; k++)
+        if (crew->workers[k].live) return true;
+    return false;
 }
 
-void tapirvm_run_threads(struct tapirvm_handle *handle, size_t workers, const int64_t *arguments, size_t argument_count, int64_t *cells,
-                         size_t cell_count, struct tapirvm_outcome *outcome) {
+uint32_t tapirvm_crew_run(struct tapirvm_crew *crew) {
     struct run run;
+    pthread_condattr_t clock;
     memset(&run, 0, sizeof run);
-    tapirvm_board_open(handle, arguments, argument_count, cells, cell_count, workers, outcome, &run.board);
+    run.crew = crew, run.status = TAPIRVM_CLOSED;
+    if (crew->count == 0) return run.status;
+    pthread_mutex_init(&run.lock, NULL);
+    pthread_condattr_init(&clock);
+    pthread_condattr_setclock(&clock, CLOCK_MONOTONIC);
+    pthread_cond_init(&run.bell, &clock);
+    pthread_condattr_destroy(&clock);
+    run.seats[0] = (struct seat){.run = &run, .is_alone = !is_shared(crew)};
+    if (!run.seats[0].is_alone) start_others(&run);
+    work(&run.seats[0]);
+    for (size_t k = 1; k < crew->count; k++)
+        if (run.seats[k].has_thread) pthread_join(run.seats[k].thread, NULL);
+    pthread_cond_destroy(&run.bell);
+    pthread_mutex_destroy(&run.lock);
+    return run.status;
+}
+
+void tapirvm_crew_open(struct tapirvm_handle *handle, size_t workers, uint64_t fuel, struct tapirvm_stop *stop, const int64_t *arguments,
+                       size_t argument_count, const int64_t *cells, size_t cell_count, struct tapirvm_outcome *outcome, struct tapirvm_crew *crew) {
+    tapirvm_crew_close(crew);
+    tapirvm_board_open(handle, fuel, stop, arguments, argument_count, cells, cell_count, workers, outcome, &crew->board);
+    crew->count = outcome->status == TAPIRVM_DONE ? workers : 0;
+}
+
+void tapirvm_crew_close(struct tapirvm_crew *crew) {
+    for (size_t k = 0; k < crew->count; k++) tapirvm_worker_close(&crew->workers[k]);
+    tapirvm_board_close(&crew->board);
+    crew->count = 0;
+}
+
+void tapirvm_run_threads(struct tapirvm_handle *handle, size_t workers, uint64_t fuel, struct tapirvm_stop *stop, const int64_t *arguments,
+                         size_t argument_count, int64_t *cells, size_t cell_count, struct tapirvm_outcome *outcome) {
+    struct tapirvm_crew crew;
+    memset(&crew, 0, sizeof crew);
+    tapirvm_crew_open(handle, workers, fuel, stop, arguments, argument_count, cells, cell_count, outcome, &crew);
     if (outcome->status != TAPIRVM_DONE) return;
-    run.count = workers;
-    work_all(&run);
-    tapirvm_board_finish(&run.board, cells, cell_count, outcome);
-    /* (Of a run that has ended it is the answer that there was no memory for.) */
-    if (outcome->status == TAPIRVM_NOT_ENDED || outcome->status == TAPIRVM_CLOSED)
-        outcome->status = run.status == TAPIRVM_DONE ? TAPIRVM_OUT_OF_MEMORY : run.status;
-    for (size_t k = 0; k < workers; k++) tapirvm_worker_close(&run.workers[k]);
-    tapirvm_board_close(&run.board);
+    uint32_t status = tapirvm_crew_run(&crew);
+    tapirvm_board_finish(&crew.board, cells, cell_count, outcome);
+    if (outcome->status != TAPIRVM_DONE && status != TAPIRVM_DONE) outcome->status = status;
+    tapirvm_crew_close(&crew);
 }
