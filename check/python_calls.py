@@ -3,6 +3,7 @@
 `tools/install` put where the package looks; and it tries arrays of NumPy where that is there."""
 import array
 import doctest
+import inspect
 import os
 import pickle
 import signal
@@ -138,8 +139,12 @@ def seconds_after(tell, call, kind):
         teller.join()
 
 
+def check(holds, what):
+    assert holds, what
+
+
 def is_soon(tell, call, kind):
-    return any(seconds_after(tell, call, kind) < SOON for _ in range(TRIES))
+    return any(0 <= seconds_after(tell, call, kind) < SOON for _ in range(TRIES))
 
 
 def stops():
@@ -152,7 +157,7 @@ def stops():
     for workers in (1, 2, 4):
         assert is_soon(interrupt, lambda: kernel.run(LONG, workers=workers, fuel=None), KeyboardInterrupt), f"Ctrl-C, {workers} workers"
         stop = Stop()
-        assert is_soon(stop.set, lambda: kernel.run(LONG, workers=workers, fuel=None, stop=stop), Stopped), f"stop, {workers} workers"
+        assert is_soon(stop.set, lambda: stop.clear() or kernel.run(LONG, workers=workers, fuel=None, stop=stop), Stopped), f"stop, {workers} workers"
         begun = time.monotonic()
         raised(TimedOut, kernel.run, LONG, workers=workers, fuel=None, timeout=0.05)
         assert time.monotonic() - begun < 5
@@ -172,7 +177,8 @@ def wrong_values():
         (TypeError, ([7], row), {"fuel": 1.5}), (BadWorkers, ([7], row), {"workers": 0}), (BadWorkers, ([7], row), {"workers": 65}),
         (TypeError, ([7], row), {"workers": "4"}), (TypeError, ([7], array.array("i", [1, 2])), {}), (TypeError, ([7], array.array("d", [1, 2])), {}),
         (TypeError, ([7], bytes(16)), {}), (TypeError, ([7], memoryview(array.array("q", range(4)))[::2]), {}), (TypeError, (7,), {}),
-        (TypeError, ([7], memoryview(row).toreadonly()), {}),
+        (TypeError, ([7], memoryview(row).toreadonly()), {}), (TypeError, ([7], row), {"timeout": "1"}), (ValueError, ([7], row), {"timeout": float("nan")}),
+        (OverflowError, ([7], row), {"fuel": 2**64, "workers": 2}), (OverflowError, ([2**63], row), {"workers": 2}),
     ]:
         raised(error, pair.run, *words, **named)
     assert list(row) == [5, 6]
@@ -189,18 +195,54 @@ def wrong_values():
     assert Kernel("\n" + text("pair").decode()).run([7]).result == 14 and tapirvm.rule(-1) is None and tapirvm.rule(2**16) is None
 
 
-def in_use():
-    """Cells of a run in another thread are not taken for another one. (A module without globals has none, so these are arguments that are read.)"""
-    kernel, pair, stop, numbers = Kernel(SPINNING), Kernel(text("pair")), Stop(), memoryview(array.array("q", [10**11, 0]))
-    runner = threading.Thread(target=lambda: raised(Stopped, kernel.run, numbers[:1], fuel=None, stop=stop))
+def beside(kernel, numbers, workers, body):
+    """Does something while a run is over these arguments in another thread, which is stopped then."""
+    stop = Stop()
+    runner = threading.Thread(target=lambda: raised(Stopped, kernel.run, numbers, workers=workers, fuel=None, stop=stop))
     runner.start()
-    while not tapirvm._values.in_use._rows:
-        time.sleep(0.001)
-    raised(CellsInUse, pair.run, [7], numbers)
-    assert kernel.share().run(numbers[1:]).result == 0
-    stop.set()
-    runner.join()
-    assert pair.run([7], numbers).result == 14 and numbers.tolist() == [7, 7]
+    try:
+        while not tapirvm._values.in_use._rows:
+            time.sleep(0.001)
+        body()
+    finally:
+        stop.set()
+        runner.join()
+
+
+def in_use():
+    """Memory of a run in another thread is not taken for another one. (A module without globals has no cells, so these are arguments that are read.)"""
+    kernel, pair = Kernel(SPINNING), Kernel(text("pair"))
+    for workers in (1, 3):
+        numbers = memoryview(array.array("q", [10**11, 0]))
+
+        def others():
+            for its in (1, 2):
+                raised(CellsInUse, pair.run, [7], numbers, workers=its)
+            raised(CellsInUse, pair.begin, [7], numbers, workers=2)
+            raised(CellsInUse, pair.rows, [[7]], numbers)
+            assert kernel.share().run(numbers[1:], workers=workers).result == 0
+
+        beside(kernel, numbers[:1], workers, others)
+        assert pair.run([7], numbers).result == 14 and numbers.tolist() == [7, 7]
+    run = pair.begin([7], workers=2)
+    raised(CellsInUse, pair.run, [7])
+    run.go()
+    assert run.finish().result == 14 and pair.run([7]).result == 14
+
+
+def waiting():
+    """A run that waits for its kernel, which another thread has, is stopped as one that works is."""
+    kernel, numbers = Kernel(SPINNING), array.array("q", LONG)
+
+    def late():
+        begun = time.monotonic()
+        raised(TimedOut, kernel.run, [1], timeout=0.05)
+        assert time.monotonic() - begun < 5
+
+    beside(kernel, numbers, 1, late)
+    interrupt = lambda: os.kill(os.getpid(), signal.SIGINT)
+    beside(kernel, numbers, 2, lambda: check(is_soon(interrupt, lambda: kernel.run([1]), KeyboardInterrupt), "Ctrl-C in a run that waits"))
+    assert kernel.run([1]).result == 1
 
 
 def views():
@@ -264,7 +306,18 @@ def costly():
     assert time.monotonic() - begun < 30
 
 
-TESTS = [serial_runs, refusals, threads, in_steps, stops, wrong_values, in_use, views, arrays, pickles, costly]
+def examples():
+    """All that the package gives out has an example."""
+    given = {name: getattr(tapirvm, name) for name in tapirvm.__all__}
+    things = {name: it for name, it in given.items() if (inspect.isclass(it) or inspect.isfunction(it)) and it.__module__ == "tapirvm"}
+    for name, it in list(things.items()):
+        parts = vars(it).items() if inspect.isclass(it) else ()
+        things.update({f"{name}.{part}": value for part, value in parts if part[0] != "_" and isinstance(value, (property, type(examples)))})
+    lacking = [name for name, it in things.items() if ">>> " not in (it.__doc__ or "")]
+    assert len(things) > 30 and not lacking, lacking
+
+
+TESTS = [serial_runs, refusals, threads, in_steps, stops, wrong_values, in_use, waiting, views, arrays, pickles, costly, examples]
 
 
 def main():

@@ -36,7 +36,15 @@ class Refused(TapirError):
 
     @property
     def words(self) -> str:
-        """The reason in words. They are made where they are first asked for, since the text is judged anew for them."""
+        """The reason in words. They are made where they are first asked for, since the text is judged anew for them.
+
+        >>> from tapirvm import EXAMPLE, Kernel, Refused
+        >>> try:
+        ...     Kernel(EXAMPLE.replace("i64 %n", "i32 %n"))
+        ... except Refused as error:
+        ...     print(error.words.splitlines()[0] == f"refused {error.rule} line {error.line}")
+        True
+        """
         if callable(self._words):
             self._words = self._words()
         return self._words
@@ -71,11 +79,25 @@ class OutOfFuel(TapirError):
 
 
 class Stopped(TapirError):
-    """A stop was set: see `Stop`."""
+    """A stop was set: see `Stop`.
+
+    >>> from tapirvm import EXAMPLE, Kernel, Stop
+    >>> stop = Stop()
+    >>> stop.set()
+    >>> Kernel(EXAMPLE).run([7], stop=stop)
+    Traceback (most recent call last):
+    ...
+    tapirvm.Stopped: the run was told to stop
+    """
 
 
 class TimedOut(Stopped, TimeoutError):
-    """The time was over before the run ended."""
+    """The time was over before the run ended.
+
+    >>> from tapirvm import TimedOut
+    >>> issubclass(TimedOut, TimeoutError)
+    True
+    """
 
 
 class BadArguments(TapirError):
@@ -108,7 +130,16 @@ class OtherCells(TapirError):
 
 
 class CellsInUse(TapirError, BufferError):
-    """Another thread runs a kernel over these cells."""
+    """Another run is over these cells: in another thread, or begun and neither finished nor closed.
+
+    >>> from tapirvm import EXAMPLE, Kernel
+    >>> kernel = Kernel(EXAMPLE)
+    >>> with kernel.begin([7], workers=2):
+    ...     kernel.run([7])
+    Traceback (most recent call last):
+    ...
+    tapirvm.CellsInUse: another run is over these cells
+    """
 
 
 class BadWorkers(TapirError, ValueError):
@@ -159,7 +190,12 @@ class NotEnded(TapirError):
 
 
 class NoMemory(TapirError, MemoryError):
-    """The system gave no memory, or no thread."""
+    """The system gave no memory, or no thread.
+
+    >>> from tapirvm import NoMemory
+    >>> issubclass(NoMemory, MemoryError)
+    True
+    """
 
 
 class Closed(TapirError):
@@ -173,6 +209,11 @@ class Closed(TapirError):
     ...
     tapirvm.Closed: the handle holds nothing
     """
+
+
+def late() -> TimedOut:
+    """The exception of a run whose time was over."""
+    return TimedOut("the time was over before the run ended")
 
 
 _PLAIN = {

@@ -5,16 +5,16 @@ import array
 import collections
 import ctypes
 import threading
-from contextlib import contextmanager
+from contextlib import ExitStack, contextmanager
 from dataclasses import dataclass, field
 from typing import Any, Callable, Iterator
 
 from . import _library
-from ._faults import OtherCells, Refused, TapirError, TimedOut, of_outcome, plain
+from ._faults import OtherCells, Refused, TapirError, late, of_outcome, plain
 from ._library import DONE, STOPPED, Crew, Handle, Range, Verdict, library
 from ._library import Outcome as Answer
-from ._stop import Stop, Word, watched
-from ._values import UNBOUNDED, Numbers, Row, Text, copied, crew_of, flat, in_use, read, seed, table, text_of, unsigned, written
+from ._stop import Stop, Word, held, watched
+from ._values import UNBOUNDED, Numbers, Row, Text, copied, crew_of, flat, in_use, read, seconds, seed, table, text_of, unsigned, written
 from ._words import EFFORT, explain, rule
 
 #: The instructions that a run may do, where the caller does not say: some two to ten seconds on one processor.
@@ -26,7 +26,12 @@ _QUICK = 1_000_000
 
 @dataclass(frozen=True)
 class Argument:
-    """An argument of @main, and the least and the greatest value that its `requires` lines name, or None."""
+    """An argument of @main, and the least and the greatest value that its `requires` lines name, or None.
+
+    >>> from tapirvm import EXAMPLE, Kernel
+    >>> Kernel(EXAMPLE).arguments[0]
+    Argument(name='%n', low=None, high=None)
+    """
 
     name: str
     low: int | None
@@ -154,7 +159,14 @@ class Kernel:
         return array.array("q", bytes(8 * self.cells))
 
     def __getitem__(self, name: str) -> memoryview:
-        """A view of a global's cells within the kernel's own."""
+        """A view of a global's cells within the kernel's own.
+
+        >>> from tapirvm import EXAMPLE, Kernel
+        >>> kernel = Kernel(EXAMPLE)
+        >>> kernel["@a"][0] = 5
+        >>> kernel.memory
+        array('q', [5])
+        """
         return _view(self.memory, self.globals, name)
 
     def __setitem__(self, name: str, values: Numbers) -> None:
@@ -178,7 +190,8 @@ class Kernel:
         """Runs the module: serially, or on so many threads, which have ended when it returns. The answer is the serial run's in both.
 
         `cells` are changed in place where they are a buffer of 64-bit integers, as an `array.array("q")`, a `memoryview` or an array of NumPy. Of other
-        sequences a copy is. Where none are passed, they are the kernel's own. At any exception they are as they were.
+        sequences a copy is. Where none are passed, they are the kernel's own. At any exception they are as they were. (But Ctrl-C may come when the run
+        has just ended.)
 
         `fuel` is the most instructions that it may do, or None for as many as it takes. On threads it may do 66,000 more. `timeout` is in seconds. Ctrl-C
         ends a run within a tenth of a second, and so does a `stop` that another thread sets.
@@ -191,20 +204,19 @@ class Kernel:
         >>> Kernel(EXAMPLE).run([7], [100], workers=4, fuel=1_000_000)
         Outcome(result=7, instructions=7, peak=2)
         """
-        if crew_of(workers) > 1:
-            with self.begin(args, cells, workers=workers) as run:
-                run.go(fuel=fuel, timeout=timeout, stop=stop)
-                return run.finish()
-        most, given = _fuel_of(fuel), read(args)
-        row, held = self._row(cells)
-        answer = Answer()
+        crew, most, given, answer = crew_of(workers), _fuel_of(fuel), read(args), Answer()
+        row, kept = self._row(cells, given)
 
-        def call(told: Any) -> None:
-            with self._open() as handle, in_use.claim(row, given):
-                library.tapirvm_run(handle, most, told, given.at, given.count, row.at, row.count, ctypes.byref(answer))
+        def call(word: Word | None) -> None:
+            with self._open(word) as handle, in_use.claim(row, given):
+                rest = most, _told(word), given.at, given.count, row.at, row.count, ctypes.byref(answer)
+                if crew == 1:
+                    library.tapirvm_run(handle, *rest)
+                else:
+                    library.tapirvm_run_threads(handle, crew, *rest)
 
-        is_late = self._watch(call, min(most, self.budget), timeout, stop)
-        return self._outcome(answer, held, is_late)
+        is_late = self._watch(call, min(most, self.budget), seconds(timeout), stop)
+        return self._outcome(answer, kept, is_late)
 
     def rows(self, args: Any, cells: Numbers, *, fuel: int | None = FUEL, timeout: float | None = None,
              stop: Stop | None = None) -> list[Outcome | TapirError]:
@@ -218,22 +230,29 @@ class Kernel:
         """
         most, (numbers, each, count) = _fuel_of(fuel), table(args)
         given = read(numbers)
-        row, held = written(cells)
+        row, kept = written(cells, given)
         if row.count != count * self.cells:
             raise OtherCells(f"{count} rows of {self.cells} cells have {count * self.cells} cells, not {row.count}")
         answers = (Answer * max(count, 1))()
 
-        def call(told: Any) -> None:
-            with self._open() as handle, in_use.claim(row, given):
-                library.tapirvm_rows(handle, most, told, each, given.at, given.count, self.cells, row.at, row.count, answers, count)
+        def call(word: Word | None) -> None:
+            with self._open(word) as handle, in_use.claim(row, given):
+                library.tapirvm_rows(handle, most, _told(word), each, given.at, given.count, self.cells, row.at, row.count, answers, count)
 
-        is_late = self._watch(call, min(most, self.budget) * count, timeout, stop)
-        view = flat(held)
+        is_late = self._watch(call, min(most, self.budget) * count, seconds(timeout), stop)
+        view = flat(kept)
         own = [view[k * self.cells : (k + 1) * self.cells] for k in range(count)]
         return [self._outcome(answers[k], own[k], is_late) if answers[k].status == DONE else _fault(answers[k], is_late) for k in range(count)]
 
     def begin(self, args: Numbers = (), cells: Numbers = None, *, workers: int) -> Run:
-        """A run on threads that has not done anything yet: see `Run`. Raises as `run` does."""
+        """A run on threads that has not done anything yet: see `Run`. Raises as `run` does.
+
+        >>> from tapirvm import EXAMPLE, Kernel
+        >>> with Kernel(EXAMPLE).begin([7], workers=2) as run:
+        ...     run.go()
+        ...     run.finish().result
+        7
+        """
         return Run(self, args, cells, workers)
 
     def replay(self, args: Numbers = (), cells: Numbers = None, *, workers: int, schedule: Text) -> Outcome:
@@ -245,10 +264,10 @@ class Kernel:
         Outcome(result=7, instructions=7, peak=2)
         """
         lines, given, answer, crew = text_of(schedule), read(args), Answer(), crew_of(workers)
-        row, held = self._row(cells)
+        row, kept = self._row(cells, given)
         with self._open() as handle, in_use.claim(row, given):
             library.tapirvm_replay(handle, given.at, given.count, row.at, row.count, crew, lines, len(lines), ctypes.byref(answer))
-        return self._outcome(answer, held)
+        return self._outcome(answer, kept)
 
     # ---- Other kernels
 
@@ -272,7 +291,12 @@ class Kernel:
         return other
 
     def close(self) -> None:
-        """Gives back what the kernel holds. It can be called again, and does nothing then."""
+        """Gives back what the kernel holds. It can be called again, and does nothing then. `with` calls it at its end.
+
+        >>> from tapirvm import EXAMPLE, Kernel
+        >>> kernel = Kernel(EXAMPLE)
+        >>> kernel.close()
+        """
         with self._open() as handle:
             self._is_closed = True
             library.tapirvm_close(handle)
@@ -295,21 +319,21 @@ class Kernel:
         return f"Kernel(budget={self.budget}, depth={self.depth}, cells={self.cells})"
 
     @contextmanager
-    def _open(self) -> Iterator[Any]:
-        """The handle, for this thread alone."""
-        with self._lock:
+    def _open(self, word: Word | None = None) -> Iterator[Any]:
+        """The handle, for this thread alone. Raises Stopped where the word is set before it is there."""
+        with held(self._lock, word):
             yield ctypes.byref(self._handle)
 
-    def _row(self, cells: Numbers) -> tuple[Row, Any]:
-        return written(self.memory if cells is None else cells)
+    def _row(self, cells: Numbers, given: Row) -> tuple[Row, Any]:
+        return written(self.memory if cells is None else cells, given)
 
-    def _watch(self, call: Callable[[Any], None], most: int, timeout: float | None, stop: Stop | None) -> bool:
-        """Makes a call that does at most so many instructions and looks at the stop that it is given. Whether the time was over."""
+    def _watch(self, call: Callable[[Word | None], None], most: int, timeout: float | None, stop: Stop | None) -> bool:
+        """Makes a call that does at most so many instructions and looks at the word that it is given. Whether the time was over."""
         if timeout is None and stop is None and most <= _QUICK:
-            call(ctypes.byref(Handle()))
+            call(None)
             return False
         word = Word()
-        return watched(lambda: call(ctypes.byref(word.handle)), word, stop, timeout)
+        return watched(lambda: call(word), word, stop, timeout)
 
     def _outcome(self, answer: Answer, cells: Any, is_late: bool = False) -> Outcome:
         if answer.status != DONE:
@@ -318,7 +342,8 @@ class Kernel:
 
 
 class Run:
-    """A run on threads in steps: it goes on after it was stopped or was out of fuel or of time, and tells its schedule.
+    """A run on threads in steps: it goes on after it was stopped or was out of fuel or of time, and tells its schedule. Its cells are in use until it is
+    finished or closed.
 
     >>> from tapirvm import EXAMPLE, Kernel, OutOfFuel
     >>> kernel = Kernel(EXAMPLE)
@@ -334,35 +359,50 @@ class Run:
     """
 
     def __init__(self, kernel: Kernel, args: Numbers, cells: Numbers, workers: int) -> None:
-        """Begins: `Kernel.begin` calls this."""
+        """Begins: `Kernel.begin` calls this. (Fuel is granted where the run goes on.)"""
         self._crew, self._lock, self._word, self._kernel = Crew(), threading.Lock(), Word(), kernel
-        given, crew, answer, nothing = read(args), crew_of(workers), Answer(), 0
-        self._row, self._held = kernel._row(cells)
-        row = self._row
-        with kernel._open() as handle, in_use.claim(row, given):
-            library.tapirvm_crew_open(handle, crew, nothing, ctypes.byref(self._word.handle), given.at, given.count, row.at, row.count,
-                                      ctypes.byref(answer), ctypes.byref(self._crew))
-        if answer.status != DONE:
-            raise of_outcome(answer)
+        given, crew, answer, no_fuel = read(args), crew_of(workers), Answer(), 0
+        self._row, self._kept = kernel._row(cells, given)
+        self._claim = ExitStack()
+        with ExitStack() as begun:
+            begun.enter_context(in_use.claim(writes=self._row))
+            with kernel._open() as handle, in_use.claim(reads=given):
+                library.tapirvm_crew_open(handle, crew, no_fuel, ctypes.byref(self._word.handle), given.at, given.count, self._row.at, self._row.count,
+                                          ctypes.byref(answer), ctypes.byref(self._crew))
+            if answer.status != DONE:
+                raise of_outcome(answer)
+            self._claim = begun.pop_all()
 
     def go(self, *, fuel: int | None = FUEL, timeout: float | None = None, stop: Stop | None = None) -> None:
         """Goes on to the end. `fuel` is how many instructions more it may do, beside what was not used before. Raises OutOfFuel, TimedOut, Stopped,
-        NoMemory or Closed. After the first three it can be called again."""
-        more = _fuel_of(fuel)
+        NoMemory or Closed. After the first three it can be called again.
+
+        >>> from tapirvm import EXAMPLE, Kernel
+        >>> with Kernel(EXAMPLE).begin([7], workers=2) as run:
+        ...     run.go(fuel=1_000, timeout=60)
+        """
+        more, most_seconds = _fuel_of(fuel), seconds(timeout)
+        statuses: list[int] = []
 
         def call() -> None:
-            with self._lock:
+            with held(self._lock, self._word):
                 library.tapirvm_board_fuel(ctypes.byref(self._crew.board), more)
                 statuses.append(library.tapirvm_crew_run(ctypes.byref(self._crew)))
 
-        statuses: list[int] = []
         self._word.clear()
-        is_late = watched(call, self._word, stop, timeout)
+        is_late = watched(call, self._word, stop, most_seconds)
         if statuses[0] != DONE:
-            raise _late() if is_late and statuses[0] == STOPPED else plain(statuses[0])
+            raise late() if is_late and statuses[0] == STOPPED else plain(statuses[0])
 
     def schedule(self) -> str:
-        """What the run has done so far, as `Kernel.replay` takes it with the same arguments, cells and number of workers."""
+        """What the run has done so far, as `Kernel.replay` takes it with the same arguments, cells and number of workers.
+
+        >>> from tapirvm import EXAMPLE, Kernel
+        >>> with Kernel(EXAMPLE).begin([7], workers=1) as run:
+        ...     run.go()
+        ...     print(run.schedule(), end="")
+        step 0 7
+        """
         with self._lock:
             status, lines = _library.written(library.tapirvm_board_schedule, ctypes.byref(self._crew.board), room=1 << 20)
         if status == _library.LONG_SCHEDULE:
@@ -372,16 +412,32 @@ class Run:
         return lines.decode()
 
     def finish(self) -> Outcome:
-        """The answer of the run, which has ended: the cells that it began from are those of the end. Raises NotEnded, NoMemory or Closed."""
+        """The answer of the run, which has ended: the cells that it began from are those of the end. Raises NotEnded, NoMemory or Closed.
+
+        >>> from tapirvm import EXAMPLE, Kernel
+        >>> with Kernel(EXAMPLE).begin([7], workers=2) as run:
+        ...     run.finish()
+        Traceback (most recent call last):
+        ...
+        tapirvm.NotEnded: the run has not ended after 0 instructions
+        """
         answer, row = Answer(), self._row
-        with self._lock, in_use.claim(row, read(())):
+        with self._lock:
             library.tapirvm_board_finish(ctypes.byref(self._crew.board), row.at, row.count, ctypes.byref(answer))
-        return self._kernel._outcome(answer, self._held)
+            if answer.status != _library.NOT_ENDED:
+                self._claim.close()
+        return self._kernel._outcome(answer, self._kept)
 
     def close(self) -> None:
-        """Gives the run back. It can be called again, and does nothing then."""
+        """Gives the run back. It can be called again, and does nothing then. `with` calls it at its end.
+
+        >>> from tapirvm import EXAMPLE, Kernel
+        >>> run = Kernel(EXAMPLE).begin([7], workers=2)
+        >>> run.close()
+        """
         with self._lock:
             library.tapirvm_crew_close(ctypes.byref(self._crew))
+            self._claim.close()
 
     def __enter__(self) -> Run:
         return self
@@ -390,7 +446,7 @@ class Run:
         self.close()
 
     def __del__(self) -> None:
-        if library is not None:
+        if hasattr(self, "_crew") and library is not None:
             library.tapirvm_crew_close(ctypes.byref(self._crew))
 
 
@@ -398,12 +454,13 @@ def _fuel_of(fuel: int | None) -> int:
     return UNBOUNDED if fuel is None else unsigned(fuel, "fuel")
 
 
-def _late() -> TapirError:
-    return TimedOut("the time was over before the run ended")
+def _told(word: Word | None) -> Any:
+    """The stop that a run looks at."""
+    return ctypes.byref(word.handle if word is not None else Handle())
 
 
 def _fault(answer: Answer, is_late: bool) -> TapirError:
-    return _late() if is_late and answer.status == STOPPED else of_outcome(answer)
+    return late() if is_late and answer.status == STOPPED else of_outcome(answer)
 
 
 def _global_at(handle: Any, number: int) -> tuple[str, range]:

@@ -56,7 +56,9 @@ _CALLS = {
     "tapirvm_stop_share": (U32, [_HANDLE, _HANDLE]),
     "tapirvm_stop_set": (U32, [_HANDLE]),
     "tapirvm_stop_clear": (U32, [_HANDLE]),
+    "tapirvm_stop_is_set": (ctypes.c_bool, [_HANDLE]),
     "tapirvm_stop_close": (None, [_HANDLE]),
+    "tapirvm_run_threads": (None, _CREW),
     "tapirvm_crew_open": (None, [*_CREW, _of(Crew)]),
     "tapirvm_crew_run": (U32, [_of(Crew)]),
     "tapirvm_crew_close": (None, [_of(Crew)]),
@@ -76,7 +78,12 @@ _CALLS = {
 
 
 class LibraryNotFound(ImportError):
-    """There is no shared library, or one of another version."""
+    """There is no shared library, or one of another version: then the package is not imported.
+
+    >>> from tapirvm import LibraryNotFound
+    >>> issubclass(LibraryNotFound, ImportError)
+    True
+    """
 
     __module__ = "tapirvm"
 

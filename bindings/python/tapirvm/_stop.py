@@ -6,11 +6,14 @@ import threading
 from contextlib import contextmanager, nullcontext
 from typing import Callable, Iterator
 
-from ._faults import plain
-from ._library import DONE, Handle, library
+from ._faults import Stopped, late, plain
+from ._library import DONE, STOPPED, Handle, library
 
 #: A thread waits for its run at most so many seconds longer than it is to, after the run was told to stop.
 PATIENCE = 1.0
+
+#: A run that waits for its kernel looks so often, in seconds, whether it was told to stop.
+_LOOK = 0.02
 
 
 class Word:
@@ -31,9 +34,25 @@ class Word:
         with self._lock:
             library.tapirvm_stop_clear(ctypes.byref(self._own))
 
+    def is_set(self) -> bool:
+        with self._lock:
+            return bool(library.tapirvm_stop_is_set(ctypes.byref(self._own)))
+
     def __del__(self) -> None:
         for handle in (self.handle, self._own) if library is not None else ():
             library.tapirvm_stop_close(ctypes.byref(handle))
+
+
+@contextmanager
+def held(lock: threading.Lock, word: Word | None = None) -> Iterator[None]:
+    """Has a lock, for which it waits until the word is set. Raises Stopped then."""
+    while not lock.acquire(timeout=-1 if word is None else _LOOK):
+        if word is not None and word.is_set():
+            raise plain(STOPPED)
+    try:
+        yield
+    finally:
+        lock.release()
 
 
 class Stop:
@@ -57,19 +76,39 @@ class Stop:
         self._words: set[Word] = set()
 
     def set(self) -> None:
-        """Stops the runs: each ends within some milliseconds, and raises Stopped."""
+        """Stops the runs: each ends within some milliseconds, and raises Stopped.
+
+        >>> from tapirvm import Stop
+        >>> stop = Stop()
+        >>> stop.set()
+        >>> stop.is_set()
+        True
+        """
         with self._lock:
             self._is_set = True
             for word in self._words:
                 word.set()
 
     def clear(self) -> None:
-        """Stops no run from now on."""
+        """Stops no run from now on.
+
+        >>> from tapirvm import Stop
+        >>> stop = Stop()
+        >>> stop.set()
+        >>> stop.clear()
+        >>> stop.is_set()
+        False
+        """
         with self._lock:
             self._is_set = False
 
     def is_set(self) -> bool:
-        """Whether it is set."""
+        """Whether it is set.
+
+        >>> from tapirvm import Stop
+        >>> Stop().is_set()
+        False
+        """
         return self._is_set
 
     @contextmanager
@@ -121,7 +160,7 @@ def _beside(call: Callable[[], None], word: Word, timeout: float | None) -> bool
         _wait_for(ended)
         raise
     if faults:
-        raise faults[0]
+        raise faults[0] if is_in_time or not isinstance(faults[0], Stopped) else late()
     return not is_in_time
 
 

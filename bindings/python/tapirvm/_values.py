@@ -3,6 +3,7 @@ from __future__ import annotations
 
 import array
 import ctypes
+import math
 import operator
 import os
 import threading
@@ -36,6 +37,15 @@ def unsigned(value: SupportsIndex, name: str) -> int:
     if not 0 <= number <= UNBOUNDED:
         raise OverflowError(f"{name} is from 0 to {UNBOUNDED}, not {number}")
     return number
+
+
+def seconds(timeout: float | None) -> float | None:
+    """A time in seconds that a thread can wait for, or None for ever."""
+    if timeout is None or timeout == math.inf:
+        return None
+    if math.isnan(timeout):
+        raise ValueError("timeout is a number of seconds")
+    return min(max(float(timeout), 0.0), threading.TIMEOUT_MAX)
 
 
 def crew_of(workers: SupportsIndex) -> int:
@@ -97,15 +107,19 @@ def read(values: Numbers) -> Row:
     return Row(copied(values if view is None else view) if view is None or view.readonly else view)
 
 
-def written(values: Numbers) -> tuple[Row, Any]:
-    """Numbers that a call changes in place, with the object that holds them: the value itself where it is a buffer, else a new array."""
+def written(values: Numbers, given: Row) -> tuple[Row, Any]:
+    """Numbers that a call changes in place, with the object that holds them: the value itself where it is a buffer, else a new array. They do not overlap
+    the arguments that are given."""
     if not _is_buffer(values):
         fresh = copied(values)
         return Row(fresh), fresh
     view = flat(values)
     if view.readonly:
         raise TypeError("the cells are a buffer that cannot be written")
-    return Row(view), values
+    row = Row(view)
+    if _overlap(row, given):
+        raise ValueError("the cells and the arguments overlap")
+    return row, values
 
 
 def table(rows: Any) -> tuple[memoryview, int, int]:
@@ -123,28 +137,25 @@ def table(rows: Any) -> tuple[memoryview, int, int]:
 
 
 class _InUse:
-    """The memory that calls of all threads write and read now."""
+    """The memory that runs of all threads write and read now."""
 
     def __init__(self) -> None:
         self._lock = threading.Lock()
         self._rows: list[tuple[Row, bool]] = []
 
     @contextmanager
-    def claim(self, cells: Row, arguments: Row) -> Iterator[None]:
-        """For the time of a call. Raises ValueError where the cells overlap the arguments, and CellsInUse where another call writes to one of them, or
-        reads what this one is to write."""
-        if _overlap(cells, arguments):
-            raise ValueError("the cells and the arguments overlap")
-        own = [(cells, True), (arguments, False)]
+    def claim(self, writes: Row | None = None, reads: Row | None = None) -> Iterator[None]:
+        """For the time of a run. Raises CellsInUse where another one writes to one of them, or reads what this one is to write."""
+        own = [(row, is_written) for row, is_written in ((writes, True), (reads, False)) if row is not None]
         with self._lock:
-            if any((writes or other_writes) and _overlap(row, other) for row, writes in own for other, other_writes in self._rows):
-                raise CellsInUse("another call runs over these cells")
+            if any((is_written or other_is) and _overlap(row, other) for row, is_written in own for other, other_is in self._rows):
+                raise CellsInUse("another run is over these cells")
             self._rows += own
         try:
             yield
         finally:
             with self._lock:
-                self._rows = [it for it in self._rows if it[0] is not cells and it[0] is not arguments]
+                self._rows = [it for it in self._rows if it not in own]
 
 
 def _overlap(one: Row, other: Row) -> bool:
