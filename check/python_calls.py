@@ -6,11 +6,13 @@ import doctest
 import inspect
 import os
 import pickle
+import random
 import signal
 import sys
 import threading
 import time
 from common import EXAMPLES, TOP, parser
+from host_cases import all_cases
 from modules import SPINNING, fib, scattered
 
 sys.path.append(str(TOP / "bindings/python"))
@@ -317,11 +319,48 @@ def examples():
     assert len(things) > 30 and not lacking, lacking
 
 
+def cases():
+    """The kernels of all cases of the hosts in C, with their arguments and cells to begin from."""
+    opened = {}
+    for words in map(str.split, all_cases()):
+        path, count, numbers = words[0], int(words[1]), list(map(int, words[2:]))
+        kernel = opened.setdefault(path, Kernel(open(path, "rb").read()))
+        cells = kernel.zeros()
+        cells[:len(numbers) - count - 1] = array.array("q", numbers[count + 1:])
+        yield kernel, numbers[:count], cells
+
+
+def came_to(kernel, arguments, cells, workers):
+    """What a run comes to, with its cells, which may be those of the start."""
+    row = array.array("q", cells)
+    try:
+        outcome = kernel.run(arguments, row, workers=workers)
+    except tapirvm.TapirError as error:
+        outcome = str(error)
+    return outcome, row
+
+
+def soak(minutes):
+    """Runs of all cases on 2 to 64 threads for so long, each compared with the serial run."""
+    end, draw, runs = time.monotonic() + 60 * minutes, random.Random(1), 0
+    rows = [(it, came_to(*it, 1)) for it in cases()]
+    while time.monotonic() < end:
+        case, wanted = draw.choice(rows)
+        workers = draw.randint(2, 64)
+        assert came_to(*case, workers) == wanted, (case, workers)
+        runs += 1
+    print(f"{runs} runs on threads from Python")
+
+
 TESTS = [serial_runs, refusals, threads, in_steps, stops, wrong_values, in_use, waiting, views, arrays, pickles, costly, examples]
 
 
 def main():
-    parser(__doc__).parse_args()
+    asked = parser(__doc__)
+    asked.add_argument("--soak", type=float, metavar="MINUTES", help="only runs on 2 to 64 threads, for so long")
+    minutes = asked.parse_args().soak
+    if minutes:
+        return soak(minutes)
     for test in TESTS:
         test()
     parts = [tapirvm] + [module for name, module in sorted(sys.modules.items()) if name.startswith("tapirvm.")]

@@ -13,8 +13,8 @@
  * - A handle (of a module, a board, a worker, a stop) is all zeroes (TAPIRVM_NOTHING), or as a call left it. The host writes nothing into it, and
  *   never uses two copies of one: it is moved only where the old place is not used again. It is for one call at a time, in any thread, where a lock,
  *   a start or a join of a thread orders the calls. What a handle holds is lost where it is overwritten by other means than a call.
- * - A worker meets a board of the module that its own board has. (Where the two lie apart the call answers TAPIRVM_FOREIGN; the tests hold that, no
- *   contract does.)
+ * - A worker meets a board of the module that its own board has. (Where the modules' texts or the seeds of their judgements differ, the call answers
+ *   TAPIRVM_FOREIGN; the tests hold that, no contract does.)
  * - malloc, realloc and free are of one allocator, and align a block to each power of two up to 16 that divides its size. They may give none at any
  *   time: so a host ends a call that takes too long.
  * - No call is made from a signal handler, or in the child of a process with threads before it executes a program.
@@ -54,7 +54,7 @@ enum tapirvm_status {
     TAPIRVM_NOT_ENDED = 6,        /* the schedule is over, or nobody works on the board, and the run has not ended */
     TAPIRVM_NO_RULE = 7,          /* no rule has this number */
     TAPIRVM_NOT_FOUND = 8,        /* there is none of this name or number */
-    TAPIRVM_FOREIGN = 9,          /* the worker was made by a board of another module */
+    TAPIRVM_FOREIGN = 9,          /* the worker was made by a board of a module that was opened otherwise */
     TAPIRVM_WORK = 10,            /* the worker has a task: tapirvm_turn is next */
     TAPIRVM_IDLE = 11,            /* there is no task for the worker now */
     TAPIRVM_BAD_ARGUMENTS = 801,  /* the arguments are not those of @main */
@@ -92,19 +92,19 @@ struct tapirvm_handle {
 
 /* A stop that threads share, or nothing. */
 struct tapirvm_stop {
-    bool live;
+    bool live; /* whether it holds a stop: for the host to read */
     void *at;
 };
 
 /* A run on threads, or nothing. */
 struct tapirvm_board {
-    bool live;
+    bool live; /* whether it holds a run: for the host to read */
     void *at;
 };
 
 /* A worker of such a run, or nothing. */
 struct tapirvm_worker {
-    bool live;
+    bool live; /* whether it holds a worker: for the host to read */
     void *at;
 };
 
@@ -183,11 +183,17 @@ void tapirvm_stop_close(struct tapirvm_stop *stop);
  *         else break;
  *     }
  *
+ * (tapirvm_run_threads in tapirvm_threads.h does all of it by threads of POSIX.)
+ *
  * Whatever calls were made before, in whatever order and by how many threads: where tapirvm_board_finish answers TAPIRVM_DONE, the answer is the
- * serial run's. Two workers of one number, a worker that is closed in the middle, turns and meetings in any order are no mistake.
+ * serial run's. Two workers of one number, a worker that is closed in the middle, turns and meetings in any order are no mistake. That a run ends is no
+ * contract: it does not where a worker that has a task is lost, until another one of its number meets the board, which does that work again.
  *
  * A run that is stopped or out of fuel is kept by the board and goes on with the next meetings, once the stop is cleared or the board has more fuel,
- * also by new workers of the same numbers: what the old ones did since they last put something on the board is then done again. */
+ * also by new workers of the same numbers: what the old ones did since they last put something on the board is then done again.
+ *
+ * A board and a worker keep the module by themselves: the handle that the board was made by may be closed before them, and the board before its
+ * workers. All calls with a board are made under its lock. */
 
 /* Begins a run of the module that is kept, on so many workers, from the cells. The board and its workers look at the stop from then on, without the
  * handle. TAPIRVM_DONE, or the board holds nothing: _CLOSED, _OTHER_CELLS, _BAD_ARGUMENTS, _BAD_WORKERS, _OUT_OF_MEMORY. What it held is given back. */

@@ -24,7 +24,8 @@ struct tapirvm_crew {
 
 /* Runs the module that is kept on so many workers, from 1 to 64: the caller's thread, and others from the first meeting on that offers them a task.
  * All of them have ended when it returns. Where a thread cannot be had, there are fewer. Fuel and stop are as of tapirvm_board_open.
- * The statuses of tapirvm_board_open and tapirvm_meet; the cells and the outcome are as of tapirvm_board_finish. */
+ * TAPIRVM_DONE: the answer and the cells are those of the serial run. Else the cells are as they were: _OUT_OF_FUEL or _STOPPED with the instructions
+ * and the peak so far; _CLOSED, _OTHER_CELLS, _BAD_ARGUMENTS, _BAD_WORKERS, _OUT_OF_MEMORY. */
 void tapirvm_run_threads(struct tapirvm_handle *handle, size_t workers, uint64_t fuel, struct tapirvm_stop *stop, const int64_t *arguments,
                          size_t argument_count, int64_t *cells, size_t cell_count, struct tapirvm_outcome *outcome);
 
