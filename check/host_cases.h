@@ -23,8 +23,8 @@ struct host_case {
     struct tapirvm_outcome serial;
 };
 
-/* Judges the text of a file and keeps it. The program ends where it is not accepted. */
-static inline struct tapirvm_verdict open_file(const char *path, struct tapirvm_handle *kernel) {
+/* Judges the text of a file by a seed and keeps it. The program ends where it is not accepted. */
+static inline struct tapirvm_verdict open_seeded(const char *path, uint64_t seed, struct tapirvm_handle *kernel) {
     static uint8_t text[1 << 20];
     struct tapirvm_verdict verdict = {0};
     FILE *file = fopen(path, "rb");
@@ -34,13 +34,15 @@ static inline struct tapirvm_verdict open_file(const char *path, struct tapirvm_
     }
     size_t length = fread(text, 1, sizeof text, file);
     fclose(file);
-    tapirvm_open(text, length, 1, 2, UINT64_C(1000000000), &verdict, kernel);
+    tapirvm_open(text, length, seed, 2, UINT64_C(1000000000), &verdict, kernel);
     if (verdict.status != TAPIRVM_DONE) {
         printf("%s: status %" PRIu32 " rule %" PRIu16 " line %" PRIu32 "\n", path, verdict.status, verdict.rule, verdict.line);
         exit(2);
     }
     return verdict;
 }
+
+static inline struct tapirvm_verdict open_file(const char *path, struct tapirvm_handle *kernel) { return open_seeded(path, 1, kernel); }
 
 static inline int64_t *new_cells(size_t count) {
     int64_t *cells = calloc(count + 1, sizeof *cells);

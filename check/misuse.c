@@ -8,7 +8,9 @@
 
 enum { MOST_HANDS = 12 };
 
-static struct tapirvm_handle other_module = TAPIRVM_NOTHING;
+/* a module without arguments, whose text is another one, or the same with another seed */
+static struct tapirvm_handle others[2] = {TAPIRVM_NOTHING, TAPIRVM_NOTHING};
+static const char *other_path;
 static uint64_t state = UINT64_C(88172645463325252);
 static long runs, calls, ended, foreign, wrong;
 static int64_t *other_cells;
@@ -116,7 +118,8 @@ static void run(struct host_case *it, long most, int64_t *cells) {
     if (play.outcome.status == TAPIRVM_DONE) {
         struct tapirvm_outcome none;
         tapirvm_board_open(&it->kernel, 0, &play.stop, it->arguments, it->argument_count, it->begin, it->cell_count, play.workers, &none, &play.other);
-        tapirvm_board_open(&other_module, 0, &play.stop, cells, 0, other_cells, other_count, 1, &none, &play.foreign);
+        bool is_same_text = strcmp(it->path, other_path) == 0;
+        tapirvm_board_open(&others[is_same_text], 0, &play.stop, cells, 0, other_cells, other_count, 1, &none, &play.foreign);
         tapirvm_worker_open(&play.other, 0, &play.stranger);
         if (tapirvm_worker_open(&play.foreign, 0, &play.foreigner) != TAPIRVM_DONE) is_wrong(it, "a foreigner", none.status);
         for (size_t k = 0; k < play.hand_count; k++) tapirvm_worker_open(&play.board, (uint8_t)(k % (play.workers + 1)), &play.hands[k]);
@@ -136,14 +139,16 @@ static void run(struct host_case *it, long most, int64_t *cells) {
 
 int main(int count, char **words) {
     if (count != 4) return 2;
-    other_count = (size_t)open_file(words[1], &other_module).cells;
+    other_path = words[1];
+    other_count = (size_t)open_file(other_path, &others[0]).cells;
+    open_seeded(other_path, 7, &others[1]);
     other_cells = new_cells(other_count);
     for (struct host_case it; next_case(stdin, &it); end_case(&it)) {
         int64_t *cells = new_cells(it.cell_count);
         for (long k = strtol(words[2], NULL, 10); k > 0; k--) run(&it, strtol(words[3], NULL, 10), cells);
         free(cells);
     }
-    tapirvm_close(&other_module);
+    for (int k = 0; k < 2; k++) tapirvm_close(&others[k]);
     free(other_cells);
     printf("%ld runs of %ld calls in a drawn order, %ld ended by them, %ld calls of strangers, %ld differences\n", runs, calls, ended, foreign, wrong);
     return wrong != 0 || runs == 0;
