@@ -333,7 +333,14 @@ class Kernel:
             call(None)
             return False
         word = Word()
-        return watched(lambda: call(word), word, stop, timeout)
+
+        def whole() -> None:
+            try:
+                call(word)
+            finally:
+                word.close()
+
+        return watched(whole, word, stop, timeout)
 
     def _outcome(self, answer: Answer, cells: Any, is_late: bool = False) -> Outcome:
         if answer.status != DONE:

@@ -38,9 +38,15 @@ class Word:
         with self._lock:
             return bool(library.tapirvm_stop_is_set(ctypes.byref(self._own)))
 
+    def close(self) -> None:
+        """Where no run looks at it any more. (What a signal raises in `__del__` would be lost.)"""
+        with self._lock:
+            library.tapirvm_stop_close(ctypes.byref(self.handle))
+            library.tapirvm_stop_close(ctypes.byref(self._own))
+
     def __del__(self) -> None:
-        for handle in (self.handle, self._own) if library is not None else ():
-            library.tapirvm_stop_close(ctypes.byref(handle))
+        if library is not None and self._own.live:
+            self.close()
 
 
 @contextmanager
