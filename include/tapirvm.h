@@ -125,7 +125,8 @@ void tapirvm_open(const uint8_t *text, size_t length, uint64_t seed_low, uint64_
                   struct tapirvm_handle *handle);
 
 /* Runs the serial elision of the module that is kept. TAPIRVM_DONE, _OTHER_CELLS, _CLOSED, _OUT_OF_FUEL, _BAD_ARGUMENTS, _OUT_OF_MEMORY or _STOPPED:
- * the stop is looked at before the first instruction, and again behind each 262,144 at the latest. */
+ * the stop is looked at before the first instruction, and again behind each 262,144 at the latest. Where it is not TAPIRVM_DONE nothing is kept of the
+ * run: one that is to go on, once the stop is cleared or there is more fuel, is that of a board, also with one worker alone. */
 void tapirvm_run(struct tapirvm_handle *handle, uint64_t fuel, struct tapirvm_stop *stop, const int64_t *arguments, size_t argument_count,
                  int64_t *cells, size_t cell_count, struct tapirvm_outcome *outcome);
 
