@@ -53,7 +53,8 @@ static void run_rows(struct tapirvm_handle *kernel, const struct job *job, size_
     for (size_t k = 0; k < row_count * job->arguments; k++)
         arguments[k] = job->least + (int64_t)(drawn(&state) % (uint64_t)(job->most - job->least + 1));
     for (size_t k = 0; k < row_count * cells; k++) row[k] = (int64_t)(k * 7 % 16);
-    tapirvm_rows(kernel, MOST_INSTRUCTIONS, job->arguments, arguments, row_count * job->arguments, cells, row, row_count * cells, outcomes, row_count);
+    struct tapirvm_stop nobody = TAPIRVM_NOTHING;
+    tapirvm_rows(kernel, MOST_INSTRUCTIONS, &nobody, job->arguments, arguments, row_count * job->arguments, cells, row, row_count * cells, outcomes, row_count);
     for (size_t k = 0; k < row_count; k++) {
         if (outcomes[k].status == TAPIRVM_DONE) {
             totals.done++;
@@ -107,7 +108,7 @@ static double seconds(void) {
 
 int main(int count, char **words) {
     FILE *list = count == 4 ? fopen(words[1], "r") : NULL;
-    if (list == NULL || getentropy(seed, sizeof seed) != 0 || tapirvm_abi() != TAPIRVM_VERSION) return 2;
+    if (list == NULL || getentropy(seed, sizeof seed) != 0 || tapirvm_abi() != TAPIRVM_MAJOR) return 2;
     struct job *job = jobs;
     while (job_count < MOST_JOBS && fscanf(list, "%511s %zu %" SCNd64 " %" SCNd64, job->path, &job->arguments, &job->least, &job->most) == 4)
         job = &jobs[++job_count];

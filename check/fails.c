@@ -52,6 +52,7 @@ static uint8_t text[1 << 16];
 static size_t length, argument_count, cell_count;
 static int64_t arguments[8], cells[MOST_CELLS], before[MOST_CELLS];
 static struct tapirvm_handle kept = TAPIRVM_NOTHING;
+static struct tapirvm_stop stop = TAPIRVM_NOTHING;
 
 static uint32_t try_verify(void) {
     struct tapirvm_verdict verdict = {0};
@@ -84,13 +85,13 @@ static uint32_t try_serial(void) {
 
 static uint32_t try_run(void) {
     struct tapirvm_outcome outcome = {0};
-    tapirvm_run(&kept, TAPIRVM_UNBOUNDED, arguments, argument_count, cells, cell_count, &outcome);
+    tapirvm_run(&kept, TAPIRVM_UNBOUNDED, &stop, arguments, argument_count, cells, cell_count, &outcome);
     return outcome.status;
 }
 
 static uint32_t try_rows(void) {
     struct tapirvm_outcome outcome = {0};
-    tapirvm_rows(&kept, TAPIRVM_UNBOUNDED, argument_count, arguments, argument_count, cell_count, cells, cell_count, &outcome, 1);
+    tapirvm_rows(&kept, TAPIRVM_UNBOUNDED, &stop, argument_count, arguments, argument_count, cell_count, cells, cell_count, &outcome, 1);
     return outcome.status;
 }
 
@@ -101,13 +102,23 @@ static uint32_t try_replay(void) {
     return outcome.status == TAPIRVM_NOT_ENDED ? TAPIRVM_DONE : outcome.status;
 }
 
-/* Three workers that one thread lets in, turn by turn. A run whose answer got no memory is asked for it once more. */
+static uint32_t try_stop(void) {
+    struct tapirvm_stop one = TAPIRVM_NOTHING, other = TAPIRVM_NOTHING;
+    uint32_t status = tapirvm_stop_open(&one);
+    if (status == TAPIRVM_DONE) status = tapirvm_stop_share(&one, &other);
+    tapirvm_stop_close(&one);
+    tapirvm_stop_close(&other);
+    return status;
+}
+
+/* three workers that one thread lets in, turn by turn; and the schedule before the answer */
 static uint32_t try_board(void) {
+    static uint8_t schedule[1 << 16];
     struct tapirvm_board board = TAPIRVM_NOTHING;
     struct tapirvm_worker workers[3] = {TAPIRVM_NOTHING, TAPIRVM_NOTHING, TAPIRVM_NOTHING};
     struct tapirvm_outcome outcome = {0};
-    size_t offered;
-    tapirvm_board_open(&kept, arguments, argument_count, cells, cell_count, 3, &outcome, &board);
+    size_t offered, needed;
+    tapirvm_board_open(&kept, TAPIRVM_UNBOUNDED, &stop, arguments, argument_count, cells, cell_count, 3, &outcome, &board);
     uint32_t status = outcome.status;
     for (size_t k = 0; k < 3 && status == TAPIRVM_DONE; k++) status = tapirvm_worker_open(&board, (uint8_t)k, &workers[k]);
     for (size_t k = 0; status == TAPIRVM_DONE; k = (k + 1) % 3) {
@@ -115,10 +126,10 @@ static uint32_t try_board(void) {
         if (met == TAPIRVM_DONE) break;
         status = met == TAPIRVM_WORK ? tapirvm_turn(&workers[k]) : met == TAPIRVM_IDLE ? TAPIRVM_DONE : met;
     }
+    if (status == TAPIRVM_DONE) status = tapirvm_board_schedule(&board, schedule, sizeof schedule, &needed);
     if (status == TAPIRVM_DONE) {
         tapirvm_board_finish(&board, cells, cell_count, &outcome);
-        if (outcome.status == TAPIRVM_NOT_ENDED) tapirvm_board_finish(&board, cells, cell_count, &outcome);
-        status = outcome.status == TAPIRVM_NOT_ENDED ? TAPIRVM_OUT_OF_MEMORY : outcome.status;
+        status = outcome.status;
     }
     for (size_t k = 0; k < 3; k++) tapirvm_worker_close(&workers[k]);
     tapirvm_board_close(&board);
@@ -142,8 +153,8 @@ static uint32_t try_rule(void) {
 static const struct {
     const char *name;
     uint32_t (*ask)(void);
-} calls[] = {{"verify", try_verify}, {"open", try_open},     {"share", try_share},   {"serial", try_serial},   {"run", try_run},
-             {"rows", try_rows},     {"board", try_board},   {"replay", try_replay}, {"explain", try_explain}, {"rule", try_rule}};
+} calls[] = {{"verify", try_verify}, {"open", try_open},     {"share", try_share}, {"serial", try_serial},   {"run", try_run},   {"rows", try_rows},
+             {"stop", try_stop},     {"board", try_board},   {"replay", try_replay}, {"explain", try_explain}, {"rule", try_rule}};
 
 /* how many requests are refused in turn until none is left to refuse; counts what is wrong */
 static long sweep(const char *name, uint32_t (*ask)(void), int *wrong) {

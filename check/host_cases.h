@@ -23,8 +23,8 @@ struct host_case {
     struct tapirvm_outcome serial;
 };
 
-/* Judges the text of a file and keeps it. The program ends where it is not accepted. */
-static inline struct tapirvm_verdict open_file(const char *path, struct tapirvm_handle *kernel) {
+/* Judges the text of a file by a seed and keeps it. The program ends where it is not accepted. */
+static inline struct tapirvm_verdict open_seeded(const char *path, uint64_t seed, struct tapirvm_handle *kernel) {
     static uint8_t text[1 << 20];
     struct tapirvm_verdict verdict = {0};
     FILE *file = fopen(path, "rb");
@@ -34,13 +34,15 @@ static inline struct tapirvm_verdict open_file(const char *path, struct tapirvm_
     }
     size_t length = fread(text, 1, sizeof text, file);
     fclose(file);
-    tapirvm_open(text, length, 1, 2, UINT64_C(1000000000), &verdict, kernel);
+    tapirvm_open(text, length, seed, 2, UINT64_C(1000000000), &verdict, kernel);
     if (verdict.status != TAPIRVM_DONE) {
         printf("%s: status %" PRIu32 " rule %" PRIu16 " line %" PRIu32 "\n", path, verdict.status, verdict.rule, verdict.line);
         exit(2);
     }
     return verdict;
 }
+
+static inline struct tapirvm_verdict open_file(const char *path, struct tapirvm_handle *kernel) { return open_seeded(path, 1, kernel); }
 
 static inline int64_t *new_cells(size_t count) {
     int64_t *cells = calloc(count + 1, sizeof *cells);
@@ -50,6 +52,7 @@ static inline int64_t *new_cells(size_t count) {
 
 /* The next case, run serially. */
 static inline bool next_case(FILE *list, struct host_case *it) {
+    struct tapirvm_stop nobody = TAPIRVM_NOTHING;
     size_t given = 0;
     memset(it, 0, sizeof *it);
     if (fscanf(list, "%511s %zu", it->path, &it->argument_count) != 2 || it->argument_count > MOST_ARGUMENTS) return false;
@@ -62,7 +65,7 @@ static inline bool next_case(FILE *list, struct host_case *it) {
     for (size_t k = 0; k < given; k++)
         if (fscanf(list, "%" SCNd64, &it->begin[k]) != 1) exit(2);
     memcpy(it->cells, it->begin, it->cell_count * sizeof *it->cells);
-    tapirvm_run(&it->kernel, TAPIRVM_UNBOUNDED, it->arguments, it->argument_count, it->cells, it->cell_count, &it->serial);
+    tapirvm_run(&it->kernel, TAPIRVM_UNBOUNDED, &nobody, it->arguments, it->argument_count, it->cells, it->cell_count, &it->serial);
     return true;
 }
 

@@ -36,6 +36,59 @@ ret i64 %sum
 }
 """
 
+# A parent and a child with a loop each, of so many rounds as @main's argument says: for as long as anybody waits.
+SPINNING = """define i64 @spin(i64 %n) {
+;! requires %n >= 0
+;! requires %n <= 100000000000
+;! budget 0 400000000004
+entry:
+;! left 0 4*%n+4
+br label %head
+head:
+;! keeps %i >= 0
+;! keeps %i <= %n
+;! keeps %n <= 100000000000
+;! left 0 4*%n-4*%i+3
+%i = phi i64 [ 0, %entry ], [ %k, %next ]
+%c = icmp slt i64 %i, %n
+br i1 %c, label %next, label %done
+next:
+;! keeps %i >= 0
+;! keeps %i+1 <= %n
+;! keeps %n <= 100000000000
+;! left 0 4*%n-4*%i+1
+%k = add nsw i64 %i, 1
+br label %head
+done:
+;! left 0 1
+ret i64 %n
+}
+define i64 @main(i64 %n) {
+;! requires %n >= 0
+;! requires %n <= 100000000000
+;! budget 0 800000000015
+entry:
+;! left 0 800000000015
+%s = call token @llvm.syncregion.start()
+detach within %s, label %child, label %rest
+child:
+;! keeps %n >= 0
+;! keeps %n <= 100000000000
+;! left 0 400000000006
+%x = call i64 @spin(i64 %n)
+reattach within %s, label %rest
+rest:
+;! keeps %n >= 0
+;! keeps %n <= 100000000000
+;! left 0 400000000007
+%y = call i64 @spin(i64 %n)
+sync within %s, label %join
+join:
+;! left 0 1
+ret i64 %y
+}
+"""
+
 
 def seconds(tapirvm, text, wanted):
     """The least of seven runs. The program has to print a line that begins with `wanted`."""

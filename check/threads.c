@@ -24,10 +24,11 @@ struct worker {
 
 static void *work(void *given) {
     struct worker *worker = given;
+    struct tapirvm_stop nobody = TAPIRVM_NOTHING;
     int64_t *cells = malloc((cell_count + 1) * sizeof *cells);
     for (long run = 0; run < runs; run++) {
         memset(cells, 0, cell_count * sizeof *cells);
-        tapirvm_run(&worker->handle, TAPIRVM_UNBOUNDED, arguments, argument_count, cells, cell_count, &worker->outcome);
+        tapirvm_run(&worker->handle, TAPIRVM_UNBOUNDED, &nobody, arguments, argument_count, cells, cell_count, &worker->outcome);
     }
     free(cells);
     tapirvm_close(&worker->handle);

@@ -9,12 +9,13 @@ from crates import TOP, kit
 HEADERS = [TOP / "include/tapirvm.h", TOP / "bindings/c/tapirvm_threads.h"]
 THREADS = TOP / "bindings/c/tapirvm_threads.c"
 COMPILE = [os.environ.get("CC", "cc"), "-std=c11", "-D_GNU_SOURCE", "-O2", "-pthread", "-I", str(TOP / "include"), "-I", str(TOP / "bindings/c")]
-NAMES = "TAPIRVM_{version} {{ global: tapirvm_*; local: *; }};\n"
+NAMES = "TAPIRVM_{major} {{ global: tapirvm_*; local: *; }};\n"
 
 
 def version():
-    """The number that the header gives its calls."""
-    return re.search(r"^#define TAPIRVM_VERSION (\d+)$", HEADERS[0].read_text(), re.M).group(1)
+    """The major and the minor number that the header gives its calls."""
+    text = HEADERS[0].read_text()
+    return tuple(int(re.search(rf"^#define TAPIRVM_{part} (\d+)$", text, re.M).group(1)) for part in ("MAJOR", "MINOR"))
 
 
 def archive(library, to):
@@ -29,13 +30,15 @@ def archive(library, to):
 
 
 def shared(library, folder):
-    """The shared library of a static one, with its link for the linker."""
-    number = version()
-    name, link = f"libtapirvm.so.{number}", folder / "libtapirvm.so"
+    """The shared library of a static one: the file of its version, the name that programs ask the loader for, and the one that the linker looks for."""
+    major, minor = version()
+    name = f"libtapirvm.so.{major}"
     with tempfile.NamedTemporaryFile("w", suffix=".map") as names:
-        names.write(NAMES.format(version=number))
+        names.write(NAMES.format(major=major))
         names.flush()
         words = [COMPILE[0], "-shared", "-pthread", f"-Wl,-soname,{name}", f"-Wl,--version-script={names.name}", "-Wl,-z,defs"]
-        subprocess.run([*words, "-Wl,--whole-archive", library, "-Wl,--no-whole-archive", "-o", folder / name], check=True)
-    link.unlink(missing_ok=True)
-    link.symlink_to(name)
+        subprocess.run([*words, "-Wl,--whole-archive", library, "-Wl,--no-whole-archive", "-o", folder / f"{name}.{minor}"], check=True)
+    for link, to in [(name, f"{name}.{minor}"), ("libtapirvm.so", name)]:
+        (folder / link).unlink(missing_ok=True)
+        (folder / link).symlink_to(to)
+    return folder / name
