@@ -1,14 +1,16 @@
-//! Runs that are recorded: a replay of their events comes to their answer.
+//! Runs that are recorded: a replay of their events comes to their answer, and each worker's figures are what its events and its gate tell.
 
 use crate::threads::endings::{Ending, is_so};
 use cases::{Report, verified_file};
-use deque_pool::{Figures, OpenGate, Recorded, run_recorded};
+use deque_pool::{Figures, Gate, Go, OpenGate, Recorded, run_recorded};
+use lists::OutOfMemory;
 use shared_run::{Event, Memory, Verified, replay};
 use std::alloc::Global;
 use std::hash::RandomState;
 use std::io;
 use std::rt::Files;
 use std::sync::Wait;
+use std::sync::atomic::{AtomicU64, Ordering};
 use std::thread::Threads;
 use std::time::Clock;
 
@@ -97,6 +99,107 @@ fn is_recorded<R: Threads + Wait + Clock + Sync>(
         && have_reasons(figures.as_slice())
 }
 
+/// Counts how often each worker passes it.
+#[derive(Drop)]
+struct Tally {
+    passes: Vec<AtomicU64>,
+}
+
+impl Gate for Tally {
+    fn pass(&self, worker: u8, _strand: u64) -> Go {
+        if let Some(passes) = self.passes.get(worker as usize) {
+            let _before = passes.fetch_add(1, Ordering::SeqCst);
+        }
+        Go::On
+    }
+}
+
+impl Tally {
+    fn new(alloc: Global, workers: usize) -> Result<Tally, OutOfMemory> {
+        let mut passes = Vec::new(alloc);
+        for _worker in 0..workers {
+            passes.push(AtomicU64::new(0))?;
+        }
+        Ok(Tally { passes })
+    }
+
+    /// How often the worker passed it.
+    fn of(&self, worker: u8) -> u64 {
+        match self.passes.get(worker as usize) {
+            Some(passes) => passes.load(Ordering::SeqCst),
+            None => 0,
+        }
+    }
+}
+
+/// The worker's steps among the events, and its steals.
+fn moves_of(events: &[Event], worker: u8) -> (u64, u64) {
+    let mut steps: u64 = 0;
+    let mut steals: u64 = 0;
+    for event in events {
+        match event {
+            Event::Step(by) if *by == worker => steps = steps.saturating_add(1),
+            Event::Steal(by, _) if *by == worker => steals = steals.saturating_add(1),
+            _ => {}
+        }
+    }
+    (steps, steals)
+}
+
+/// Whether the figures of the worker are what events and gate tell: its instructions are steps, its tasks but the first were stolen, and each of its strands
+/// was after its gate.
+fn fit(figures: &Figures, worker: u8, events: &[Event], tally: &Tally) -> bool {
+    let (steps, steals) = moves_of(events, worker);
+    figures.instructions == steps
+        && figures.steals == steals
+        && figures.strands == tally.of(worker)
+        && figures.publications <= figures.instructions
+        && figures.strangers <= figures.strands
+}
+
+/// Whether each worker's figures are so.
+fn all_fit(figures: &[Figures], events: &[Event], tally: &Tally) -> bool {
+    let mut worker: u8 = 0;
+    for own in figures {
+        if !fit(own, worker, events, tally) {
+            return false;
+        }
+        worker = worker.saturating_add(1);
+    }
+    true
+}
+
+/// Whether the figures of a recorded run of so many workers are so.
+fn has_figures<R: Threads + Wait + Clock + Sync>(
+    rt: &R,
+    alloc: Global,
+    verified: &Verified,
+    arguments: &[i64],
+    workers: usize,
+) -> bool {
+    let Ok(memory) = Memory::zeroed(alloc, verified) else {
+        return false;
+    };
+    let Ok(tally) = Tally::new(alloc, workers) else {
+        return false;
+    };
+    let run = run_recorded(rt, alloc, verified, arguments, memory, workers, &tally);
+    let Ok(
+        Recorded {
+            history,
+            figures,
+            ..
+        },
+    ) = run
+    else {
+        return false;
+    };
+    let Ok(events) = history.events(alloc) else {
+        return false;
+    };
+    figures.len() == workers && all_fit(figures.as_slice(), events.as_slice(), &tally)
+}
+
 /// Answers the cases of runs that are recorded.
 pub fn answer<R: AllocGlobal + Files + Threads + Wait + Clock + Sync>(
     rt: &R,
@@ -108,6 +211,8 @@ pub fn answer<R: AllocGlobal + Files + Threads + Wait + Clock + Sync>(
     for workers in [1usize, 2, 4] {
         let is_recorded = is_recorded(rt, rt.alloc(), &verified, &[64], workers, (64, 518, 2));
         report.holds("a recorded run is replayed to its answer", is_recorded);
+        let has_figures = has_figures(rt, rt.alloc(), &verified, &[64], workers);
+        report.holds("its figures are those of its history", has_figures);
     }
     Ok(())
 }
