@@ -153,8 +153,27 @@ fn fit(figures: &Figures, worker: u8, events: &[Event], tally: &Tally) -> bool {
     figures.instructions == steps
         && figures.steals == steals
         && figures.strands == tally.of(worker)
-        && figures.publications <= figures.instructions
-        && figures.strangers <= figures.strands
+}
+
+/// How the strands of a worker that is alone end: `main` returns, which the board does; a page too many is needed; or they have done what a strand may do.
+#[derive(Drop)]
+struct Ends {
+    full_logs: u64,
+    limits: u64,
+}
+
+/// Whether a worker that is alone did its strands so. It takes no task, looks for none, gives none away, and does no strand for nothing.
+fn is_alone(own: &Figures, ends: &Ends) -> bool {
+    let strands = ends.full_logs.saturating_add(ends.limits).saturating_add(1);
+    own.strands == strands
+        && own.publications == strands
+        && own.at_borders == 1
+        && own.at_full_logs == ends.full_logs
+        && own.at_limits == ends.limits
+        && own.for_others == 0
+        && own.steals == 0
+        && own.searches == 0
+        && own.strangers == 0
 }
 
 /// Whether each worker's figures are so.
@@ -169,13 +188,14 @@ fn all_fit(figures: &[Figures], events: &[Event], tally: &Tally) -> bool {
     true
 }
 
-/// Whether the figures of a recorded run of so many workers are so.
+/// Whether the figures of a recorded run of so many workers are so; where there is one its strands end as is said.
 fn has_figures<R: Threads + Wait + Clock + Sync>(
     rt: &R,
     alloc: Global,
     verified: &Verified,
     arguments: &[i64],
     workers: usize,
+    ends: &Ends,
 ) -> bool {
     let Ok(memory) = Memory::zeroed(alloc, verified) else {
         return false;
@@ -197,7 +217,37 @@ fn has_figures<R: Threads + Wait + Clock + Sync>(
     let Ok(events) = history.events(alloc) else {
         return false;
     };
-    figures.len() == workers && all_fit(figures.as_slice(), events.as_slice(), &tally)
+    let is_so = match figures.first() {
+        Some(own) if workers == 1 => is_alone(own, ends),
+        _ => have_reasons(figures.as_slice()),
+    };
+    is_so && figures.len() == workers && all_fit(figures.as_slice(), events.as_slice(), &tally)
+}
+
+/// Whether one worker alone ends its strands as is said, in a module that fills their pages and in a loop that goes past their limit.
+fn answer_ends<R: AllocGlobal + Files + Threads + Wait + Clock + Sync>(
+    rt: &R,
+    state: RandomState,
+    report: &mut Report,
+) -> io::Result<()> {
+    let alloc = rt.alloc();
+    let pages = verified_file(rt, state, "modules/pages.ll")?;
+    // It stores into 513 pages, and a strand has 512.
+    let ends = Ends {
+        full_logs: 1,
+        limits: 0,
+    };
+    let is_full = has_figures(rt, alloc, &pages, &[], 1, &ends);
+    report.holds("a strand ends before a page too many", is_full);
+    let long = verified_file(rt, state, "modules/long-loop.ll")?;
+    // 200,005 instructions are three strands of 65,536 and one of 3,397.
+    let ends = Ends {
+        full_logs: 0,
+        limits: 3,
+    };
+    let is_long = has_figures(rt, alloc, &long, &[50_000], 1, &ends);
+    report.holds("and at its most instructions", is_long);
+    Ok(())
 }
 
 /// Answers the cases of runs that are recorded.
@@ -211,8 +261,12 @@ pub fn answer<R: AllocGlobal + Files + Threads + Wait + Clock + Sync>(
     for workers in [1usize, 2, 4] {
         let is_recorded = is_recorded(rt, rt.alloc(), &verified, &[64], workers, (64, 518, 2));
         report.holds("a recorded run is replayed to its answer", is_recorded);
-        let has_figures = has_figures(rt, rt.alloc(), &verified, &[64], workers);
+        let ends = Ends {
+            full_logs: 0,
+            limits: 0,
+        };
+        let has_figures = has_figures(rt, rt.alloc(), &verified, &[64], workers, &ends);
         report.holds("its figures are those of its history", has_figures);
     }
-    Ok(())
+    answer_ends(rt, state, report)
 }

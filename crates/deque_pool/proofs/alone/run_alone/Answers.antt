@@ -1,4 +1,4 @@
-use Rattle.std.proofs.Common.{◌≡◌, ◌≤◌, ◌<◌, ◌+◌, ◌*◌, ◌∙◌, ℕ, arith, subst, sym}
+use Rattle.std.proofs.Common.{◌∙◌, arith, subst, sym}
 use Rattle.shared_run.proofs.schedule_core.Grounds.{made_cells}
 use Rattle.deque_pool.specs.declared.gate.Go.{Go}
 use Rattle.deque_pool.specs.declared.gate.Go.TheVariants.{On}
