@@ -150,9 +150,7 @@ fn moves_of(events: &[Event], worker: u8) -> (u64, u64) {
 /// was after its gate.
 fn fit(figures: &Figures, worker: u8, events: &[Event], tally: &Tally) -> bool {
     let (steps, steals) = moves_of(events, worker);
-    figures.instructions == steps
-        && figures.steals == steals
-        && figures.strands == tally.of(worker)
+    figures.instructions == steps && figures.steals == steals && figures.strands == tally.of(worker)
 }
 
 /// How the strands of a worker that is alone end: `main` returns, which the board does; a page too many is needed; or they have done what a strand may do.
