@@ -5,6 +5,7 @@ mod endings;
 mod records;
 mod runs;
 mod seats;
+mod stops;
 mod tickets;
 
 use cases::{Report, no_memory};

@@ -1,3 +1,4 @@
+pub mod Gates
 pub mod Leaving
 pub mod lone
 -- for the crates above

@@ -1,9 +1,10 @@
 //! The run of one worker alone: there is nobody to share with.
-ghost use Rattle.std.specs.Prelude.{◌≡◌, ℕ, None, IfErr, IfOk, OnOk};
+ghost use Rattle.std.specs.Prelude.{◌≡◌, ℕ, Err, None, IfErr, IfOk, OnOk};
 ghost use Rattle.shared_run.specs.store.Requirements.{unmet_in};
 ghost use Rattle.shared_run.specs.store.Made.{IsMadeFor};
 ghost use Rattle.shared_run.specs.Answer.{IsSerialAnswer};
 ghost use Rattle.shared_run.specs.Story.{origin};
+ghost use Rattle.deque_pool.specs.Gates.{WasAsked, WasStopped};
 ghost use Rattle.deque_pool.specs.lone.UnderWay.{IsRefusal};
 
 use crate::gate::{Gate, Go};
@@ -31,6 +32,8 @@ pub(crate) fn run_alone<G: Gate, R: Wait>(
     ensures answer { IfOk result (λ done. IsSerialAnswer (origin verified.now arguments.now memory 1) done) }
     ensures met { OnOk result (unmet_in verified.now arguments.now ≡ None) }
     ensures refused { IfErr result (IsRefusal verified.now arguments.now memory) }
+    ensures asked { IfOk result (λ done. WasAsked (G.says gate.now) done.instructions) }
+    ensures stopped { result ≡ Err RunFault.Stopped → WasStopped (G.says gate.now) }
 {
     if !gate.watches() {
         return run_unwatched(alloc, verified, arguments, memory);
@@ -38,8 +41,9 @@ pub(crate) fn run_alone<G: Gate, R: Wait>(
     let mut run = LoneRun::begin(alloc, verified, arguments, memory)?;
     let mut strand: u64 = 0;
     for _ in rt.forever() {
-        if gate.pass(0, strand) == Go::Stop {
-            return Err(RunFault::Stopped);
+        match gate.pass(0, strand) {
+            Go::On => {}
+            Go::Stop => return Err(RunFault::Stopped),
         }
         strand = strand.saturating_add(1);
         match run.strand() {

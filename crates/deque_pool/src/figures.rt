@@ -9,7 +9,7 @@ pub struct Figures {
     pub strands: u64,
     /// The tasks that it took: its own again by their tickets, those of others, and those that it found at the board.
     pub steals: u64,
-    /// The times that it looked for a task.
+    /// The times that it looked again for a task, where it had found none.
     pub searches: u64,
     /// The strands that were done for nothing: others had meanwhile changed what they rest on.
     pub strangers: u64,

@@ -1,9 +1,10 @@
 //! Runs on threads of their own.
-ghost use Rattle.std.specs.Prelude.{IfOk};
+ghost use Rattle.std.specs.Prelude.{◌≡◌, Err, IfOk};
 ghost use Rattle.shared_run.specs.schedule_core.Admission.{IsAdmitted};
 ghost use Rattle.shared_run.specs.store.Made.{IsMadeFor};
 ghost use Rattle.shared_run.specs.Answer.{IsSerialAnswer, LeadTo};
 ghost use Rattle.shared_run.specs.Story.{origin};
+ghost use Rattle.deque_pool.specs.Gates.{WasAsked, WasStopped};
 
 use crate::alone::run_alone;
 use crate::gate::Gate;
@@ -37,6 +38,8 @@ pub fn run<G: Gate + Sync, R: Threads + Wait + Clock + Sync>(
     requires made { IsMadeFor verified.now memory }
     ensures answer { IfOk result (λ done. IsSerialAnswer (origin verified.now arguments.now memory workers) done) }
     ensures admitted { IsAdmitted verified.now arguments.now memory workers result }
+    ensures asked { workers ≡ 1 → IfOk result (λ done. WasAsked (G.says gate.now) done.instructions) }
+    ensures stopped { workers ≡ 1 → result ≡ Err RunFault.Stopped → WasStopped (G.says gate.now) }
 {
     if workers == 1 {
         return run_alone(rt, alloc, verified, arguments, memory, gate);

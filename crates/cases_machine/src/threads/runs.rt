@@ -1,6 +1,7 @@
 //! Runs on threads: two workers inside at once, gates before strands, and a gate that stops a run.
 
 use crate::threads::endings::{Ending, TURNS, is_so};
+use crate::threads::stops;
 use cases::{Report, verified_file};
 use deque_pool::{Gate, Go, run};
 use shared_run::{Memory, RunFault, Verified};
@@ -14,7 +15,7 @@ use std::time::Clock;
 use std::{io, thread};
 
 /// Whether a run of the module on so many workers under a gate comes to the answer, or is stopped, where none is wanted.
-fn comes_to<G: Gate + Sync, R: Threads + Wait + Clock + Sync>(
+pub fn comes_to<G: Gate + Sync, R: Threads + Wait + Clock + Sync>(
     rt: &R,
     alloc: Global,
     verified: &Verified,
@@ -34,15 +35,16 @@ fn comes_to<G: Gate + Sync, R: Threads + Wait + Clock + Sync>(
     }
 }
 
-/// Says that one is there, and waits until the other is.
-fn meet(one: &AtomicBool, other: &AtomicBool) {
+/// Says that one is there, and waits until the other is; whether it came.
+fn meet(one: &AtomicBool, other: &AtomicBool) -> bool {
     one.store(true, Ordering::SeqCst);
     for _turn in 0..TURNS {
         if other.load(Ordering::SeqCst) {
-            return;
+            return true;
         }
         thread::yield_now();
     }
+    false
 }
 
 /// Holds worker 0 before its strand 1, and worker 1 before its strand 0, until the other is held there too.
@@ -50,28 +52,35 @@ fn meet(one: &AtomicBool, other: &AtomicBool) {
 struct Meeting {
     first: AtomicBool,
     second: AtomicBool,
+    /// One of them waited in vain, as one thread does that does the strands of both in turn.
+    missed: AtomicBool,
 }
 
 impl Gate for Meeting {
     fn pass(&self, worker: u8, strand: u64) -> Go {
-        match (worker, strand) {
+        let met = match (worker, strand) {
             (0, 1) => meet(&self.first, &self.second),
             (1, 0) => meet(&self.second, &self.first),
-            _ => {}
+            _ => true,
+        };
+        if !met {
+            self.missed.store(true, Ordering::SeqCst);
         }
         Go::On
     }
 }
 
-/// Whether two workers of `pair.ll` wait for each other in their gates, and both come.
+/// Whether two workers of `pair.ll` wait for each other in their gates, and both come while the other waits.
 fn is_met<R: Threads + Wait + Clock + Sync>(rt: &R, alloc: Global, pair: &Verified) -> bool {
     let meeting = Meeting {
         first: AtomicBool::new(false),
         second: AtomicBool::new(false),
+        missed: AtomicBool::new(false),
     };
     comes_to(rt, alloc, pair, &[7], 2, &meeting, Some((14, 14, 2)))
         && meeting.first.load(Ordering::SeqCst)
         && meeting.second.load(Ordering::SeqCst)
+        && !meeting.missed.load(Ordering::SeqCst)
 }
 
 /// Counts how often it is passed before the strands 0 and 1 of worker 0, and before any other.
@@ -254,5 +263,6 @@ pub fn answer<R: AllocGlobal + Files + Threads + Wait + Clock + Sync>(
     let long = verified_file(rt, state, "modules/long-loop.ll")?;
     answer_limit(rt, rt.alloc(), &long, report);
     answer_stop(rt, rt.alloc(), &long, report);
+    stops::answer(rt, rt.alloc(), &long, report);
     Ok(())
 }

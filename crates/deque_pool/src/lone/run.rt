@@ -1,4 +1,4 @@
-ghost use Rattle.std.specs.Prelude.{◌≡◌, ◌≢◌, ◌<◌, Err, IfErr, IfNone, IfOk, IfSome, None};
+ghost use Rattle.std.specs.Prelude.{◌≡◌, ◌≢◌, ◌+◌, ◌<◌, ◌≤◌, Err, IfErr, IfNone, IfOk, IfSome, None};
 ghost use Rattle.store.specs.Requirements.{unmet_in};
 ghost use Rattle.store.specs.Made.{HasGlobalCells, IsMadeFor};
 ghost use Rattle.store.specs.verifier.Accepted.{IsAccepted};
@@ -71,7 +71,8 @@ impl<'v> LoneRun<'v> {
         requires taken { unmet_in program.now arguments.now ≡ None }
         requires made { IsMadeFor program.now memory }
         requires cells { HasGlobalCells program.now memory }
-        ensures { IfOk result (IsRunOf program.now arguments.now memory) }
+        ensures begins { IfOk result (IsRunOf program.now arguments.now memory) }
+        ensures none { IfOk result (λ run. run.done ≡ 0) }
     {
         let places = Places::of_program(alloc, program)?;
         let row = memory.row()?;
@@ -103,6 +104,7 @@ impl<'v> LoneRun<'v> {
         requires made { IsMadeFor verified.now memory }
         requires cells { HasGlobalCells verified.now memory }
         ensures begins { IfOk result (IsRunOf verified.now arguments.now memory) }
+        ensures none { IfOk result (λ run. run.done ≡ 0) }
         ensures refused { IfErr result (IsRefusal verified.now arguments.now memory) }
         ensures not_stopped { result ≢ Err RunFault.Stopped }
     {
@@ -140,6 +142,8 @@ impl<'v> LoneRun<'v> {
         ensures ends { IfOk result (λ end. IfSome end (EndsWithinBudget self.old.program.now self.old.arguments.now self.old.memory)) }
         ensures goes { IfOk result (λ end. IfNone end (IsRunOf self.old.program.now self.old.arguments.now self.old.memory self.new)) }
         ensures gets_on { IfOk result (λ end. IfNone end (GetsOn self.old self.new)) }
+        ensures few { IfOk result (λ end. IfNone end (self.new.done ≤ self.old.done + 65537)) }
+        ensures last { IfOk result (λ end. IfSome end (λ finished. finished.instructions ≤ self.old.done + 65537)) }
     {
         let program = self.program;
         let cells = self.stack.cells.cells.len();

@@ -16,8 +16,8 @@ begin-requires-clause-entry c =
     let globals : places.globals ≡ starts_from 0 (sizes_of c.args.memory) = c.in_ok-places.ensures.globals ∙ ap (λ (xs : List ℕ). starts_from 0 xs) (sym c.requires.made) in
     (fits c.args.program.now c.requires.accepted c.args.arguments.now c.args.memory c.requires.taken c.requires.cells places globals c.in_ok-places.ensures.allocas c.in_ok-places.ensures.codes c.most_moves.result c.most_moves.ensures).entries c.args.program.now.main.0
 
-pub returns : goal.returns
-returns c =
+pub returns-clause-begins : goal.returns-clause-begins
+returns-clause-begins c =
     let program = c.args.program.now in
     let arguments = c.args.arguments.now in
     let m = c.args.memory in
