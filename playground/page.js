@@ -58,6 +58,7 @@ const program = {
 const editor = {
   field: byId("text"),
   marks: new Map(),
+  shown: "",
 
   get text() {
     return this.field.value;
@@ -109,9 +110,13 @@ const editor = {
     this.marks = new Map([...this.marks].map(([line, kind]) => [line >= from ? line + 1 : line, kind]));
   },
 
+  // The numbers of long texts are made anew only where they change.
   show() {
-    const count = this.lines().length, numbers = byId("numbers"), marks = byId("marks");
-    numbers.replaceChildren(...Array.from({ length: count }, (_, k) => element("div", String(k + 1), { className: this.marks.get(k + 1) ?? "" })));
+    const count = this.lines().length, numbers = byId("numbers"), marks = byId("marks"), now = JSON.stringify([count, ...this.marks]);
+    if (now !== this.shown) {
+      numbers.replaceChildren(...Array.from({ length: count }, (_, k) => element("div", String(k + 1), { className: this.marks.get(k + 1) ?? "" })));
+      this.shown = now;
+    }
     marks.replaceChildren(...[...this.marks].map(([line, kind]) => {
       const made = element("div", "", { className: kind });
       made.dataset.line = line;
@@ -152,6 +157,7 @@ async function busy(what, work) {
   isBusy = true;
   const begun = performance.now(), pressed = document.activeElement;
   const show = () => {
+    if (byId("busy").hidden) say(`${what}.`);
     byId("busy").hidden = false;
     byId("elapsed").textContent = `${what}: ${((performance.now() - begun) / 1000).toFixed(1)} s`;
   };
@@ -461,7 +467,8 @@ async function checkTask() {
   for (const goal of lesson.goals) met.push(await isMet(goal));
   met.forEach((it, k) => {
     items[k].className = it ? "met" : "unmet";
-    items[k].setAttribute("aria-label", `${items[k].textContent}: ${it ? "so it is" : "not yet"}`);
+    items[k].querySelector(".unseen")?.remove();
+    items[k].append(element("span", it ? ": so it is" : ": not yet", { className: "unseen" }));
   });
   if (!met.every(Boolean)) return say(`Not yet: ${lesson.goals.filter((_, k) => !met[k]).map((it) => it.says).join("; ")}.`, "refused");
   kept.add(lesson.name);
