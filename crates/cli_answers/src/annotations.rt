@@ -1,5 +1,9 @@
 //! Modules with annotations put in that follow from others, or taken out that are not needed.
 
+ghost use Rattle.std.specs.Prelude.{IfOk, Option, ℕ};
+ghost use Rattle.cli_answers.specs.Undecided.{IsSpentWithin};
+ghost use Rattle.verifier.specs.Accepted.{IsUnverified};
+
 use crate::refusals::print_unverified;
 use annotate::{NewLines, annotated, pruned};
 use cli_words::{Beside, Request, Status, print_refused};
@@ -96,9 +100,13 @@ pub fn in_own_lines(
     more: &[u8],
     unverified: Unverified,
     beside: &mut Beside,
-) -> Result<Unverified, AllocError> {
-    let Unverified::Refused(Refused::Fault { number, line }) = unverified else {
-        return Ok(unverified);
+) -> Result<Unverified, AllocError>
+    ensures spent { (effort : Option ℕ) → IsUnverified more.now effort unverified → IfOk result (IsSpentWithin effort) }
+{
+    let (number, line) = match unverified {
+        Unverified::Refused(Refused::Fault { number, line }) => (number, line),
+        Unverified::Refused(Refused::Memory) => return Ok(Unverified::Refused(Refused::Memory)),
+        Unverified::OutOfEffort { granted } => return Ok(Unverified::OutOfEffort { granted }),
     };
     let new = lines_put_in(alloc, text, more)?;
     if new.has(line) {

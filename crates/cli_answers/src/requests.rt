@@ -1,20 +1,31 @@
 //! What is answered before a module is judged.
 
+ghost use Rattle.std.specs.Prelude.{◌≡◌};
+ghost use Rattle.cli_answers.specs.Granted.{granted_by};
+
 use crate::json::answer_json;
 use crate::reasons::print_rule;
 use crate::shown::answer_text;
-use cli_words::{Beside, Question, Request, Status, Verb, completions, manual, print_unreadable};
+use cli_words::{
+    Beside, Grant, Question, Request, Status, Verb, completions, manual, print_unreadable,
+};
 use std::alloc::Global;
 use std::io;
 use std::io::Write;
 use verifier::Effort;
 
 /// The steps of search for a verdict that are granted where a command line names none: a second or two.
-const PLAIN_EFFORT: u64 = 1_000_000_000;
+const USUAL_EFFORT: u64 = 1_000_000_000;
 
 /// The effort that a request grants.
-pub fn effort_of(request: &Request) -> Effort {
-    Effort::of(request.effort.unwrap_or(PLAIN_EFFORT))
+pub fn effort_of(request: &Request) -> Effort
+    ensures { result ≡ granted_by request.now.effort }
+{
+    match request.effort {
+        Grant::Usual => Effort::of(USUAL_EFFORT),
+        Grant::Steps(steps) => Effort::of(steps),
+        Grant::Unbounded => Effort::unlimited(),
+    }
 }
 
 /// Prints what is made of the program's own words; none where the request is for a module.

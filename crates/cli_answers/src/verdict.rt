@@ -1,5 +1,10 @@
 //! The verdict on a module that a request names.
 
+ghost use Rattle.std.specs.Prelude.{IfErr, IfOk, Option, ℕ};
+ghost use Rattle.cli_answers.specs.Granted.{granted_by};
+ghost use Rattle.cli_answers.specs.Undecided.{IsSpentWithin};
+ghost use Rattle.verifier.specs.Accepted.{IsProgramOf};
+
 use crate::annotations::{in_own_lines, judged_text};
 use crate::requests::effort_of;
 use cli_words::{Beside, Request};
@@ -23,7 +28,10 @@ pub fn verdict_on(
     request: &Request,
     text: &[u8],
     beside: &mut Beside,
-) -> Result<Verdict, AllocError> {
+) -> Result<Verdict, AllocError>
+    ensures accepted { IfOk result (λ v. IfOk v.answer (IsProgramOf v.text.items)) }
+    ensures spent { IfOk result (λ v. IfErr v.answer (IsSpentWithin (granted_by request.now.effort))) }
+{
     let more = match judged_text(alloc, state, request, text, &effort_of(request)) {
         Ok(more) => more,
         Err(refused) => return Ok(refused_at_once(alloc, refused)),
@@ -36,7 +44,9 @@ pub fn verdict_on(
 }
 
 /// The verdict on a text that cannot be read.
-fn refused_at_once(alloc: Global, refused: Refused) -> Verdict {
+fn refused_at_once(alloc: Global, refused: Refused) -> Verdict
+    ensures spent { (effort : Option ℕ) → IfErr result.answer (IsSpentWithin effort) }
+{
     Verdict {
         text: Vec::new(alloc),
         answer: Err(Unverified::Refused(refused)),

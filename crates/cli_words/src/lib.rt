@@ -28,8 +28,8 @@ pub use names::is_name;
 pub use parsing::words;
 pub use question::Question;
 pub use request::{
-    Annotating, CellWord, DataWord, DataWords, Dialogue, Request, RowWord, Setting, Shell, Telling,
-    Verb, WordsFault,
+    Annotating, CellWord, DataWord, DataWords, Dialogue, Grant, Request, RowWord, Setting, Shell,
+    Telling, Verb, WordsFault,
 };
 pub use shells::completions;
 pub use word::{bytes_of, is_raw, text_of};

@@ -4,8 +4,8 @@ ghost use Rattle.std.specs.Prelude.{◌≡◌};
 
 use crate::names::is_name;
 use crate::request::{
-    Annotating, CellWord, DataWord, DataWords, Dialogue, Request, RowWord, Setting, Shell, Telling,
-    Verb, WordsFault,
+    Annotating, CellWord, DataWord, DataWords, Dialogue, Grant, Request, RowWord, Setting, Shell,
+    Telling, Verb, WordsFault,
 };
 use clap::ArgMatches;
 use refusal::rule_text;
@@ -159,6 +159,17 @@ impl<'m, 'a> Options<'m, 'a> {
         number
     }
 
+    /// Reads `N` or `unbounded`.
+    fn effort(&mut self) -> Grant {
+        if let Some("unbounded") = self.matches.get_str("effort") {
+            return Grant::Unbounded;
+        }
+        match self.number("effort", "--effort <N|unbounded>") {
+            Some(steps) => Grant::Steps(steps),
+            None => Grant::Usual,
+        }
+    }
+
     /// Reads `N,N..`, where runs are to be timed.
     fn speedup(&mut self) -> Vec<usize> {
         let mut numbers = Vec::new(self.alloc);
@@ -303,7 +314,7 @@ impl<'m, 'a> Options<'m, 'a> {
             show: self.list("show", "--show <@a:I>"),
             data: self.data(),
             is_timed: self.flag("time"),
-            effort: self.number("effort", "--effort <N>"),
+            effort: self.effort(),
             telling: self.telling(has_events),
             speedup: self.speedup(),
             schedule: self.text("schedule"),

@@ -115,6 +115,17 @@ pub struct Annotating {
     pub writes: bool,
 }
 
+/// How much searching a verdict may take.
+#[derive(Clone, Copy)]
+pub enum Grant {
+    /// What is granted where a command line names nothing.
+    Usual,
+    /// So many steps.
+    Steps(u64),
+    /// As much as it takes.
+    Unbounded,
+}
+
 /// The words of a command line, read.
 pub struct Request {
     pub verb: Verb,
@@ -141,8 +152,8 @@ pub struct Request {
     /// The name, without `@`, of the function whose costs to print, for the verb that takes one.
     pub table: Option<String>,
     pub annotating: Annotating,
-    /// How many steps of search a verdict may take, where a number is named; of the verbs that ask for one.
-    pub effort: Option<u64>,
+    /// How much searching a verdict may take, for the verbs that ask for one.
+    pub effort: Grant,
     /// The number of the rule to print in place of a module, for the verb that takes one.
     pub rule: Option<u16>,
     /// The shell whose words to complete, for the verb that takes one.

@@ -47,6 +47,10 @@ _tapirvm() {
     out.push_str(
         "        esac
     fi
+    if [ \"${COMP_WORDS[COMP_CWORD - 1]}\" = --effort ]; then
+        COMPREPLY=($(compgen -W unbounded -- \"$word\"))
+        return
+    fi
     case $COMP_CWORD:${COMP_WORDS[1]}:$word in
         1:* | *:-*) COMPREPLY=($(compgen -W \"$words\" -- \"$word\")) ;;
         2:completions:*) COMPREPLY=($(compgen -W \"bash zsh fish\" -- \"$word\")) ;;
@@ -70,6 +74,7 @@ fn push_zsh_words(out: &mut TextBuffer) {
 fn zsh_action(part: &Part) -> &'static str {
     match part.value {
         "OUT" | "FILE" | "SCHEDULE" => "_files",
+        "N|unbounded" => "(unbounded)",
         "SHELL" => "(bash zsh fish)",
         _ => " ",
     }
@@ -182,7 +187,8 @@ fn push_fish(out: &mut TextBuffer) {
         push_fish_command(out, verb);
     }
     out.push_str(
-        "complete -c tapirvm -n '__fish_seen_subcommand_from completions' -f -a 'bash zsh fish'\n",
+        "complete -c tapirvm -n '__fish_seen_subcommand_from completions' -f -a 'bash zsh fish'
+complete -c tapirvm -l effort -a unbounded\n",
     );
 }
 

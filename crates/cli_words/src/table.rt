@@ -133,9 +133,9 @@ const TABLE: Part = Part {
 
 const EFFORT: Part = Part {
     name: "effort",
-    value: "N",
+    value: "N|unbounded",
     given: Given::Option,
-    help: "gives up after N steps of search, in place of 1000000000",
+    help: "gives up after N steps of search, in place of 1000000000, or never",
 };
 
 const ARG: Part = Part {

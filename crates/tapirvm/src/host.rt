@@ -4,7 +4,7 @@ use crate::clocks::microseconds_since;
 use crate::data::{read_load, write_dumps};
 use crate::requests::act;
 use crate::times::tell_times;
-use cli_answers::{
+use cli_requests::{
     Beside, Question, Request, Status, WordsFault, read_file, text_of, words, write_file,
 };
 use std::env::FillError;
@@ -172,7 +172,7 @@ fn answer<R: AllocGlobal + Clock + Eprint + Input + Print + RandomSource + Sync 
     };
     let mut output = BufWriter::new(alloc, io::writer(rt))?;
     let mut input = rt.reader();
-    let status = act(rt, &question, &mut input, &mut output, beside);
+    let status = act(rt, question, &mut input, &mut output, beside);
     Ok(finish(rt, status, output))
 }
 

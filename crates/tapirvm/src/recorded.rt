@@ -1,9 +1,9 @@
 //! Runs on threads of which more is told than the answer.
 
 use crate::clocks::microseconds_since;
-use cli_answers::{Beside, Status};
-use cli_runs::{
-    Course, Crew, Effort, Event, Job, Machine, prepared, print_run, print_unprepared, tell_course,
+use cli_requests::{
+    Beside, Course, Crew, Effort, Event, Job, Machine, Status, prepared, print_run,
+    print_unprepared, tell_course,
 };
 use deque_pool::{Entry, Figures, OpenGate, Recorded, run_recorded};
 use lists::{ListBuffer, OutOfMemory};

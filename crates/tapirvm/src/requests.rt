@@ -1,14 +1,12 @@
 //! From a question to its answer.
 
-use crate::answers::answer_verified;
 use crate::clocks::microseconds_since;
 use crate::recorded::run_told;
 use crate::speedup::run_speedup;
-use cli_answers::{
-    Beside, Question, Request, Status, Verb, answer_unjudged, answer_unverified, fail,
-    print_unreadable, verdict_on,
+use cli_requests::{
+    Beside, Job, Judgement, Question, Request, Status, Verb, answer_verified, fail, is_told,
+    judged, prepared, print_run, print_unprepared,
 };
-use cli_runs::{Job, is_told, prepared, print_run, print_unprepared};
 use deque_pool::OpenGate;
 use std::io;
 use std::io::{Read, Write};
@@ -83,47 +81,25 @@ fn run_timed<T: Threads + Wait + Clock + Sync, R: Read, W: Write>(
 /// Answers a question by the status, and notes what verifying and running took.
 fn answer<T: Threads + Wait + Clock + Sync, R: Read, W: Write>(
     rt: &T,
-    question: &Question<'_>,
+    question: Question<'_>,
     input: &mut R,
     output: &mut W,
     beside: &mut Beside,
 ) -> io::Result<Status> {
-    if let Some(status) = answer_unjudged(question, output, beside)? {
-        return Ok(status);
-    }
-    let Question {
-        alloc,
-        state,
-        request,
-        module,
-        schedule,
-    } = *question;
-    let Some(text) = module else {
-        return print_unreadable(alloc, request.file.as_str(), output);
-    };
     let begun = Instant::now(rt)?;
-    let verdict = verdict_on(alloc, state, request, text, beside)?;
-    beside.times.verifying = microseconds_since(rt, begun)?;
-    match &verdict.answer {
-        Ok(verified) => {
-            let job = Job {
-                alloc,
-                state,
-                request,
-                text: verdict.text.as_slice(),
-                verified,
-                schedule,
-            };
-            run_timed(rt, &job, input, output, beside)
+    match judged(question, output, beside)? {
+        Judgement::Answered(status) => Ok(status),
+        Judgement::Accepted(accepted) => {
+            beside.times.verifying = microseconds_since(rt, begun)?;
+            run_timed(rt, &accepted.job(question), input, output, beside)
         }
-        Err(unverified) => answer_unverified(question, unverified, output, beside),
     }
 }
 
 /// Does what is asked and answers the status. What is told beside the output is added to `beside`.
 pub fn act<T: Threads + Wait + Clock + Sync, R: Read, W: Write>(
     rt: &T,
-    question: &Question<'_>,
+    question: Question<'_>,
     input: &mut R,
     output: &mut W,
     beside: &mut Beside,

@@ -1,6 +1,6 @@
 //! What a request took.
 
-use cli_answers::Times;
+use cli_requests::Times;
 use std::fmt;
 
 /// Microseconds, as seconds.

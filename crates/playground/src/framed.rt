@@ -1,0 +1,38 @@
+//! An answer as bytes: a line of decimal numbers, which are the status and the size of each part, and then the parts. They are what is printed, what stands on
+//! standard error, and of each file that is to be written its name and what it holds.
+
+use cli_requests::Beside;
+use lists::TextBuffer;
+use std::alloc::{AllocError, Global};
+
+/// The line of numbers.
+fn head(alloc: Global, status: u8, printed: &[u8], beside: &Beside) -> Result<String, AllocError> {
+    let mut line = TextBuffer::new(alloc);
+    let output = printed.len();
+    let notes = beside.notes.len();
+    write!(line, "{status} {output} {notes}");
+    for file in &beside.files {
+        let name = file.word.len();
+        let text = file.text.len();
+        write!(line, " {name} {text}");
+    }
+    line.push_str("\n");
+    line.finish()
+}
+
+/// An answer with these parts, and those that stand beside what is printed.
+pub fn framed(
+    alloc: Global,
+    status: u8,
+    printed: &[u8],
+    beside: &Beside,
+) -> Result<Vec<u8>, AllocError> {
+    let mut bytes = head(alloc, status, printed, beside)?.into_bytes();
+    bytes.extend_from_slice(printed)?;
+    bytes.extend_from_slice(beside.notes.as_bytes())?;
+    for file in &beside.files {
+        bytes.extend_from_slice(file.word.as_bytes())?;
+        bytes.extend_from_slice(file.text.as_bytes())?;
+    }
+    Ok(bytes)
+}
