@@ -1,8 +1,6 @@
 """Cuts children out. In: functions in which SPAWN is a branch on `__tapir_detach()`, SYNC a call, and a claim a branch
 to a call of its marker. Out: the same with `detach`, `reattach`, `sync`, the starts of regions, and `claim`
 instructions. Each task syncs its region before it ends."""
-from __future__ import annotations
-
 import re
 from typing import Optional
 

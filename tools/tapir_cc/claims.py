@@ -1,8 +1,6 @@
 """The author's claims. In: functions with `claim` instructions and calls of `__tapir_reads` and the like. Out: the
 functions without them; what they say stands in the functions' fields, in the notes of blocks, and in `shows` lines
 before instructions."""
-from __future__ import annotations
-
 from .children import tasks_of
 from .forms import Form
 from .ir import BINARY, CONVERSIONS, Block, Fault, Function, Instruction, Zone

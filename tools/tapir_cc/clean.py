@@ -1,8 +1,6 @@
 """Cleans a function: what is not reached or not used goes, straight lines become one block, returns and branches on
 chosen conditions go to where they come from. In and out: a function whose meaning stays. (opt's own passes would also
 turn loops around, and choose values by `select`.)"""
-from __future__ import annotations
-
 import re
 
 from .ir import BINARY, CONVERSIONS, REGISTER, Block, Function, Instruction, order_of

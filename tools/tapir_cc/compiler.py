@@ -1,7 +1,5 @@
 """Runs clang and opt. In: a file of C and the words for clang. Out: LLVM's text after clang -O0 and after the passes
 that lift locals into registers; locals that a SPAWN changes and others read stay memory."""
-from __future__ import annotations
-
 import os
 import re
 import shutil

@@ -1,8 +1,6 @@
 """Has `tapirvm verify --annotate` judge what was printed, and mends what is refused. In: the functions. Out: the file,
 and the last verdict. A mend takes back what was only tried (a rewrite, a hint), or takes a zone as the whole array.
 None changes what the module does."""
-from __future__ import annotations
-
 import pathlib
 import re
 import subprocess

@@ -1,8 +1,6 @@
 """Reads the text that clang and opt print (LLVM 14 to 19). In: the text, with debug information. Out: a `Module` of
 globals and functions, each instruction with its place in the C. What our language does not have is a `Fault` at its
 line."""
-from __future__ import annotations
-
 import re
 from typing import NamedTuple
 
@@ -126,6 +124,19 @@ def read_instruction(text: str, place: Place) -> Instruction:
     elif op == "br" and values:
         x.op = "cbr"
     return x
+
+
+def made_of(f: Function, text: str, place: Place) -> list[Instruction]:
+    """Instructions divided by `;`, each behind the `shows` lines that it rests on. `%.half` is a fresh register."""
+    own = {name: f.fresh(name[2:]) for name in dict.fromkeys(re.findall(r"%\.\w+", text))}
+    made, tried = [], []
+    for line in re.sub(r"%\.\w+", lambda m: own[m[0]], text).split("; "):
+        if line.startswith("shows "):
+            tried.append(line)
+        else:
+            made.append(read_instruction(line, place))
+            made[-1].tried, tried = tried, []
+    return made
 
 
 class Reader:

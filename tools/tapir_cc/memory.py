@@ -1,8 +1,6 @@
 """Memory as our language has it. In: functions with addresses of several indices, and arrays of int64_t or int. Out:
 each load, store, addition and call names an object and a cell; the cells of each object are known; whole arrays are
 cleared by `zero`."""
-from __future__ import annotations
-
 from .forms import Value
 from .ir import Fault, Function, Graph, Instruction, cells, scalar
 from .llvm_text import Module

@@ -1,13 +1,12 @@
 """Numbers and conditions as our language has them. In: functions over i64, i32, i8 and i1. Out: all is i64. `int` is
 computed in 64 bits, which is the same where C leaves overflow undefined; results of unsigned 32 bits are cut. A bit is
 a number, 0 or 1, but for the compare of a block that branches on it."""
-from __future__ import annotations
-
 from typing import Union
 
 from .clean import drop_unused
 from .forms import Value
 from .ir import Block, Fault, Function, Instruction
+from .llvm_text import made_of
 
 LOW = 0xFFFFFFFF
 UNSIGNED = {"lshr", "udiv", "urem"}
@@ -54,17 +53,17 @@ class Widths:
         body.append(self.f.make("zext", value, place=x.place, hint="bit", source="i1"))
         return body[-1].result
 
-    def new(self, op: str, args: list[Value], x: Instruction, type: str = "i64", source: str = "") -> str:
-        self.body.append(self.f.make(op, *args, place=x.place, hint="w", type=type, source=source))
+    def made(self, x: Instruction, text: str) -> str:
+        self.body += made_of(self.f, text, x.place)
         return self.body[-1].result
 
     def cut(self, value: Value, x: Instruction) -> str:
         """The lower 32 bits, as a signed number."""
-        return self.new("sext", [self.new("trunc", [value], x, "i32", "i64")], x, "i64", "i32")
+        return self.made(x, f"%.w = trunc i64 {value} to i32; %.cut = sext i32 %.w to i64")
 
     def low(self, value: Value, x: Instruction) -> Value:
         """The lower 32 bits, as an unsigned number."""
-        return self.new("and", [value, LOW], x) if isinstance(value, str) else value & LOW
+        return self.made(x, f"%.low = and i64 {value}, {LOW}") if isinstance(value, str) else value & LOW
 
     def widen(self, x: Instruction) -> None:
         """Puts an instruction over i64 into the body, or names the value that it is."""
@@ -97,7 +96,7 @@ class Widths:
             x.type = "i64"
             self.body.append(x)
         elif x.op == "sext" and x.source == "i1":
-            self.same[x.result] = self.new("sub", [0, value], x)
+            self.same[x.result] = self.made(x, f"%.bit = sub i64 0, {value}")
         elif way == ("trunc", "i64", "i32"):
             self.same[x.result] = self.cut(value, x)
         elif x.op == "zext" and x.source == "i32":

@@ -1,8 +1,6 @@
 """Parts that become functions of their own. PARALLEL_FOR_HALVES: in: a function with a loop of detaches behind which
 `__tapir_halves()` is called; out: the function with a call in place of the loop, and one that halves a range, gives the
 left half to a child, and runs the loop's body over what is left at depth 0."""
-from __future__ import annotations
-
 import re
 from dataclasses import replace
 from typing import Optional

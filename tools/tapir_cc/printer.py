@@ -1,9 +1,7 @@
 """Prints a module. In: globals and functions with all that was found. Out: its lines, each with the place in the C and
 what it stands for, by which refusals are mended and told."""
-from __future__ import annotations
-
 import re
-from dataclasses import dataclass, field
+from typing import NamedTuple
 
 from .forms import Value
 from .ir import BINARY, CONVERSIONS, REGISTER, Block, Fault, Function, Instruction, Place, Zone, cells, order_of
@@ -31,8 +29,7 @@ FORMATS = {
 }
 
 
-@dataclass
-class Line:
+class Line(NamedTuple):
     """A line of the module. `kind` says what `of` is: instruction, shows, tried or step (before an instruction), hint
     (a line of a block), block, function, zone, foot."""
 
@@ -44,15 +41,14 @@ class Line:
     note: str = ""
 
 
-@dataclass
-class Printed:
-    lines: list[Line] = field(default_factory=list)
+class Printed(list):
+    """The lines, which are numbered from 1 on."""
 
     def text(self) -> str:
-        return "".join(line.text + "\n" for line in self.lines)
+        return "".join(line.text + "\n" for line in self)
 
     def line(self, number: int) -> Line:
-        return self.lines[number - 1] if 0 < number <= len(self.lines) else Line("")
+        return self[number - 1] if 0 < number <= len(self) else Line("")
 
 
 def print_module(module: Module, functions: list[Function]) -> Printed:

@@ -1,8 +1,6 @@
 """Bounds of registers. In: a function, with what REQUIRES and INVARIANT say of it. Out: for a register or a form its
 least and its greatest value, as forms over parameters. A guess may be wrong: whatever rests on it is judged by the
 verifier."""
-from __future__ import annotations
-
 from typing import Iterable, Optional
 
 from .forms import Form

@@ -1,8 +1,6 @@
 """Tells faults as clang does. In: a fault of the translation, or a verdict with what `explain` says of it. Out:
 `kernel.c:12:9: error: ..` with what to change, the source line and a caret, and what is known there, in the names of
 the C."""
-from __future__ import annotations
-
 import functools
 import pathlib
 import re

@@ -1,15 +1,12 @@
 """Rewrites that give facts. In and out: a function whose meaning stays. Where a rewrite means the same only if
 something holds, it is tried under a `shows` line for that, and has forms to fall back to: the judge takes the next
 where the line is refused."""
-from __future__ import annotations
-
 import itertools
-import re
 
 from .children import tasks_of
 from .clean import clean
-from .ir import BINARY, CONVERSIONS, REGISTER, Function, Graph, Instruction
-from .llvm_text import read_instruction
+from .ir import BINARY, CONVERSIONS, Function, Graph, Instruction
+from .llvm_text import made_of
 from .ranges import Ranges
 
 FACTLESS = {"shl", "lshr", "ashr", "sdiv", "srem", "udiv", "urem", "and", "or", "xor"}
@@ -25,15 +22,7 @@ def offer(f: Function, x: Instruction, *forms: str) -> None:
         block.body.remove(x)
         f.substitute({x.result: int(form)})
         return
-    own = {name: f.fresh(name[2:]) for name in dict.fromkeys(re.findall(r"%\.\w+", form))}
-    at, tried = block.body.index(x), []
-    made: list[Instruction] = []
-    for line in re.sub(r"%\.\w+", lambda m: own[m[0]], form).split("; "):
-        if line.startswith("shows "):
-            tried.append(line)
-            continue
-        made.append(read_instruction(line, x.place))
-        made[-1].tried, tried = tried, []
+    made, at = made_of(f, form, x.place), block.body.index(x)
     made[0].shows = x.shows
     block.body[at : at + 1] = made
     for y in made:

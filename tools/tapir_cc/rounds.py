@@ -2,8 +2,6 @@
 taken. Out: the same function with more tests, which always come out one way, and with guesses of what its loops keep.
 Each rests on `shows` lines and has a form to fall back to. (This costs instructions, so it is done only to what is
 refused without it.)"""
-from __future__ import annotations
-
 from typing import Optional
 
 from .forms import Form

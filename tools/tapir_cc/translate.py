@@ -1,8 +1,6 @@
 """From LLVM's text to functions of our language. In: the text, and the function where the run begins. Out: the module,
 and the functions that it needs, callees first (`is_thorough`: with all tests that may help); claims are taken, zones
 and hints are not there yet."""
-from __future__ import annotations
-
 from .children import drop_calls, make_children, make_syncs, take_claims
 from .claims import Claims, take_contract
 from .clean import clean

@@ -1,8 +1,6 @@
 """Zones and feet. In: a function whose claims are taken, and its callees with their zones. Out: `zones` (the cells that
 it may touch, over its parameters), `feet` (those of each child, over what is known at its detach) and a measure of its
 recursion. Where no bounds are found, a zone is the whole array."""
-from __future__ import annotations
-
 from typing import Iterable, Optional
 
 from .forms import Form
