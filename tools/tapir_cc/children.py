@@ -1,64 +1,62 @@
-"""Cuts children out. In: functions in which SPAWN is a branch on `__tapir_detach()`, SYNC a call, and a claim a branch to a call of its marker.
-Out: the same with `detach`, `reattach`, `sync`, the starts of regions, and `claim` instructions. Each task syncs its region before it ends."""
-from __future__ import annotations
+"""Cuts children out. In: functions in which SPAWN is a branch on `__tapir_detach()`, SYNC a call, and a claim a branch
+to a call of its marker. Out: the same with `detach`, `reattach`, `sync`, the starts of regions, and `claim`
+instructions. Each task syncs its region before it ends."""
 import re
 from typing import Optional
-from .ir import Block, Fault, Function, Graph, Instruction
 
-MARKERS = {f"@__tapir_{kind}": kind for kind in ("requires", "ensures", "keeps", "invariant")}
+from .ir import NEGATED, Block, Fault, Function, Graph, Instruction
+from .numbers import condition_of
+
+MARKER = re.compile(r"@__tapir_(requires|ensures|keeps|invariant)$")
 NO_CALLS = re.compile(r"@llvm\.(lifetime|dbg|assume|experimental\.noalias)|@__tapir_keep$")
 
 
 def drop_calls(f: Function) -> None:
     """Calls that only tell LLVM something go; what only renames a value is that value."""
-    by = {}
+    renamed = {x.result: x.args[0] for x in f.instructions() if x.op in ("freeze", "bitcast")}
     for block in f.blocks.values():
         if block.end.op == "unreachable":
-            block.end = Instruction("ret", None, f.returns, [0] if f.returns != "void" else [], block.end.place)
-        by.update({x.result: x.args[0] for x in block.body if x.op in ("freeze", "bitcast")})
-        block.body = [x for x in block.body if x.op not in ("freeze", "bitcast") and not (x.op == "call" and NO_CALLS.match(x.callee))]
-    f.substitute(by)
+            values = [0] if f.returns != "void" else []
+            block.end = Instruction("ret", None, f.returns, values, block.end.place)
+        block.body = [x for x in block.body if x.result not in renamed and not NO_CALLS.match(x.callee)]
+    f.substitute(renamed)
 
 
 def take_claims(f: Function) -> None:
     """A branch to a block that calls a marker becomes a claim."""
+    definitions = f.definitions()
     for block in list(f.blocks.values()):
-        marker = next((x for x in block.body if x.op == "call" and x.callee in MARKERS), None)
-        if marker is None:
-            continue
-        for above in [f.blocks[p] for p in dict.fromkeys(f.predecessors()[block.name])]:
-            above.end = without_claim(above, block, marker)
-        for target in block.successors():
-            f.drop_edge(target, block.name)
-        del f.blocks[block.name]
-
-
-def without_claim(above: Block, block: Block, marker: Instruction) -> Instruction:
-    """The terminator of `above` when its way to the marker's block has become a claim."""
-    x = above.end
-    if x.op != "cbr":
-        raise Fault(marker.place, "a claim is compares joined by &&", "write one claim for each compare; || and calls are not taken")
-    if not isinstance(x.args[0], str):
-        target = x.targets[0] if x.args[0] else x.targets[1]
-        if target == block.name:
-            raise Fault(marker.place, "this claim never holds")
-        return Instruction("br", place=x.place, targets=[target])
-    at = x.targets.index(block.name)
-    above.body.append(Instruction("claim", None, None, [x.args[0]], x.place, kind=MARKERS[marker.callee], holds=at == 1))
-    return Instruction("br", place=x.place, targets=[x.targets[1 - at]])
+        marker = next((x for x in block.body if MARKER.match(x.callee)), None)
+        for name in dict.fromkeys(f.predecessors()[block.name]) if marker else []:
+            above = f.blocks[name]
+            end, at = above.end, above.end.targets.index(block.name)
+            if end.op != "cbr":
+                change = "write one claim for each compare; || and calls are not taken"
+                raise Fault(marker.place, "a claim is compares joined by &&", change)
+            compare, holds = condition_of(definitions, end.args[0], at == 1)
+            if compare == (not holds):
+                raise Fault(marker.place, "this claim never holds")
+            if isinstance(compare, Instruction):
+                predicate = compare.predicate if holds else NEGATED[compare.predicate]
+                kind = MARKER.match(marker.callee)[1]
+                claim = Instruction("claim", None, "void", compare.args[:], end.place, predicate=predicate, kind=kind)
+                above.body.append(claim)
+            above.end = Instruction("br", place=end.place, targets=[end.targets[1 - at]])
+        if marker:
+            for target in block.successors():
+                f.drop_edge(target, block.name)
+            del f.blocks[block.name]
 
 
 def find_detaches(f: Function) -> list[Block]:
     """Makes detaches of the branches on `__tapir_detach()`."""
     definitions, found = f.definitions(), []
-    for block in f.blocks.values():
-        compare = definitions.get(block.end.args[0], (None,))[0] if block.end.op == "cbr" else None
-        call = definitions.get(compare.args[0], (None,))[0] if compare is not None and compare.op == "icmp" else None
-        if call is None or call.callee != "@__tapir_detach":
-            continue
-        block.body = [x for x in block.body if x is not compare and x is not call]
-        block.end = Instruction("detach", place=call.place, targets=block.end.targets)
-        found.append(block)
+    for block in [b for b in f.blocks.values() if b.end.op == "cbr"]:
+        call = definitions.get(block.end.args[0], (None,))[0]
+        if call and call.callee == "@__tapir_detach":
+            block.body.remove(call)
+            block.end = Instruction("detach", place=call.place, targets=block.end.targets)
+            found.append(block)
     return found
 
 
@@ -77,18 +75,15 @@ def blocks_of_child(f: Function, detach: Block) -> set[str]:
 def shared_locals(f: Function) -> set[str]:
     """The locals that a child stores and others use."""
     shared = set()
-    own = {x.result for x in f.entry.body if x.op == "alloca" and isinstance(x.type, str)}
+    own = {name for name, x in f.locals().items() if not x.type.startswith("[")}
     for detach in find_detaches(f):
-        inside = blocks_of_child(f, detach)
-        used, stored = set(), set()
+        inside, used, stored = blocks_of_child(f, detach), set(), set()
         for block in f.blocks.values():
-            for x in block.body:
-                if x.op == "call" and x.callee.startswith("@llvm.lifetime"):
-                    continue
+            for x in [x for x in block.body if not x.callee.startswith("@llvm.lifetime")]:
                 if x.op == "store" and block.name in inside:
                     stored.add(x.args[1])
                 elif x.op != "store" and block.name not in inside:
-                    used |= {v for v in x.args if isinstance(v, str) and not v.startswith("%cleanup.dest")}
+                    used.update(x.args)
         shared |= own & used & stored
     return shared
 
@@ -96,122 +91,98 @@ def shared_locals(f: Function) -> set[str]:
 def make_children(f: Function) -> None:
     found = find_detaches(f)
     graph = Graph(f)
-    inside = {block.name: blocks_of_child(f, block) for block in found}
+    inside = {detach.name: blocks_of_child(f, detach) for detach in found}
     for detach in sorted(found, key=lambda block: len(inside[block.name])):
-        check_child(f, graph, detach, inside[detach.name])
-        end_child(f, detach, inside[detach.name])
-        first = f.blocks[detach.end.targets[0]]
-        f.substitute({phi.result: phi.incoming[0][0] for phi in first.phis})
-        first.phis = []
-        part_phis(f, detach)
+        blocks, continuation = inside[detach.name], f.blocks[detach.end.targets[1]]
+        check_child(f, graph, detach, blocks)
+        for block in [f.blocks[name] for name in sorted(blocks)]:
+            if continuation.name in block.successors():
+                if block.end.op != "br":
+                    block = f.block_between(block, continuation.name, block.name + ".end")
+                block.end = Instruction("reattach", place=block.end.place, targets=block.end.targets)
+                f.drop_edge(continuation.name, block.name)
+        if any(label != detach.name for phi in continuation.phis for _, label in phi.incoming):
+            raise Fault(detach.end.place, "goto leads behind a SPAWN", "write the SPAWN by itself")
+        f.substitute({phi.result: phi.incoming[0][0] for phi in continuation.phis})
+        continuation.phis = []
 
 
 def check_child(f: Function, graph: Graph, detach: Block, inside: set[str]) -> None:
     child, continuation = detach.end.targets
-    for name in [name for name in graph.order if name in inside and graph.dominates(child, name)]:
-        end = f.blocks[name].end
-        if end.op == "ret" or any(target != continuation and not graph.dominates(child, target) for target in end.targets):
-            raise Fault(end.place, "return, break, continue or goto leads out of a SPAWN", "set a variable in the SPAWN, and test it after SYNC")
+    for end in [f.blocks[name].end for name in graph.order if name in inside and graph.dominates(child, name)]:
+        out = [target for target in end.targets if target != continuation and not graph.dominates(child, target)]
+        if end.op == "ret" or out:
+            change = "set a variable in the SPAWN, and test it after SYNC"
+            raise Fault(end.place, "return, break, continue or goto leads out of a SPAWN", change)
     for phi in f.blocks[continuation].phis:
-        if {value for value, label in phi.incoming if label in inside} != {value for value, label in phi.incoming if label == detach.name}:
+        before = {value for value, label in phi.incoming if label == detach.name}
+        if {value for value, label in phi.incoming if label in inside} != before:
             variable = f.c_names.get(phi.result, phi.result[1:])
-            raise Fault(detach.end.place, f"the SPAWN changes {variable}, a local that is used after it", f"store into an array, or ADD(&{variable}, ..)")
-
-
-def end_child(f: Function, detach: Block, inside: set[str]) -> None:
-    """The child's ways to the continuation become reattaches."""
-    continuation = detach.end.targets[1]
-    for name in sorted(inside):
-        block = f.blocks[name]
-        if continuation not in block.successors():
-            continue
-        f.drop_edge(continuation, name)
-        end = Instruction("reattach", place=block.end.place, targets=[continuation], region=detach)
-        if block.end.op == "br":
-            block.end = end
-        else:
-            block.end.retarget(continuation, f.new_block(name + ".end", end=end).name)
-
-
-def part_phis(f: Function, detach: Block) -> None:
-    """A continuation has one predecessor: what has phis stands behind it."""
-    continuation = detach.end.targets[1]
-    block = f.blocks[continuation]
-    f.substitute({phi.result: phi.incoming[0][0] for phi in block.phis if len(phi.incoming) == 1})
-    block.phis = [phi for phi in block.phis if len(phi.incoming) > 1]
-    if not block.phis:
-        return
-    before = f.new_block(detach.name + ".cont", end=Instruction("br", place=detach.end.place, targets=[continuation]))
-    detach.end.targets[1] = before.name
-    f.rename_edge(continuation, detach.name, before.name)
-    for end in [b.end for b in f.blocks.values()]:
-        if end.op == "reattach" and end.region is detach:
-            end.targets = [before.name]
+            text = f"the SPAWN changes {variable}, a local that is used after it"
+            raise Fault(detach.end.place, text, f"store into an array, or ADD(&{variable}, ..)")
 
 
 def tasks_of(f: Function) -> dict[str, Optional[str]]:
     """Each block's task: the block whose detach begins it, or None for the function's own."""
     task: dict[str, Optional[str]] = {f.entry.name: None}
     for name in Graph(f).order:
-        end = f.blocks[name].end
-        for target in f.blocks[name].successors():
-            if end.op == "detach" and target == end.targets[0]:
-                task[target] = name
-            else:
-                task.setdefault(target, task[name])
+        block = f.blocks[name]
+        for target in block.successors():
+            is_child = block.end.op == "detach" and target == block.end.targets[0]
+            task.setdefault(target, name if is_child else task[name])
     return task
 
 
 def make_syncs(f: Function) -> None:
-    """Calls of `__tapir_sync` become syncs, each task gets its region, and a task that ends with open children syncs them first."""
-    work = list(f.blocks.values())
+    """Calls of `__tapir_sync` become syncs, each task gets its region, and a task that ends with open children syncs
+    them first."""
+    work, has_children = list(f.blocks.values()), bool(f.detaches())
     while work:
         block = work.pop()
-        at = next((k for k, x in enumerate(block.body) if x.op == "call" and x.callee == "@__tapir_sync"), None)
+        at = next((k for k, x in enumerate(block.body) if x.callee == "@__tapir_sync"), None)
         if at is not None:
-            rest = f.split(block, at + 1)
-            block.end = Instruction("sync", place=block.body.pop().place, targets=[rest.name])
-            work.append(rest)
-    if not f.detaches():
-        for block in f.blocks.values():
-            if block.end.op == "sync":
-                block.end = Instruction("br", place=block.end.place, targets=block.end.targets)
-        return
+            work.append(sync_at(f, block, at + 1))
+            place = block.body.pop().place
+            block.end = Instruction("sync" if has_children else "br", place=place, targets=block.end.targets)
     task = tasks_of(f)
-    for name in open_at(f, task):
-        block = f.blocks[name]
-        if block.end.op in ("ret", "reattach"):
-            rest = f.split(block, len(block.body))
-            block.end = Instruction("sync", place=rest.end.place, targets=[rest.name])
-            task[rest.name] = task[name]
+    for name in sorted(open_at(f, task), key=list(f.blocks).index):
+        if f.blocks[name].end.op in ("ret", "reattach"):
+            task[sync_at(f, f.blocks[name], len(f.blocks[name].body)).name] = task[name]
     start_regions(f, task)
 
 
-def open_at(f: Function, task: dict) -> list[str]:
+def sync_at(f: Function, block: Block, at: int) -> Block:
+    """Syncs before an instruction of a block; the block that begins with it is returned."""
+    rest = f.split(block, at)
+    block.end = Instruction("sync", place=rest.end.place, targets=[rest.name])
+    return rest
+
+
+def open_at(f: Function, task: dict) -> set[str]:
     """The blocks that may begin while a child of their task has not been waited for."""
     opened, work = set(), [f.blocks[name] for name in Graph(f).order]
     while work:
         block = work.pop()
         is_open = block.end.op != "sync" and (block.end.op == "detach" or block.name in opened)
         for target in block.successors() if is_open else []:
-            if task.get(target) == task.get(block.name) and target not in opened:
+            if task[target] == task[block.name] and target not in opened:
                 opened.add(target)
                 work.append(f.blocks[target])
-    return [name for name in f.blocks if name in opened]
+    return opened
 
 
 def start_regions(f: Function, task: dict) -> None:
+    """A task that has children begins with the start of its region."""
     regions: dict[Optional[str], str] = {}
-    for block in list(f.blocks.values()):
-        if block.end.op not in ("detach", "sync"):
-            continue
+    for block in [b for b in f.blocks.values() if b.end.op in ("detach", "sync", "reattach")]:
         of = task.get(block.name)
+        if block.end.op == "reattach":
+            of = task[of]
         if of not in regions:
             regions[of] = f.fresh("region")
-            home = f.entry if of is None else f.blocks[f.blocks[of].end.targets[0]]
-            at = next((k for k, x in enumerate(home.body) if x.op != "alloca"), len(home.body))
-            home.body.insert(at, Instruction("region", regions[of], "token", [], f.place))
+            start = Instruction("region", regions[of], "token", [], f.place)
+            if of is None:
+                f.at_entry(start)
+            else:
+                f.blocks[f.blocks[of].end.targets[0]].body.insert(0, start)
         block.end.region = regions[of]
-    for block in f.blocks.values():
-        if block.end.op == "reattach":
-            block.end.region = block.end.region.end.region

@@ -1,115 +1,108 @@
-"""The author's claims. In: functions with `claim` instructions and calls of `__tapir_reads` and the like. Out: the functions without them; what they say
-stands in the functions' fields, in the notes of blocks, and in `shows` lines before instructions."""
-from __future__ import annotations
+"""The author's claims. In: functions with `claim` instructions and calls of `__tapir_reads` and the like. Out: the
+functions without them; what they say stands in the functions' fields, in the notes of blocks, and in `shows` lines
+before instructions."""
 from .children import tasks_of
 from .forms import Form
-from .ir import BINARY, Block, Fault, Function, Instruction, Zone
+from .ir import BINARY, CONVERSIONS, Block, Fault, Function, Instruction, Zone
 from .ranges import Ranges, gaps
 
 RELATIONS = {"sle": ["<="], "slt": ["<="], "sge": [">="], "sgt": [">="], "eq": ["<=", ">="]}
+ONE_EACH = "write one claim for each compare, before any if"
+
+
+def lines_of(predicate: str, left: Form, right: Form) -> list[str]:
+    left, right = left + (predicate == "slt"), right + (predicate == "sgt")
+    return [f"{left} {relation} {right}" for relation in RELATIONS[predicate]]
+
+
+def take_contract(f: Function) -> None:
+    """REQUIRES and ENSURES go into the function's fields."""
+    ranges = Ranges(f)
+    results = {x.result: Form.of("%.ret") for x in f.calls("@__tapir_result")}
+    for block in f.blocks.values():
+        for x in [x for x in block.body if x.op == "claim"]:
+            if x.predicate not in RELATIONS:
+                raise Fault(x.place, "a claim is a signed compare", "write <, <=, >, >= or ==, of int64_t or int")
+            word = x.kind.upper()
+            if x.kind not in ("requires", "ensures"):
+                continue
+            if block is not f.entry:
+                raise Fault(x.place, f"{word} stands first in a function, and is compares joined by &&", ONE_EACH)
+            left, right = [ranges.form(v).replaced(lambda r: results.get(r, Form.of(r))) for v in x.args]
+            about = ranges.parameters | {"%.ret"} if x.kind == "ensures" else ranges.parameters
+            if not {*left.terms, *right.terms} <= about:
+                words = "parameters and RESULT" if x.kind == "ensures" else "parameters"
+                raise Fault(x.place, f"{word} is about {words}", "write it first in the function")
+            said = f.requires if x.kind == "requires" else f.ensures
+            said += [(line, x.place) for line in lines_of(x.predicate, left, right)]
+            f.needs += gaps(x.predicate, left, right) if x.kind == "requires" else []
+            block.body.remove(x)
+        block.body = [x for x in block.body if x.result not in results]
 
 
 class Claims:
     def __init__(self, f: Function):
         self.f, self.ranges = f, Ranges(f)
         self.definitions, self.graph = self.ranges.definitions, self.ranges.graph
-        self.users: dict = {}
-        for x in f.instructions():
-            for value in x.uses():
-                self.users.setdefault(value, []).append(x)
-        self.claimed: dict[str, bool] = {}
-        self.results = {x.result for x in f.calls("@__tapir_result")}
+        self.for_claims = set(self.definitions)  # the registers that are made for claims alone
+        for _ in self.definitions:
+            before = len(self.for_claims)
+            for x in f.instructions():
+                is_claim = x.op == "claim" or x.callee.startswith("@__tapir_")
+                if not (is_claim or (x.op in BINARY | CONVERSIONS | {"icmp"} and x.result in self.for_claims)):
+                    self.for_claims -= set(x.uses())
+            if len(self.for_claims) == before:
+                break
 
     def apply(self) -> None:
         f, task = self.f, tasks_of(self.f)
         f.said = {register: tuple(bounds) for register, bounds in self.ranges.said.items()}
         for block in f.blocks.values():
-            waiting: list[str] = []     # `shows` lines for the next instruction that is not about claims
-            kept: list[Instruction] = []
-            for x in block.body:
+            waiting: list[str] = []  # `shows` lines for the next instruction that is not about claims
+            old, block.body = block.body, []
+            for x in old:
                 if x.op == "claim":
-                    waiting += self.claim(x, block, kept)
-                elif x.op == "call" and x.callee.startswith("@__tapir_"):
+                    waiting += self.claim(x, block)
+                elif x.callee.startswith("@__tapir_"):
                     self.call(x, task.get(block.name))
                 else:
-                    is_about_claims = x.op in BINARY | {"icmp", "sext"} and self.only_claimed(x.result)
-                    if not is_about_claims:
+                    if x.op not in BINARY | {"icmp", "sext"} or x.result not in self.for_claims:
                         x.shows, waiting = waiting + x.shows, []
-                    kept.append(x)
+                    block.body.append(x)
             block.end.shows = waiting + block.end.shows
-            block.body, block.notes = kept, list(dict.fromkeys(block.notes))
+            block.notes = list(dict.fromkeys(block.notes))
 
-    def only_claimed(self, register: str) -> bool:
-        """Whether a register is made for claims alone."""
-        if register not in self.claimed:
-            self.claimed[register] = True
-            self.claimed[register] = all(
-                x.op == "claim" or (x.op == "call" and x.callee.startswith("@__tapir_")) or
-                (x.op in BINARY | {"sext", "zext", "trunc", "icmp"} and x.result and self.only_claimed(x.result)) for x in self.users.get(register, []))
-        return self.claimed[register]
-
-    def form(self, value) -> Form:
-        """A value as a form over registers that the code has anyway."""
-        return self.ranges.form(value, lambda r, x: not self.only_claimed(r))
-
-    def lines(self, predicate: str, left: Form, right: Form) -> list[str]:
-        of_result = lambda r: Form.of("%.ret" if r in self.results else r)
-        left, right = left.replaced(of_result), right.replaced(of_result)
-        left, right = left + (predicate == "slt"), right + (predicate == "sgt")
-        return [f"{left} {relation} {right}" for relation in RELATIONS[predicate]]
-
-    def claim(self, x: Instruction, block: Block, before: list[Instruction]) -> list[str]:
+    def claim(self, x: Instruction, block: Block) -> list[str]:
         """Takes a claim; what is to be shown where it stands is returned."""
-        if x.predicate not in RELATIONS:
-            raise Fault(x.place, "a claim is a signed compare", "write <, <=, >, >= or ==, of int64_t or int")
-        left, right = self.form(x.args[0]), self.form(x.args[1])
-        lines = self.lines(x.predicate, left, right)
-        registers = [r for r in [*left.terms, *right.terms] if r not in self.results]
-        if x.kind in ("requires", "ensures"):
-            if block is not self.f.entry:
-                raise Fault(x.place, f"{x.kind.upper()} stands first in a function, and is compares joined by &&", "write one claim for each compare, before any if")
-            self.of_function(x)
-        elif x.kind == "invariant":
+        left, right = [self.ranges.form(v, lambda r, y: r not in self.for_claims) for v in x.args]
+        lines, registers = lines_of(x.predicate, left, right), {*left.terms, *right.terms}
+        if x.kind == "invariant":
             self.of_loop(x, block, lines, registers, gaps(x.predicate, left, right))
-        elif all(self.is_there(r, block.name) for r in registers) and all(y.result and self.only_claimed(y.result) for y in before):
+        elif all(y.result in self.for_claims for y in block.body) and not registers & {y.result for y in block.body}:
             block.notes += [("keeps " + line, x.place) for line in lines]
         else:
             return ["shows " + line for line in lines]
         return []
 
-    def is_there(self, register: str, name: str) -> bool:
-        """Whether a register has its value when a block begins."""
-        return register not in self.definitions or self.definitions[register][1] != name or self.definitions[register][0].op == "phi"
-
-    def of_function(self, x: Instruction) -> None:
-        f, left, right = self.f, self.ranges.form(x.args[0]), self.ranges.form(x.args[1])
-        if any(r not in self.ranges.parameters and r not in self.results for r in [*left.terms, *right.terms]):
-            raise Fault(x.place, f"{x.kind.upper()} is about parameters" + (" and RESULT" if x.kind == "ensures" else ""), "write it first in the function")
-        for line in self.lines(x.predicate, left, right):
-            (f.requires if x.kind == "requires" else f.ensures).append((line, x.place))
-        if x.kind == "requires" and x.predicate in ("sle", "slt", "eq"):
-            f.needs.append((left + (x.predicate == "slt"), right))
-        if x.kind == "requires" and x.predicate in ("sge", "sgt", "eq"):
-            f.needs.append((right + (x.predicate == "sgt"), left))
-
-    def of_loop(self, x: Instruction, block: Block, lines: list[str], registers: list[str], wanted: list[Form]) -> None:
+    def of_loop(self, x: Instruction, block: Block, lines: list[str], registers: set[str], wanted: list[Form]) -> None:
         """An INVARIANT belongs to the innermost loop whose head knows its registers."""
-        graph, homes = self.graph, {r: self.definitions[r] for r in registers if r in self.definitions}
-        heads = [head for head, body in graph.loops.items() if block.name in body and
-                 all((home == head and y.op == "phi") or (home != head and graph.dominates(home, head)) for y, home in homes.values())]
+        graph = self.graph
+        heads = [h for h, body in graph.loops.items() if block.name in body and self.ranges.are_known(registers, h)]
         if not heads:
-            raise Fault(x.place, "INVARIANT stands in a loop, and is about what is known where a round begins", "write it first in the loop")
+            text = "INVARIANT stands in a loop, and is about what is known where a round begins"
+            raise Fault(x.place, text, "write it first in the loop")
         head = min(heads, key=lambda h: len(graph.loops[h]))
         if not all(graph.dominates(block.name, p) for p in graph.before[head] if p in graph.loops[head]):
-            raise Fault(x.place, "INVARIANT stands first in a loop, and is compares joined by &&", "write one claim for each compare, before any if")
+            raise Fault(x.place, "INVARIANT stands first in a loop, and is compares joined by &&", ONE_EACH)
         self.f.blocks[head].notes += [("keeps " + line, x.place) for line in lines]
         self.f.wanted += [(head, gap, x.place) for gap in wanted]
 
     def call(self, x: Instruction, task) -> None:
-        word = x.callee[len("@__tapir_"):]
+        word = x.callee[len("@__tapir_") :]
         if word in ("reads", "writes", "adds"):
-            form = self.form if task else self.ranges.form
-            self.f.given.setdefault(task, []).append(Zone(x.args[0], word, form(x.args[1]), form(x.args[2])))
+            stop = [lambda r, y: r not in self.for_claims] if task else []
+            zone = Zone(x.args[0], word, *[self.ranges.form(v, *stop) for v in x.args[1:]])
+            self.f.given.setdefault(task, []).append(zone)
         elif word == "measure":
             if isinstance(x.args[1], str):
                 raise Fault(x.place, "the most of a MEASURE is a number", "write MEASURE(depth, 20)")

@@ -1,36 +1,37 @@
 """Linear forms over registers, as annotations have them: `3*%n-%i+2`."""
 from __future__ import annotations
-from typing import Callable, Optional, Union
 
-Value = Union[int, str]     # a number, or the name of a register (`%x`) or a global (`@a`)
+from typing import Callable, Union
+
+Value = Union[int, str]  # a number, or the name of a register (`%x`) or a global (`@a`)
 
 
 class Form:
     """A sum of registers with factors, and a constant. Forms are never changed once they are made."""
-    __slots__ = ("terms", "constant")
 
-    def __init__(self, terms: Optional[dict[str, int]] = None, constant: int = 0):
-        self.terms = {register: factor for register, factor in (terms or {}).items() if factor}
+    def __init__(self, terms: dict[str, int] = {}, constant: int = 0):
+        self.terms = {register: factor for register, factor in terms.items() if factor}
         self.constant = constant
+        self.is_constant = not self.terms
 
     @staticmethod
     def of(value: Value) -> Form:
         return Form({value: 1}) if isinstance(value, str) else Form(constant=value)
 
-    def plus(self, other: Form, times: int = 1) -> Form:
+    def plus(self, other: Union[Form, int], times: int = 1) -> Form:
+        other = other if isinstance(other, Form) else Form(constant=other)
         terms = dict(self.terms)
         for register, factor in other.terms.items():
             terms[register] = terms.get(register, 0) + times * factor
         return Form(terms, self.constant + times * other.constant)
 
-    def __add__(self, other: Union[Form, int]) -> Form:
-        return self.plus(other if isinstance(other, Form) else Form(constant=other))
+    __add__ = plus
 
     def __sub__(self, other: Union[Form, int]) -> Form:
-        return self.plus(other if isinstance(other, Form) else Form(constant=other), -1)
+        return self.plus(other, -1)
 
     def __mul__(self, factor: int) -> Form:
-        return Form({register: k * factor for register, k in self.terms.items()}, self.constant * factor)
+        return Form().plus(self, factor)
 
     def __neg__(self) -> Form:
         return self * -1
@@ -41,12 +42,8 @@ class Form:
     def __hash__(self) -> int:
         return hash((frozenset(self.terms.items()), self.constant))
 
-    @property
-    def is_constant(self) -> bool:
-        return not self.terms
-
     def without(self, register: str) -> Form:
-        return Form({r: k for r, k in self.terms.items() if r != register}, self.constant)
+        return Form({**self.terms, register: 0}, self.constant)
 
     def replaced(self, of: Callable[[str], Form]) -> Form:
         """The form with each register replaced by a form."""
@@ -56,11 +53,6 @@ class Form:
         return total
 
     def __str__(self) -> str:
-        text = ""
-        for register in sorted(self.terms):
-            factor = self.terms[register]
-            text += "-" if factor < 0 else "+" if text else ""
-            text += ("" if abs(factor) == 1 else f"{abs(factor)}*") + register
-        if self.constant or not text:
-            text += ("+" if self.constant > 0 and text else "") + str(self.constant)
-        return text
+        parts = [f"{factor:+d}*{register}" for register, factor in sorted(self.terms.items())]
+        text = "".join(parts).replace("+1*", "+").replace("-1*", "-").lstrip("+")
+        return text + f"{self.constant:+d}" if text and self.constant else text or str(self.constant)

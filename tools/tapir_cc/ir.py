@@ -1,16 +1,24 @@
 """Functions of blocks of instructions, between LLVM's text and ours, and what is computed of their graphs."""
 from __future__ import annotations
+
+import itertools
+import math
+import re
 from dataclasses import dataclass, field
-from typing import Callable, Iterable, NamedTuple, Optional, Union
+from typing import Callable, Iterable, NamedTuple, Optional
+
 from .forms import Form, Value
 
 BINARY = {"add", "sub", "mul", "sdiv", "udiv", "srem", "urem", "shl", "lshr", "ashr", "and", "or", "xor"}
 CONVERSIONS = {"trunc", "sext", "zext"}
-NEGATED = {"eq": "ne", "ne": "eq", "slt": "sge", "sge": "slt", "sgt": "sle", "sle": "sgt", "ult": "uge", "uge": "ult", "ugt": "ule", "ule": "ugt"}
+NEGATED = {"eq": "ne", "slt": "sge", "sgt": "sle", "ult": "uge", "ugt": "ule"}
+NEGATED.update({contrary: predicate for predicate, contrary in NEGATED.items()})
+REGISTER = r"%[\w.$]+"
 
 
 class Place(NamedTuple):
     """A place in the C; line 0 where it is not known."""
+
     line: int = 0
     column: int = 0
     file: str = ""
@@ -18,62 +26,55 @@ class Place(NamedTuple):
 
 class Fault(Exception):
     """C that is not taken: where, why, and what to write in its place."""
+
     def __init__(self, place: Place, text: str, change: str = ""):
         super().__init__(text)
         self.place, self.text, self.change = place, text, change
 
 
-# What to do where a rewrite is refused: fields of instructions to set, or (where blocks change) a step to take.
-Fallback = Union[list[tuple["Instruction", dict]], Callable[[], None]]
+def cells(type: str) -> int:
+    """Of a type as LLVM writes it: `[4 x [8 x i64]]` has 32 cells."""
+    return math.prod(map(int, re.findall(r"(\d+) x", type)))
+
+
+def scalar(type: str) -> str:
+    return type.split(" x ")[-1].rstrip("]")
 
 
 @dataclass(eq=False)
 class Instruction:
-    """An instruction or a terminator. `br` has a target, `cbr` two (true, false), `switch` the default's first. Tapir's are `detach` (child,
-    continuation), `reattach` and `sync`. Ours beside LLVM's: `claim`, `region` (its start), `atomic` (addition), `zero` (of a whole object)."""
+    """An instruction or a terminator. `br` has a target, `cbr` two (true, false), `switch` the default's first. Tapir's
+    are `detach` (child, continuation), `reattach` and `sync`. Ours beside LLVM's: `claim`, `region` (its start),
+    `atomic` (addition), `zero` (of a whole object)."""
+
     op: str
     result: Optional[str] = None
-    type: object = None
+    type: str = "void"
     args: list[Value] = field(default_factory=list)
     place: Place = Place()
-    predicate: str = ""                         # of icmp and claim
+    predicate: str = ""  # of icmp and claim
     nsw: bool = False
-    source: object = None                       # the type before a conversion
+    source: str = ""  # the type before a conversion
     incoming: list[tuple[Value, str]] = field(default_factory=list)
     targets: list[str] = field(default_factory=list)
     numbers: list[int] = field(default_factory=list)
     callee: str = ""
-    types: list = field(default_factory=list)   # of a call's arguments
-    kind: str = ""                              # of a claim: requires, ensures, keeps, invariant
-    holds: bool = True                          # of a claim: whether the condition is claimed, or its contrary
-    object: Optional[str] = None                # of memory's instructions: what they touch, and the cell
+    types: list[str] = field(default_factory=list)  # of a call's arguments
+    kind: str = ""  # of a claim: requires, ensures, keeps, invariant
+    object: Optional[str] = None  # of memory's instructions: what they touch, and the cell
     index: Optional[Value] = None
-    cell: str = "i64"                           # what C has in that cell
-    region: object = None                       # a register; before regions are made, the block of the detach
-    shows: list[str] = field(default_factory=list)      # annotations before it that the author wrote
-    tried: list[str] = field(default_factory=list)      # those that a rewrite rests on
-    steps: list[str] = field(default_factory=list)      # those by which more is shown
-    fallbacks: list[Fallback] = field(default_factory=list)
+    cell: str = "i64"  # what C has in that cell
+    region: Optional[str] = None
+    shows: list[str] = field(default_factory=list)  # annotations before it that the author wrote
+    tried: list[str] = field(default_factory=list)  # those that a rewrite rests on
+    steps: list[str] = field(default_factory=list)  # those by which more is shown
+    forms: list[str] = field(default_factory=list)  # what to try in place of its group, where it is refused
+    group: list[Instruction] = field(default_factory=list)
 
     def uses(self) -> list[Value]:
         if self.op == "phi":
             return [value for value, _ in self.incoming]
         return self.args + ([] if self.index is None else [self.index])
-
-    def fall_back(self) -> bool:
-        """Takes the next form of what was tried here; whether there was one. The last one needs no fact."""
-        if not self.fallbacks:
-            return False
-        form = self.fallbacks.pop(0)
-        for instruction, fields in [] if callable(form) else form:
-            for name, value in fields.items():
-                setattr(instruction, name, value)
-        if callable(form):
-            form()
-        return True
-
-    def fields_of_fallbacks(self) -> Iterable[dict]:
-        return [fields for form in self.fallbacks if not callable(form) for _, fields in form]
 
     def retarget(self, old: str, new: str) -> None:
         self.targets = [new if target == old else target for target in self.targets]
@@ -84,80 +85,101 @@ class Block:
     name: str
     phis: list[Instruction] = field(default_factory=list)
     body: list[Instruction] = field(default_factory=list)
-    end: Optional[Instruction] = None
-    notes: list[tuple[str, Place]] = field(default_factory=list)    # annotations that the author wrote
-    hints: list[tuple[str, Place]] = field(default_factory=list)    # annotations that are only tried
-    is_kept: bool = False       # whether its edges stay as they are, as a fallback may change them
+    end: Instruction = None
+    notes: list[tuple[str, Place]] = field(default_factory=list)  # annotations that the author wrote
+    hints: list[tuple[str, Place]] = field(default_factory=list)  # annotations that are only tried
 
     def all(self) -> list[Instruction]:
-        return self.phis + self.body + ([self.end] if self.end else [])
+        return [*self.phis, *self.body, self.end]
 
     def successors(self) -> list[str]:
-        return self.end.targets if self.end and self.end.op != "reattach" else []
+        return self.end.targets if self.end.op != "reattach" else []
 
 
 @dataclass
 class Parameter:
     type: str
     name: str
-    bytes: Optional[int] = None     # the least size of what a pointer names
+    bytes: Optional[int] = None  # the least size of what a pointer names
 
 
 class Zone(NamedTuple):
     """Cells of an object from `low` to before `high`, and what is done to them: reads, writes or adds."""
+
     object: str
     mode: str
     low: Form
     high: Form
 
 
+@dataclass(eq=False)
 class Function:
-    def __init__(self, name: str, returns: str, parameters: list[Parameter], place: Place):
-        self.name, self.returns, self.parameters, self.place = name, returns, parameters, place
-        self.blocks: dict[str, Block] = {}
-        self.names: set[str] = {p.name for p in parameters}
-        self.c_names: dict[str, str] = {}               # register -> variable
-        self.counted = 0
-        self.cells: dict[str, str] = {}                 # object -> what C has in a cell
-        self.extents: dict[str, int] = {}               # object -> cells
-        self.requires: list[tuple[str, Place]] = []
-        self.ensures: list[tuple[str, Place]] = []
-        self.needs: list[tuple[Form, Form]] = []        # low <= high, by REQUIRES
-        self.wanted: list[tuple[str, Form, Place]] = [] # at a loop's head a form is 0 or more, by INVARIANT
-        self.guesses: list[tuple[str, Form, Place]] = []    # where a block begins a form is 0 or more
-        self.said: dict[str, tuple] = {}                # register -> bounds that claims say
-        self.given: dict[Optional[str], list[Zone]] = {}    # zones that the author wrote; of a detach's block, of its child
-        self.zones: list[Zone] = []
-        self.feet: dict[str, list[Zone]] = {}           # a child's first block -> its zones
-        self.whole: set[tuple[str, str]] = set()        # objects (and modes, '' for all) whose zones are taken as the whole
-        self.goes_through_copies = False                # whether feet look through registers that a child copies
-        self.measure: Optional[tuple[Form, int]] = None
-        self.budget: Optional[list[Value]] = None
-        self.rests: dict[str, list[tuple[str, Place]]] = {}  # what loops need of what is left, by block
-        self.printed: dict[str, str] = {}               # register -> the name that it is printed by
+    name: str
+    returns: str
+    parameters: list[Parameter]
+    place: Place
+    blocks: dict[str, Block] = field(default_factory=dict)
+    names: set[str] = field(default_factory=set)
+    c_names: dict[str, str] = field(default_factory=dict)  # register -> variable
+    cells: dict[str, str] = field(default_factory=dict)  # object -> what C has in a cell
+    extents: dict[str, int] = field(default_factory=dict)  # object -> cells
+    requires: list[tuple[str, Place]] = field(default_factory=list)
+    ensures: list[tuple[str, Place]] = field(default_factory=list)
+    needs: list[Form] = field(default_factory=list)  # what is 0 or more, by REQUIRES
+    wanted: list[tuple[str, Form, Place]] = field(default_factory=list)  # at a loop's head a form is 0 or more, said so
+    guesses: list[tuple[str, Form, Place]] = field(default_factory=list)  # where a block begins a form is 0 or more
+    said: dict[str, tuple] = field(default_factory=dict)  # register -> bounds that claims say
+    given: dict[Optional[str], list[Zone]] = field(default_factory=dict)  # the author's zones, by task
+    zones: list[Zone] = field(default_factory=list)
+    feet: dict[str, list[Zone]] = field(default_factory=dict)  # a child's first block -> its zones
+    whole: set[tuple[str, str]] = field(default_factory=set)  # objects with modes ('' for all) taken as the whole
+    goes_through_copies: bool = False  # whether feet look through registers that a child copies
+    measure: Optional[tuple[Form, int]] = None
+    budget: Optional[list[Value]] = None
+    rests: dict[str, list[tuple[str, Place]]] = field(default_factory=dict)  # what loops need to be left, by block
+    printed: dict[str, str] = field(default_factory=dict)  # register -> the name that it is printed by
 
     @property
     def entry(self) -> Block:
         return next(iter(self.blocks.values()))
 
     def fresh(self, hint: str) -> str:
-        while True:
-            self.counted += 1
-            name = f"%{hint.lstrip('%')}.{self.counted}"
-            if name not in self.names:
-                self.names.add(name)
-                return name
+        name = next(name for k in itertools.count(1) if (name := f"%{hint}.{k}") not in self.names)
+        self.names.add(name)
+        return name
+
+    def make(self, op: str, *args: Value, place: Place, hint: str = "t", type: str = "i64", **fields) -> Instruction:
+        """An instruction with a fresh result."""
+        return Instruction(op, self.fresh(hint), type, list(args), place, **fields)
 
     def new_block(self, hint: str, body: Iterable[Instruction] = (), end: Optional[Instruction] = None) -> Block:
         block = Block(self.fresh(hint)[1:], body=list(body), end=end)
         self.blocks[block.name] = block
         return block
 
-    def instructions(self) -> Iterable[Instruction]:
+    def block_between(self, above: Block, target: str, hint: str) -> Block:
+        """A new block on the way from one block to another."""
+        block = self.new_block(hint, end=Instruction("br", place=above.end.place, targets=[target]))
+        above.end.retarget(target, block.name)
+        self.rename_edge(target, above.name, block.name)
+        return block
+
+    def require(self, gap: Form, line: str, place: Place) -> None:
+        self.needs.append(gap)
+        self.requires.append((line, place))
+
+    def instructions(self) -> list[Instruction]:
         return [x for block in self.blocks.values() for x in block.all()]
 
     def calls(self, prefix: str = "@") -> list[Instruction]:
         return [x for x in self.instructions() if x.op == "call" and x.callee.startswith(prefix)]
+
+    def locals(self) -> dict[str, Instruction]:
+        return {x.result: x for x in self.entry.body if x.op == "alloca"}
+
+    def at_entry(self, x: Instruction) -> None:
+        """Puts an instruction behind the locals."""
+        self.entry.body.insert(len(self.locals()), x)
 
     def detaches(self) -> list[Block]:
         return [b for b in self.blocks.values() if b.end.op == "detach"]
@@ -175,26 +197,22 @@ class Function:
                 before[target].append(block.name)
         return before
 
-    def block_of(self, instruction: Instruction) -> Optional[Block]:
-        return next((b for b in self.blocks.values() if any(x is instruction for x in b.all())), None)
+    def block_of(self, instruction: Instruction) -> Block:
+        return next(b for b in self.blocks.values() if any(x is instruction for x in b.all()))
 
     def substitute(self, by: dict[str, Value]) -> None:
         """Puts values in place of registers."""
+
         def final(value: Value) -> Value:
-            seen = 0
-            while value in by and seen < 1000:
-                value, seen = by[value], seen + 1
+            while value in by:
+                value = by[value]
             return value
-        if not by:
-            return
-        for x in self.instructions():
+
+        for x in self.instructions() if by else []:
             x.incoming = [(final(value), label) for value, label in x.incoming]
             x.args = [final(value) for value in x.args]
-            if isinstance(x.index, str):
-                x.index = final(x.index)
-            for fields in x.fields_of_fallbacks():
-                if "args" in fields:
-                    fields["args"] = [final(value) for value in fields["args"]]
+            x.index = final(x.index)
+            x.forms = [re.sub(REGISTER, lambda m: str(final(m[0])), form) for form in x.forms]
 
     def drop_edge(self, block: str, before: str) -> None:
         """The phis of a block lose the entry of a predecessor."""
@@ -215,7 +233,7 @@ class Function:
         rest = Block(self.fresh(block.name.split(".s")[0] + ".s")[1:], body=block.body[at:], end=block.end)
         block.body, block.end = block.body[:at], None
         items = list(self.blocks.items())
-        place = [name for name, _ in items].index(block.name) + 1
+        place = list(self.blocks).index(block.name) + 1
         self.blocks = dict(items[:place] + [(rest.name, rest)] + items[place:])
         for target in rest.successors():
             self.rename_edge(target, block.name, rest.name)
@@ -224,62 +242,47 @@ class Function:
 
 def order_of(function: Function) -> list[str]:
     """The blocks in reverse postorder, the bodies of loops before their exits."""
-    seen, out = {function.entry.name}, []
-    stack = [(function.entry.name, iter(function.entry.successors()[::-1]))]
+    out, seen = [], {function.entry.name}
+    stack = [(function.entry.name, function.entry.successors()[:])]
     while stack:
         name, rest = stack[-1]
-        target = next((t for t in rest if t not in seen), None)
-        if target is None:
+        if not rest:
             out.append(name)
             stack.pop()
-        else:
+        elif (target := rest.pop()) not in seen:
             seen.add(target)
-            stack.append((target, iter(function.blocks[target].successors()[::-1])))
+            stack.append((target, function.blocks[target].successors()[:]))
     return out[::-1]
 
 
 class Graph:
     """What holds of a function's graph as it stands: its order, predecessors, dominators, loops."""
+
     def __init__(self, function: Function):
         self.function = function
         self.order = order_of(function)
         self.number = {name: k for k, name in enumerate(self.order)}
         self.before = function.predecessors()
-        self.parent = self._dominators()
-        self.loops = self._loops()
+        self.above = self.dominators()
+        self.loops = self.natural_loops()
 
-    def _dominators(self) -> dict[str, str]:
-        """Each block's immediate dominator (Cooper, Harvey and Kennedy, "A simple, fast dominance algorithm")."""
-        parent = {self.order[0]: self.order[0]}
-
-        def common(a: str, b: str) -> str:
-            while a != b:
-                if self.number[a] > self.number[b]:
-                    a = parent[a]
-                else:
-                    b = parent[b]
-            return a
+    def dominators(self) -> dict[str, set[str]]:
+        """All blocks on each way to a block."""
+        above = {name: set(self.order) for name in self.order}
+        above[self.order[0]] = {self.order[0]}
         changed = True
         while changed:
             changed = False
             for name in self.order[1:]:
-                known = [p for p in self.before[name] if p in parent]
-                new = known[0]
-                for p in known[1:]:
-                    new = common(p, new)
-                if parent.get(name) != new:
-                    parent[name] = new
-                    changed = True
-        return parent
+                new = {name}.union(set.intersection(*(above[p] for p in self.before[name] if p in above)))
+                changed |= new != above[name]
+                above[name] = new
+        return above
 
     def dominates(self, a: str, b: str) -> bool:
-        while a != b:
-            if b not in self.parent or self.parent[b] == b:
-                return False
-            b = self.parent[b]
-        return True
+        return a == b or a in self.above.get(b, ())
 
-    def _loops(self) -> dict[str, set[str]]:
+    def natural_loops(self) -> dict[str, set[str]]:
         """A loop's head -> its blocks."""
         loops: dict[str, set[str]] = {}
         for name in self.order:
@@ -294,27 +297,21 @@ class Graph:
         return loops
 
 
-def never(register: str, instruction: Instruction) -> bool:
-    return False
-
-
-def form_of(definitions: dict, value: Value, stop: Callable[[str, Instruction], bool] = never) -> Form:
-    """A value as a form, by what additions, subtractions and products with numbers make of it. Registers at which `stop` says so are kept."""
-    if not isinstance(value, str) or value not in definitions:
+def form_of(definitions: dict, value: Value, stop: Callable[[str, Instruction], bool] = lambda r, x: False) -> Form:
+    """A value as a form, by what additions, subtractions and products with numbers make of it. Registers at which
+    `stop` says so are kept."""
+    x = definitions.get(value, (None,))[0]
+    if x is None or stop(value, x):
         return Form.of(value)
-    x = definitions[value][0]
-    if stop(value, x):
-        return Form.of(value)
-    if x.op in ("add", "sub"):
-        return form_of(definitions, x.args[0], stop).plus(form_of(definitions, x.args[1], stop), 1 if x.op == "add" else -1)
-    if x.op == "mul" or (x.op == "shl" and not isinstance(x.args[1], str)):
-        left, right = form_of(definitions, x.args[0], stop), form_of(definitions, x.args[1], stop)
-        if x.op == "shl":
-            right = Form(constant=1 << right.constant)
-        if left.is_constant:
-            left, right = right, left
-        if right.is_constant:
-            return left * right.constant
     if x.op == "sext" and x.source == "i32":
         return form_of(definitions, x.args[0], stop)
-    return Form.of(value)
+    if x.op not in ("add", "sub", "mul") and not (x.op == "shl" and not isinstance(x.args[1], str)):
+        return Form.of(value)
+    left, right = [form_of(definitions, v, stop) for v in x.args]
+    if x.op in ("add", "sub"):
+        return left.plus(right, 1 if x.op == "add" else -1)
+    if x.op == "shl":
+        return left * (1 << right.constant)
+    if left.is_constant:
+        left, right = right, left
+    return left * right.constant if right.is_constant else Form.of(value)

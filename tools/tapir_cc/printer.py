@@ -1,18 +1,38 @@
-"""Prints a module. In: globals and functions with all that was found. Out: its lines, each with the place in the C and what it stands for, by which refusals
-are mended and told."""
-from __future__ import annotations
+"""Prints a module. In: globals and functions with all that was found. Out: its lines, each with the place in the C and
+what it stands for, by which refusals are mended and told."""
 import re
-from dataclasses import dataclass, field
+from typing import NamedTuple
+
 from .forms import Value
-from .ir import BINARY, CONVERSIONS, Block, Fault, Function, Instruction, Place, order_of
-from .llvm_text import Module, cells
+from .ir import BINARY, CONVERSIONS, REGISTER, Block, Fault, Function, Instruction, Place, Zone, cells, order_of
+from .llvm_text import Module
 
 MOST_NAME = 56
+FORMATS = {
+    **dict.fromkeys(BINARY, "{x.op}{nsw} i64 {0}, {1}"),
+    **dict.fromkeys(CONVERSIONS, "{x.op} {x.source} {0} to {x.type}"),
+    **dict.fromkeys(("detach", "reattach", "sync"), "{x.op} within {region}, {labels}"),
+    "alloca": "alloca [{cells} x i64]",
+    "atomic": "atomicrmw add ptr {at}, i64 {1} seq_cst",
+    "br": "br {labels}",
+    "call": "call {x.type} {x.callee}({passed})",
+    "cbr": "br i1 {0}, {labels}",
+    "icmp": "icmp {x.predicate} i64 {0}, {1}",
+    "load": "load i64, ptr {at}",
+    "phi": "phi i64 {incoming}",
+    "region": "call token @llvm.syncregion.start()",
+    "ret": "ret {x.type} {0}",
+    "ret void": "ret void",
+    "store": "store i64 {0}, ptr {at}",
+    "switch": "switch i64 {0}, {first} [ {cases} ]",
+    "zero": "store [{cells} x i64] zeroinitializer, ptr {0}",
+}
 
 
-@dataclass
-class Line:
-    """A line of the module. `kind` says what `of` is: instruction, shows, tried or step (before an instruction), hint (a line of a block), block, function, zone, foot."""
+class Line(NamedTuple):
+    """A line of the module. `kind` says what `of` is: instruction, shows, tried or step (before an instruction), hint
+    (a line of a block), block, function, zone, foot."""
+
     text: str
     place: Place = Place()
     kind: str = ""
@@ -21,27 +41,27 @@ class Line:
     note: str = ""
 
 
-@dataclass
-class Printed:
-    lines: list[Line] = field(default_factory=list)
+class Printed(list):
+    """The lines, which are numbered from 1 on."""
 
     def text(self) -> str:
-        return "".join(line.text + "\n" for line in self.lines)
+        return "".join(line.text + "\n" for line in self)
 
     def line(self, number: int) -> Line:
-        return self.lines[number - 1] if 0 < number <= len(self.lines) else Line("")
+        return self[number - 1] if 0 < number <= len(self) else Line("")
 
 
 def print_module(module: Module, functions: list[Function]) -> Printed:
-    printed = Printed([Line(f"{g.name} = global [{cells(g.type)} x i64] zeroinitializer", g.place) for g in module.globals.values()])
+    globals = module.globals.values()
+    lines = [Line(f"{g.name} = global [{cells(g.type)} x i64] zeroinitializer", g.place) for g in globals]
     for f in functions:
-        printed.lines += FunctionPrinter(f).lines()
-    return printed
+        lines += FunctionPrinter(f).lines()
+    return Printed(lines)
 
 
 class FunctionPrinter:
     def __init__(self, f: Function):
-        self.f, self.out, self.addresses = f, [], {}
+        self.f, self.out, self.addresses, self.taken = f, [], {}, set()
         f.printed = {}
 
     def name(self, value: Value) -> str:
@@ -50,37 +70,39 @@ class FunctionPrinter:
             return str(value)
         if value not in self.f.printed:
             name = re.sub(r"[^\w.]", "_", value[1:])
-            name = (name if re.match(r"[A-Za-z_.]", name) else "t" + name)[:MOST_NAME]
-            while "%" + name in self.f.printed.values():
+            name = "%" + (name if re.match(r"[A-Za-z_.]", name) else "t" + name)[:MOST_NAME]
+            while name in self.taken:
                 name += ".x"
-            self.f.printed[value] = "%" + name
+            self.f.printed[value] = name
+            self.taken.add(name)
         return self.f.printed[value]
 
-    def named(self, text: object) -> str:
-        """A line of an annotation with these names."""
-        return re.sub(r"%[\w.$]+", lambda m: m.group(0) if m.group(0) == "%.ret" else self.name(m.group(0)), str(text))
+    def put(self, text: str, place: Place, kind: str = "", of: object = None, note: str = "") -> None:
+        self.out.append(Line(text, place, kind, of, self.f, note))
 
-    def put(self, text: str, place: Place, kind: str = "", of: object = None) -> None:
-        self.out.append(Line(text, place, kind, of, self.f))
+    def note(self, text: str, place: Place, kind: str = "", of: object = None) -> None:
+        """A line of an annotation, in the names that are printed."""
+        printed = re.sub(REGISTER, lambda m: m[0] if m[0] == "%.ret" else self.name(m[0]), text)
+        self.put("  ;! " + printed, place, kind, of, text)
 
-    def note(self, text: object, place: Place, kind: str = "", of: object = None) -> None:
-        self.put("  ;! " + self.named(text), place, kind, of)
+    def zone(self, word: str, zone: Zone, place: Place) -> None:
+        text = f"{word}{zone.mode} {zone.object} {zone.low} {zone.high}"
+        self.note(text, place, "foot" if word else "zone", zone.object)
 
     def lines(self) -> list[Line]:
         f = self.f
-        parameters = ", ".join(f"ptr noalias dereferenceable({8 * f.extents[p.name]}) {self.name(p.name)}" if p.type == "ptr" else f"i64 {self.name(p.name)}"
-                               for p in f.parameters)
+        types = [(p, f"ptr noalias dereferenceable({8 * f.extents.get(p.name, 0)})") for p in f.parameters]
+        parameters = ", ".join(f"{type if p.type == 'ptr' else 'i64'} {self.name(p.name)}" for p, type in types)
         self.put("", f.place)
         self.put(f"define {f.returns} {f.name}({parameters}) {{", f.place, "function", f)
         for word, claims in (("requires", f.requires), ("ensures", f.ensures)):
             for line, place in {line: place for line, place in reversed(claims)}.items():
                 self.note(f"{word} {line}", place)
         for zone in f.zones:
-            self.note(f"{zone.mode} {self.name(zone.object)} {zone.low} {zone.high}", f.place, "zone", zone.object)
-        if f.measure:
-            self.note(f"measure {f.measure[0]} max {f.measure[1]}", f.place)
-        if f.budget:
-            self.note(f"budget {f.budget[0]} {f.budget[1]}", f.place)
+            self.zone("", zone, f.place)
+        for word, values in (("measure %s max %s", f.measure), ("budget %s %s", f.budget)):
+            if values:
+                self.note(word % tuple(values), f.place)
         for name in order_of(f):
             self.block(f.blocks[name])
         self.put("}", f.place)
@@ -88,19 +110,18 @@ class FunctionPrinter:
 
     def block(self, block: Block) -> None:
         self.addresses = {}
-        first = next((x.place for x in block.body + [block.end] if x.place.line), self.f.place)
+        first = next((x.place for x in [*block.body, block.end] if x.place.line), self.f.place)
         self.put(self.name("%" + block.name)[1:] + ":", first, "block", block)
         for line, place in block.notes:
             self.note(line, place)
         for line, place in block.hints + self.f.rests.get(block.name, []):
             self.note(line, place, "hint", (block.name, line))
         for zone in self.f.feet.get(block.name, []):
-            self.note(f"foot {zone.mode} {self.name(zone.object)} {zone.low} {zone.high}", first, "foot", zone.object)
+            self.zone("foot ", zone, first)
         for x in block.all():
             for kind, lines in (("shows", x.shows), ("step", x.steps), ("tried", x.tried)):
                 for line in lines:
                     self.note(line, x.place, kind, x)
-                    self.out[-1].note = line
             self.put("  " + self.instruction(x), x.place, "instruction", x)
 
     def pointer(self, x: Instruction) -> str:
@@ -110,48 +131,25 @@ class FunctionPrinter:
         key = (x.object, x.index)
         if key not in self.addresses:
             self.addresses[key] = self.name(self.f.fresh("p"))
-            self.put(f"  {self.addresses[key]} = getelementptr inbounds i64, ptr {self.name(x.object)}, i64 {self.name(x.index)}", x.place, "instruction", x)
+            address = f"getelementptr inbounds i64, ptr {self.name(x.object)}, i64 {self.name(x.index)}"
+            self.put(f"  {self.addresses[key]} = {address}", x.place, "instruction", x)
         return self.addresses[key]
 
     def instruction(self, x: Instruction) -> str:
-        result = self.name(x.result) + " = " if x.result else ""
-        args = [self.name(v) for v in x.args]
-        to = [self.name("%" + target) for target in x.targets]
-        if x.op in ("br", "cbr", "switch", "ret", "detach", "reattach", "sync"):
-            return self.terminator(x, args, to)
-        if x.op == "phi":
-            return f"{result}phi {x.type} " + ", ".join(f"[ {self.name(v)}, {self.name('%' + label)} ]" for v, label in x.incoming)
-        if x.op in BINARY:
-            return f"{result}{x.op}{' nsw' if x.nsw else ''} {x.type} {args[0]}, {args[1]}"
-        if x.op == "icmp":
-            return f"{result}icmp {x.predicate} {x.type} {args[0]}, {args[1]}"
-        if x.op in CONVERSIONS:
-            return f"{result}{x.op} {x.source} {args[0]} to {x.type}"
-        if x.op == "alloca":
-            return f"{result}alloca " + ("i64" if isinstance(x.type, str) else f"[{cells(x.type)} x i64]")
-        if x.op == "region":
-            return f"{result}call token @llvm.syncregion.start()"
-        if x.op == "load":
-            return f"{result}load i64, ptr {self.pointer(x)}"
-        if x.op == "store":
-            return f"store i64 {args[0]}, ptr {self.pointer(x)}"
-        if x.op == "atomic":
-            return f"atomicrmw add ptr {self.pointer(x)}, i64 {args[-1]} seq_cst"
-        if x.op == "zero":
-            return f"store [{self.f.extents[x.object]} x i64] zeroinitializer, ptr {self.name(x.object)}"
-        if x.op == "call":
-            return f"{result}call {x.type} {x.callee}(" + ", ".join(f"{type} {value}" for type, value in zip(x.types, args)) + ")"
-        raise Fault(x.place, f"LLVM's {x.op} is not taken")
-
-    def terminator(self, x: Instruction, args: list[str], to: list[str]) -> str:
-        if x.op == "br":
-            return f"br label {to[0]}"
-        if x.op == "cbr":
-            return f"br i1 {args[0]}, label {to[0]}, label {to[1]}"
-        if x.op == "switch":
-            cases = " ".join(f"{x.type} {number}, label {target}" for number, target in zip(x.numbers, to[1:]))
-            return f"switch {x.type} {args[0]}, label {to[0]} [ {cases} ]"
-        if x.op == "ret":
-            return "ret void" if x.type == "void" else f"ret {x.type} {args[0]}"
-        within = self.name(x.region)
-        return f"detach within {within}, label {to[0]}, label {to[1]}" if x.op == "detach" else f"{x.op} within {within}, label {to[0]}"
+        if x.op not in FORMATS:
+            raise Fault(x.place, f"LLVM's {x.op} is not taken")
+        args, labels = [self.name(v) for v in x.args], ["label " + self.name("%" + target) for target in x.targets]
+        text = FORMATS[x.op if args or x.op != "ret" else "ret void"].format(
+            *args,
+            x=x,
+            nsw=" nsw" if x.nsw else "",
+            at=self.pointer(x) if x.op in ("load", "store", "atomic") else "",
+            cells=self.f.extents[x.object] if x.op == "zero" else cells(x.type),
+            labels=", ".join(labels),
+            region=x.region and self.name(x.region),
+            incoming=", ".join(f"[ {self.name(v)}, {self.name('%' + label)} ]" for v, label in x.incoming),
+            cases=" ".join(f"i64 {number}, {label}" for number, label in zip(x.numbers, labels[1:])),
+            first=labels[0] if labels else "",
+            passed=", ".join(map(" ".join, zip(x.types, args))),
+        )
+        return f"{self.name(x.result)} = {text}" if x.result and x.op != "atomic" else text

@@ -1,99 +1,123 @@
-"""Rewrites that give facts. In and out: a function whose meaning stays. Where a rewrite means the same only if something holds, it is tried under a `shows` line
-for that, and has a fallback: the judge takes it where the line is refused."""
-from __future__ import annotations
-from .forms import Form
-from .ir import BINARY, CONVERSIONS, Block, Function, Graph, Instruction, form_of
+"""Rewrites that give facts. In and out: a function whose meaning stays. Where a rewrite means the same only if
+something holds, it is tried under a `shows` line for that, and has forms to fall back to: the judge takes the next
+where the line is refused."""
+import itertools
+
 from .children import tasks_of
+from .clean import clean
+from .ir import BINARY, CONVERSIONS, Function, Graph, Instruction
+from .llvm_text import made_of
+from .ranges import Ranges
 
 FACTLESS = {"shl", "lshr", "ashr", "sdiv", "srem", "udiv", "urem", "and", "or", "xor"}
-MOST = 1 << 40      # factors beyond are left alone
+MOST = 1 << 40  # factors beyond are left alone
+
+
+def offer(f: Function, x: Instruction, *forms: str) -> None:
+    """Puts the first form in an instruction's place; the others come in turn, where it is refused. A form is a number,
+    or instructions divided by `;`, each behind the lines that it rests on. `%.half` is a register of this form."""
+    form, *rest = forms
+    block = f.block_of(x)
+    if form.isdigit():
+        block.body.remove(x)
+        f.substitute({x.result: int(form)})
+        return
+    made, at = made_of(f, form, x.place), block.body.index(x)
+    made[0].shows = x.shows
+    block.body[at : at + 1] = made
+    for y in made:
+        y.forms, y.group = rest, made
+
+
+def fall_back(f: Function, x: Instruction) -> bool:
+    """Takes the next form of what was tried, or lets a number wrap; whether there was one. (What the next form does not
+    use is cleaned away.)"""
+    if x.forms:
+        forms, group = x.forms, x.group
+        for y in group:
+            y.forms, y.tried = [], []
+        offer(f, group[-1], *forms)
+    elif x.nsw:
+        x.nsw = False
+    else:
+        return False
+    return True
+
+
+def text_of(x: Instruction) -> str:
+    """An operation as a form of `offer`."""
+    op = f"{x.op} {x.predicate}" if x.op == "icmp" else x.op
+    return "; ".join([*x.tried, f"{x.result} = {op}{' nsw' if x.nsw else ''} i64 {x.args[0]}, {x.args[1]}"])
 
 
 def rewrite(f: Function) -> None:
-    hoist(f)
+    while hoist_one(f):
+        pass
     signed_exits(f)
-    for block in f.blocks.values():
-        for x in block.body:
-            plain_operands(f, x)
+    for x in [x for block in f.blocks.values() for x in block.body]:
+        plain_operands(f, x)
     distribute(f)
 
 
-def hoist(f: Function) -> None:
+def hoist_one(f: Function) -> bool:
     """What a loop computes anew in each round, of what does not change in it, goes before the loop."""
-    moved = True
-    while moved:
-        graph, task = Graph(f), tasks_of(f)
-        moved = any(hoist_one(f, graph, task, head) for head in graph.loops)
-
-
-def hoist_one(f: Function, graph: Graph, task: dict, head: str) -> bool:
-    body = graph.loops[head]
-    outside = [p for p in graph.before[head] if p not in body]
-    if len(outside) != 1 or f.blocks[outside[0]].end.op not in ("br", "cbr", "sync"):
-        return False
-    inside = {x.result for name in body for x in f.blocks[name].all() if x.result}
-    backs = [p for p in graph.before[head] if p in body]
-    for name in sorted(body, key=graph.number.get):
-        for x in f.blocks[name].body:
-            always = name == head or (x.op in BINARY and task.get(name) == task.get(head) and
-                                      not (x.nsw and not all(graph.dominates(name, b) for b in backs)))
-            movable = x.op in BINARY - {"sdiv", "udiv", "srem", "urem"} | CONVERSIONS and not x.shows and not x.tried
-            if always and movable and not any(v in inside for v in x.args):
-                f.blocks[name].body.remove(x)
-                before_loop(f, f.blocks[outside[0]], head).body.append(x)
+    graph, task = Graph(f), tasks_of(f)
+    for head, body in graph.loops.items():
+        outside = [p for p in graph.before[head] if p not in body]
+        if len(outside) != 1 or f.blocks[outside[0]].end.op not in ("br", "cbr", "sync"):
+            continue
+        inside = {x.result for name in body for x in f.blocks[name].all()}
+        backs = [p for p in graph.before[head] if p in body]
+        blocks = [f.blocks[name] for name in sorted(body, key=graph.number.get)]
+        for block, x in [(block, x) for block in blocks for x in block.body]:
+            is_movable = x.op in BINARY - {"sdiv", "udiv", "srem", "urem"} | CONVERSIONS and not x.shows
+            always = block.name == head or (
+                x.op in BINARY
+                and task.get(block.name) == task.get(head)
+                and (not x.nsw or all(graph.dominates(block.name, p) for p in backs))
+            )
+            if is_movable and always and not inside & set(x.args):
+                block.body.remove(x)
+                above = f.blocks[outside[0]]
+                (above if above.end.op == "br" else f.block_between(above, head, head + ".pre")).body.append(x)
                 return True
     return False
 
 
-def before_loop(f: Function, outside: Block, head: str) -> Block:
-    """The block that leads to a loop's head alone."""
-    if outside.end.op == "br":
-        return outside
-    block = f.new_block(head + ".pre", end=Instruction("br", place=outside.end.place, targets=[head]))
-    outside.end.retarget(head, block.name)
-    f.rename_edge(head, outside.name, block.name)
-    return block
-
-
 def signed_exits(f: Function) -> None:
     """At a loop's exit == and != of a counter become signed compares: in C a counter that passes its end overflows."""
-    definitions = f.definitions()
-    for head, body in Graph(f).loops.items():
+    ranges = Ranges(f)
+    for head, body in ranges.graph.loops.items():
         for phi in f.blocks[head].phis:
             back = [value for value, label in phi.incoming if label in body]
-            steps = {form_of(definitions, v, lambda r, x: x is phi) - Form.of(phi.result) for v in back}
-            step = steps.pop() if len(steps) == 1 else Form()
-            if step.is_constant and step.constant and all(v in definitions and definitions[v][0].nsw for v in back):
-                for name in body:
-                    signed_exit(f, definitions, f.blocks[name], body, [phi.result, *back], step.constant > 0)
-
-
-def signed_exit(f: Function, definitions: dict, block: Block, body: set[str], counter: list, is_up: bool) -> None:
-    end = block.end
-    compare = definitions.get(end.args[0], (None,))[0] if end.op == "cbr" else None
-    if compare is None or compare.predicate not in ("eq", "ne") or compare.args[0] not in counter:
-        return
-    leaves = [target not in body for target in end.targets]
-    bound = definitions.get(compare.args[1], (None, ""))[1]
-    if sum(leaves) == 1 and bound not in body and (compare.predicate == "ne") == leaves[1]:
-        compare.predicate = {"ne": "slt" if is_up else "sgt", "eq": "sge" if is_up else "sle"}[compare.predicate]
+            steps = set(ranges.steps(phi, body))
+            step = steps.pop() if len(steps) == 1 else None
+            is_counter = step is not None and step.is_constant and step.constant != 0
+            if not is_counter or not all(v in ranges.definitions and ranges.maker(v).nsw for v in back):
+                continue
+            signed = {"ne": "slt", "eq": "sge"} if step.constant > 0 else {"ne": "sgt", "eq": "sle"}
+            for end in [f.blocks[name].end for name in body if f.blocks[name].end.op == "cbr"]:
+                compare = ranges.maker(end.args[0])
+                goes_on = [target in body for target in end.targets]
+                if compare and compare.args[0] in (phi.result, *back) and ranges.home(compare.args[1]) not in body:
+                    if goes_on == [compare.predicate == "ne", compare.predicate == "eq"]:
+                        compare.predicate = signed[compare.predicate]
 
 
 def plain_operands(f: Function, x: Instruction) -> None:
     """Numbers stand second; a shift's count needs no mask; products and divisions in place of shifts."""
-    definitions = f.definitions() if x.op in ("shl", "lshr", "ashr") else {}
-    if x.op in ("shl", "lshr", "ashr") and x.args[1] in definitions:
-        mask = definitions[x.args[1]][0]
-        if mask.op == "and" and mask.args[1] == 0xffffffff:
+    if x.op in ("shl", "lshr", "ashr"):
+        mask = f.definitions().get(x.args[1], (x,))[0]
+        if mask.op == "and" and mask.args[1] == 0xFFFFFFFF:
             x.args[1] = mask.args[0]
-    count = x.args[1] if x.op in ("shl", "ashr") else 0
-    if isinstance(count, int) and 0 < count < 20 and isinstance(x.args[0], str):
+    x.nsw = x.nsw and (x.op not in FACTLESS or x.op == "shl")
+    value, count = x.args if x.op in ("shl", "ashr") else ("", 0)
+    if isinstance(count, int) and 0 < count < 20 and isinstance(value, str):
         if x.op == "shl" and x.nsw:
-            x.fallbacks = [[(x, {"op": "shl", "args": [x.args[0], count], "nsw": False})]]
-            x.op, x.args = "mul", [x.args[0], 1 << count]
+            x.nsw = False
+            offer(f, x, f"{x.result} = mul nsw i64 {value}, {1 << count}", text_of(x))
         elif x.op == "ashr":
-            x.fallbacks = [[(x, {"op": "ashr", "args": [x.args[0], count], "tried": []})]]
-            x.op, x.args, x.tried = "sdiv", [x.args[0], 1 << count], [f"shows {x.args[0]} >= 0"]
+            offer(f, x, f"shows {value} >= 0; {x.result} = sdiv i64 {value}, {1 << count}", text_of(x))
     x.nsw = x.nsw and x.op not in FACTLESS
     if x.op in ("and", "add", "mul", "or", "xor") and not isinstance(x.args[0], str):
         x.args.reverse()
@@ -103,74 +127,54 @@ def distribute(f: Function) -> None:
     """(x + c) * d is x * d + c * d: forms have no brackets, and x * d may be there already."""
     definitions = f.definitions()
     for block in f.blocks.values():
-        for x in list(block.body):
-            if x.op != "mul" or isinstance(x.args[1], str) or x.args[0] not in definitions:
-                continue
+        for x in [x for x in block.body if x.op == "mul" and isinstance(x.args[1], int) and x.args[0] in definitions]:
             y, factor = definitions[x.args[0]][0], x.args[1]
-            if y.op not in ("add", "sub") or isinstance(y.args[1], str) or not isinstance(y.args[0], str) or abs(y.args[1] * factor) > MOST:
+            if y.op not in ("add", "sub") or isinstance(y.args[1], str) or abs(y.args[1] * factor) > MOST:
                 continue
-            at = block.body.index(x)
-            row = next((z for z in block.body[:at] if z.op == "mul" and z.args == [y.args[0], factor]), None)
+            earlier = itertools.takewhile(lambda z: z is not x, block.body)
+            row = next((z for z in earlier if z.op == "mul" and z.args == [y.args[0], factor]), None)
             if row is None:
-                row = Instruction("mul", f.fresh("row"), "i64", [y.args[0], factor], x.place, nsw=x.nsw)
-                block.body.insert(at, row)
-            x.op, x.args, x.fallbacks, x.nsw = y.op, [row.result, y.args[1] * factor], [], x.nsw and row.nsw and y.nsw
+                row = f.make("mul", y.args[0], factor, place=x.place, hint="row", nsw=x.nsw)
+                block.body.insert(block.body.index(x), row)
+            x.op, x.args, x.forms, x.nsw = y.op, [row.result, y.args[1] * factor], [], x.nsw and row.nsw and y.nsw
 
 
 def unbounded(f: Function) -> set[str]:
     """What comes from memory or from products has no bound."""
-    found, grown = set(), True
-    while grown:
-        grown = False
+    found, before = set(), -1
+    while len(found) > before:
+        before = len(found)
         for x in f.instructions():
-            if not x.result or x.result in found:
-                continue
-            taken = any(v in found for v in x.uses())
-            if x.op == "load" or (x.op == "mul" and all(isinstance(v, str) for v in x.args)) or x.op in ("xor", "or", "shl", "lshr") or \
-                    (taken and (x.op in BINARY - {"and", "srem"} or x.op in CONVERSIONS or x.op == "phi")):
+            is_product = x.op == "mul" and all(isinstance(v, str) for v in x.args)
+            passes_on = x.op in BINARY - {"and", "srem"} | CONVERSIONS | {"phi"} and found & set(x.uses())
+            if x.op in ("load", "xor", "or", "shl", "lshr") or is_product or passes_on:
                 found.add(x.result)
-                grown = True
     return found
 
 
 def try_facts(f: Function) -> None:
-    """Compares and overflow that give facts. `nsw` stays where clang has it and its operands may have bounds; == and != are tried as <= and >=."""
+    """Compares and overflow that give facts. `nsw` stays where clang has it and its operands may have bounds. Where one
+    order of the two is shown, == and != are <= or >=, which give facts on both edges."""
     strange = unbounded(f)
     for block in f.blocks.values():
-        for x in block.body:
-            taken = any(v in strange for v in x.args)
-            if x.op == "icmp" and x.predicate in ("eq", "ne") and block.end.op == "cbr" and block.end.args[0] == x.result and not taken:
-                try_order(x)
-            if x.op in ("add", "sub", "mul") and x.nsw:
-                if (x.result in strange or taken) and (x.op == "mul" or isinstance(x.args[1], str)):
-                    x.nsw = x.fall_back() and x.nsw
-                elif not x.fallbacks:
-                    x.fallbacks = [[(x, {"nsw": False})]]
-
-
-def try_order(x: Instruction) -> None:
-    """Where one order of the two is shown, == and != are <= or >=, which give facts on both edges."""
-    old = x.predicate
-
-    def attempt(at_least: str, less: str, relation: str) -> list:
-        return [(x, {"predicate": at_least if old == "eq" else less, "tried": [f"shows {x.args[0]} {relation} {x.args[1]}"]})]
-    x.fallbacks = [attempt("sle", "sgt", ">="), attempt("sge", "slt", "<="), [(x, {"predicate": old, "tried": []})]]
-    x.fall_back()
+        for x in list(block.body):
+            is_strange = bool(strange & set(x.args))
+            if x.op == "icmp" and x.predicate in ("eq", "ne") and [x.result] == block.end.args and not is_strange:
+                a, b = x.args
+                at_least, less = ("sle", "sge") if x.predicate == "eq" else ("sgt", "slt")
+                offer(f, x, f"shows {a} >= {b}; {x.result} = icmp {at_least} i64 {a}, {b}",
+                      f"shows {a} <= {b}; {x.result} = icmp {less} i64 {a}, {b}", text_of(x))  # fmt: skip
+            elif x.op in ("add", "sub", "mul") and x.nsw and (is_strange or x.result in strange):
+                if x.op == "mul" or isinstance(x.args[1], str):
+                    fall_back(f, x)
 
 
 def middles(f: Function) -> None:
     """(a + b) / 2 is a + (b - a) / 2 where a <= b and 0 <= a + b: of the latter it is known that it lies between."""
-    for block in f.blocks.values():
-        definitions = f.definitions()
-        for x in list(block.body):
-            total = definitions.get(x.args[0], (None,))[0] if x.op == "sdiv" and x.args[1] == 2 else None
-            if total is None or total.op != "add" or not all(isinstance(v, str) for v in total.args):
-                continue
-            low, high = total.args
-            size = Instruction("sub", f.fresh("size"), "i64", [high, low], x.place, nsw=True)
-            size.tried = [f"shows {low} <= {high}", f"shows {Form({low: 1}) + Form({high: 1})} >= 0"]
-            half = Instruction("sdiv", f.fresh("half"), "i64", [size.result, 2], x.place)
-            at = block.body.index(x)
-            block.body[at:at] = [size, half]
-            size.fallbacks = [[(size, {"tried": []}), (x, {"op": "sdiv", "args": [total.result, 2], "nsw": False})]]
-            x.op, x.args, x.nsw = "add", [low, half.result], True
+    definitions = f.definitions()
+    for x in [x for x in f.instructions() if x.op == "sdiv" and x.args[1] == 2]:
+        total = definitions.get(x.args[0], (x,))[0]
+        if total.op == "add" and all(isinstance(v, str) for v in total.args):
+            a, b = total.args
+            offer(f, x, f"shows {a} <= {b}; shows {a}+{b} >= 0; %.size = sub nsw i64 {b}, {a}; "
+                  f"%.half = sdiv i64 %.size, 2; {x.result} = add nsw i64 {a}, %.half", text_of(x))  # fmt: skip
