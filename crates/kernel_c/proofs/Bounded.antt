@@ -1,6 +1,6 @@
 -- An effort that is bounded, and one that is not.
-use Rattle.std.proofs.Common.{◌≡◌, ◌∙◌, ℕ, Bool, Option, Some, None, true, false, ap, refl, subst, sym}
-use Rattle.std.specs.Prelude.{◌≢◌, ◌==◌, if◌then◌else◌, IsSome}
+use Rattle.std.proofs.Common.{◌≡◌, ℕ, Bool, Option, Some, None, true, false, ap, refl, subst, sym}
+use Rattle.std.specs.Prelude.{◌≢◌, if◌then◌else◌, IsSome}
 use Rattle.std.proofs.lemmas.Bool.{ne_eqb}
 use Rattle.kernel_c.specs.Told.{granted_by, unbounded}
 

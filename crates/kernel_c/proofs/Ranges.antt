@@ -1,5 +1,5 @@
 -- What requirements set of one argument.
-use Rattle.std.proofs.Common.{◌≡◌, ◌∙◌, ◌<◌, ◌-ℤ◌, ◌⊎◌, [], pos, unwrap_or, length, get_or, refl, arith, inl, inr, Bool, true, ℕ, ℤ, List, Option, Some, None, is_some, slice_get, subst, sym}
+use Rattle.std.proofs.Common.{◌≡◌, ◌-ℤ◌, ◌⊎◌, [], pos, unwrap_or, length, get_or, refl, arith, inl, inr, true, ℕ, ℤ, List, Option, Some, None, is_some, slice_get, subst, sym}
 use Rattle.std.specs.Prelude.{IfSome}
 use Rattle.std.proofs.lemmas.Option.{slice_get_read}
 use Rattle.linear.specs.Forms.{Combination}

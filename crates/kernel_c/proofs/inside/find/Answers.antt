@@ -1,4 +1,4 @@
-use Rattle.std.proofs.Common.{◌≡◌, ◌∙◌, ◌<◌, ◌+◌, List, ℕ, Some, slice_get, true, false, ap, sym, arith, refl}
+use Rattle.std.proofs.Common.{◌≡◌, ◌∙◌, true, false, ap, sym, arith, refl}
 use Rattle.std.proofs.lemmas.Bool.Decides.{Decides-eqb}
 use Rattle.std.proofs.lemmas.Option.{slice_get_read}
 use Rattle.std.proofs.lemmas.Slice.Eq.{slice_eq-Decides}

@@ -1,8 +1,7 @@
 use Rattle.std.proofs.Common.{rules, ◌≡◌, ◌∙◌, ◌<◌, List, length, ap, arith, subst, sym}
-use Rattle.std.specs.Prelude.{sum}
 use Rattle.store.specs.Cells.{NamedCells}
 use Rattle.store.specs.Made.{HasGlobalCells, IsMadeFor}
-use Rattle.kernel_c.specs.Told.{cells_in, sizes_in}
+use Rattle.kernel_c.specs.Told.{cells_in}
 use Rattle.kernel_c.proofs.Counting.{as_many, filled_cells, filled_made}
 use Rattle.kernel_c.proofs.serial.filled.Goals as goal
 

@@ -1,4 +1,4 @@
-use Rattle.std.proofs.Common.{◌≡◌, ◌∙◌, List, length, ap, sym, ℤ}
+use Rattle.std.proofs.Common.{◌∙◌, List, length, ap, sym, ℤ}
 use Rattle.serial_machine.proofs.Held.{row_long}
 use Rattle.kernel_c.proofs.serial.finish.Goals as goal
 

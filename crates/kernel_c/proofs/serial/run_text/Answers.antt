@@ -1,4 +1,4 @@
-use Rattle.std.proofs.Common.{◌≡◌, sym, subst, ℕ}
+use Rattle.std.proofs.Common.{◌≡◌, subst, ℕ}
 use Rattle.kernel_c.specs.Told.{granted_by, out_of_effort, refused}
 use Rattle.kernel_c.proofs.Bounded.{bounded_is}
 use Rattle.kernel_c.proofs.serial.run_text.Goals as goal

@@ -1,4 +1,4 @@
-use Rattle.std.proofs.Common.{◌≡◌, Option, ℕ, subst}
+use Rattle.std.proofs.Common.{Option, ℕ, subst}
 use Rattle.std.specs.Prelude.{IsSome}
 use Rattle.kernel_c.proofs.Bounded.{bounded_is}
 use Rattle.kernel_c.proofs.words.reasons.Goals as goal
