@@ -208,7 +208,7 @@ uint32_t tapirvm_worker_open(struct tapirvm_board *board, uint8_t number, struct
 /* Under the host's lock: does at the board what the worker wants. It needs no memory for the handles.
  * TAPIRVM_WORK: tapirvm_turn is next, then this again. _IDLE: there is no task for it now. _DONE: the run has ended. _STOPPED: the stop is set, and
  * nothing was done. _OUT_OF_FUEL: as many instructions are on the board as the fuel allows, and nobody begins more; those of the one meeting that came
- * to the fuel may pass it, by 66,000 at most. A run that does no more than its fuel never comes to it. _OUT_OF_MEMORY: the run cannot go on, for any
+ * to the fuel may pass it, by 67,000 at most. A run that does no more than its fuel never comes to it. _OUT_OF_MEMORY: the run cannot go on, for any
  * worker. _CLOSED: one of the handles holds nothing. _FOREIGN. `offered` says how many tasks others may take now. */
 uint32_t tapirvm_meet(struct tapirvm_board *board, struct tapirvm_worker *worker, size_t *offered);
 
