@@ -164,6 +164,10 @@ def stops():
         raised(TimedOut, kernel.run, LONG, workers=workers, fuel=None, timeout=0.05)
         assert time.monotonic() - begun < 5
     assert is_soon(interrupt, rows, KeyboardInterrupt), "Ctrl-C in rows"
+    stop = Stop()
+    signal.signal(signal.SIGTERM, lambda *_: stop.set())
+    ended = lambda: os.kill(os.getpid(), signal.SIGTERM)
+    assert is_soon(ended, lambda: stop.clear() or kernel.run(LONG, workers=2, fuel=None, stop=stop), Stopped), "a handler that sets a stop"
     assert isinstance(kernel.rows([LONG, [1]], [], fuel=None, timeout=0.05)[0], TimedOut)
     raised(OutOfFuel, kernel.run, LONG, fuel=5_000_000)
     raised(OutOfFuel, kernel.run, LONG, fuel=5_000_000, workers=4)

@@ -193,7 +193,7 @@ class Kernel:
         sequences a copy is. Where none are passed, they are the kernel's own. At any exception they are as they were. (But Ctrl-C may come when the run
         has just ended.)
 
-        `fuel` is the most instructions that it may do, or None for as many as it takes. On threads it may do 66,000 more. `timeout` is in seconds. Ctrl-C
+        `fuel` is the most instructions that it may do, or None for as many as it takes. On threads it may do 67,000 more. `timeout` is in seconds. Ctrl-C
         ends a run within a tenth of a second, and so does a `stop` that another thread sets.
 
         Raises BadArguments, OtherCells, OutOfFuel, TimedOut, Stopped, NoMemory or Closed. And before anything is called: OverflowError for a number

@@ -20,7 +20,8 @@ class Word:
     """The stop of one run: `handle` is for the run, and `set` for all other threads."""
 
     def __init__(self) -> None:
-        self.handle, self._own, self._lock = Handle(), Handle(), threading.Lock()
+        # (A handler of a signal may set it while its thread does.)
+        self.handle, self._own, self._lock = Handle(), Handle(), threading.RLock()
         status = library.tapirvm_stop_open(ctypes.byref(self._own))
         status = status or library.tapirvm_stop_share(ctypes.byref(self._own), ctypes.byref(self.handle))
         if status != DONE:
@@ -62,7 +63,7 @@ def held(lock: threading.Lock, word: Word | None = None) -> Iterator[None]:
 
 
 class Stop:
-    """Stops runs from another thread: those that it is passed to, now and later, until it is cleared.
+    """Stops runs from another thread, or from a handler of a signal: those that it is passed to, now and later, until it is cleared.
 
     >>> from tapirvm import EXAMPLE, Kernel, Stop, Stopped
     >>> kernel, stop = Kernel(EXAMPLE), Stop()
@@ -78,7 +79,7 @@ class Stop:
     """
 
     def __init__(self) -> None:
-        self._lock, self._is_set = threading.Lock(), False
+        self._lock, self._is_set = threading.RLock(), False
         self._words: set[Word] = set()
 
     def set(self) -> None:
