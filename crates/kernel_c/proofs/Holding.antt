@@ -1,5 +1,5 @@
 -- What is told of a program that a handle holds.
-use Rattle.std.proofs.Common.{◌≡◌, ◌∙◌, ℕ, Option, Some, None, ap, length, subst, sym}
+use Rattle.std.proofs.Common.{◌≡◌, ◌∙◌, ◌≤◌, ℕ, Option, Some, None, ap, arith, length, subst, sym}
 use Rattle.program.specs.declared.function.Function.{Function}
 use Rattle.program.specs.declared.function.Program.{Program}
 use Rattle.kernel_c.specs.Inside.{AreAtMost, HasFrames, arguments_in, globals_in, parameters_in}
@@ -27,3 +27,9 @@ parameters_held found main count is all = all ∙ sym (ap (λ (o : Option Functi
 
 pub parameters_none : (found : Option Function) → found ≡ None → 0 ≡ parameters_in found
 parameters_none found is = sym (ap (λ (o : Option Function). parameters_in o) is)
+
+pub parameters_few : (found : Option Function) (main : Function) (number : ℕ) → found ≡ Some main → length main.parameters ≤ number → parameters_in found ≤ number
+parameters_few found main number is few = subst (λ (o : Option Function). parameters_in o ≤ number) (sym is) few
+
+pub parameters_lacking : (found : Option Function) (number : ℕ) → found ≡ None → parameters_in found ≤ number
+parameters_lacking found number is = subst (λ (o : Option Function). parameters_in o ≤ number) (sym is) (omega arith)

@@ -1,9 +1,10 @@
 //! What `requires` says of one argument of `main`, and its name.
 
-ghost use Rattle.std.specs.Prelude.{◌≡◌, ◌≢◌, ◌⊎◌, IfSome, None, Some, true};
+ghost use Rattle.std.specs.Prelude.{◌≡◌, ◌≢◌, ◌⊎◌, ◌≤◌, IfNone, IfSome, None, Some, true};
 ghost use Rattle.kernel_c.specs.Held.{OfHeld, closed};
-ghost use Rattle.kernel_c.specs.Inside.{HasNoBound, IsArgumentRange, IsBound, IsFoundStatus, IsRangeOf, SetsHigh, SetsLow};
+ghost use Rattle.kernel_c.specs.Inside.{HasNoBound, IsArgumentRange, IsBound, IsFoundStatus, IsRangeOf, SetsHigh, SetsLow, arguments_in};
 ghost use Rattle.kernel_c.specs.Told.{done};
+ghost use Rattle.kernel_c.specs.Words.{not_found};
 
 use crate::handle::Handle;
 use crate::prepared::Prepared;
@@ -113,8 +114,10 @@ fn range_of(number: usize, requirements: &[Inequality]) -> Range
 }
 
 /// What is said of the argument of this number, where there is one.
+#[tactic(auto, using(crate::proofs::Holding::parameters_few, crate::proofs::Holding::parameters_lacking))]
 fn argument_range(program: &Program, number: usize) -> Option<Range>
-    ensures { IfSome result (IsArgumentRange program.now number) }
+    ensures range { IfSome result (IsArgumentRange program.now number) }
+    ensures none { IfNone result (arguments_in (Some program.now) ≤ number) }
 {
     let main = program.functions.as_slice().get(program.main.0)?;
     if main.parameters.len() <= number {
@@ -141,6 +144,7 @@ pub extern "C" fn tapirvm_argument_at(
     range: &mut Range,
 ) -> u32
     ensures found { result ≡ done → OfHeld handle.old.kernel.program (λ p. IsArgumentRange p number range.new) }
+    ensures lacks { result ≡ not_found → OfHeld handle.old.kernel.program (λ p. arguments_in (Some p) ≤ number) }
     ensures none { result ≢ done → HasNoBound range.new × (needed.new ≡ 0) × (out.new ≡ out.old) }
     ensures closed { result ≡ closed → handle.old.kernel.program ≡ None }
     ensures same { handle.new.kernel.program ≡ handle.old.kernel.program }
