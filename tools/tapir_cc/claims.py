@@ -55,7 +55,7 @@ class Claims:
                 break
 
     def apply(self) -> None:
-        f, task = self.f, tasks_of(self.f)
+        f, tasks = self.f, tasks_of(self.f)
         f.said = {register: tuple(bounds) for register, bounds in self.ranges.said.items()}
         for block in f.blocks.values():
             waiting: list[str] = []  # `shows` lines for the next instruction that is not about claims
@@ -64,7 +64,8 @@ class Claims:
                 if x.op == "claim":
                     waiting += self.claim(x, block)
                 elif x.callee.startswith("@__tapir_"):
-                    self.call(x, task.get(block.name))
+                    detach = tasks[block.name]
+                    self.call(x, f.blocks[detach].end.targets[0] if detach else None)
                 else:
                     if x.op not in BINARY | {"icmp", "sext"} or x.result not in self.for_claims:
                         x.shows, waiting = waiting + x.shows, []

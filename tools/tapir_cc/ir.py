@@ -129,7 +129,7 @@ class Function:
     wanted: list[tuple[str, Form, Place]] = field(default_factory=list)  # at a loop's head a form is 0 or more, said so
     guesses: list[tuple[str, Form, Place]] = field(default_factory=list)  # where a block begins a form is 0 or more
     said: dict[str, tuple] = field(default_factory=dict)  # register -> bounds that claims say
-    given: dict[Optional[str], list[Zone]] = field(default_factory=dict)  # the author's zones, by task
+    given: dict[Optional[str], list[Zone]] = field(default_factory=dict)  # the author's zones, by a child's first block
     zones: list[Zone] = field(default_factory=list)
     feet: dict[str, list[Zone]] = field(default_factory=dict)  # a child's first block -> its zones
     whole: set[tuple[str, str]] = field(default_factory=set)  # objects with modes ('' for all) taken as the whole

@@ -25,17 +25,17 @@ halves:
   %halves.child = call i1 @__tapir_detach()
   br i1 %halves.child, label %halves.left, label %halves.right
 halves.left:
-  call void SELF(FREEi64 %halves.lo, i64 %halves.mid, i64 %halves.less)
+  call void {name}({free}i64 %halves.lo, i64 %halves.mid, i64 %halves.less)
   br label %halves.right
 halves.right:
-  call void SELF(FREEi64 %halves.mid, i64 %halves.hi, i64 %halves.less)
+  call void {name}({free}i64 %halves.mid, i64 %halves.hi, i64 %halves.less)
   ret void
 halves.head:
-  COUNTER = phi i64 [ %halves.lo, %entry ], [ %halves.next, %halves.latch ]
-  %halves.more = icmp slt i64 COUNTER, %halves.hi
-  br i1 %halves.more, label CHILD, label %halves.done
+  {counter} = phi i64 [ %halves.lo, %entry ], [ %halves.next, %halves.latch ]
+  %halves.more = icmp slt i64 {counter}, %halves.hi
+  br i1 %halves.more, label %{child}, label %halves.done
 halves.latch:
-  %halves.next = add nsw i64 COUNTER, 1
+  %halves.next = add nsw i64 {counter}, 1
   br label %halves.head
 halves.done:
   ret void"""
@@ -148,9 +148,9 @@ class Halving:
         part = Part(f, blocks_of_child(f, self.detach), self.place, self.counter, [self.low, self.high])
         self.require(part.is_small)
         free = "".join(f"{p.type} {p.name}, " for p in part.parameters)
-        text = HALVES.replace("SELF", name).replace("FREE", free).replace("COUNTER", self.counter)
+        text = HALVES.format(name=name, free=free, counter=self.counter, child=self.child)
         more = ["%halves.lo", "%halves.hi", "%halves.depth"]
-        g = part.function(name, more, text.replace("CHILD", "%" + self.child))
+        g = part.function(name, more, text)
         deepest = self.add_claims(g, *map(Form.of, more))
         part.move(g, self.latch.name, Instruction("br", targets=["halves.latch"]))
         make_children(g)

@@ -90,6 +90,11 @@ class Ranges:
         back = [value for value, label in phi.incoming if label in body]
         return [self.form(value, lambda r, y: y is phi) - Form.of(phi.result) for value in back]
 
+    def step(self, phi: Instruction, body: set[str]) -> int:
+        """What each round adds, where it is always the same number; else 0."""
+        steps = set(self.steps(phi, body))
+        return sum(s.constant for s in steps) if len(steps) == 1 and all(s.is_constant for s in steps) else 0
+
     def start(self, phi: Instruction, body: set[str]) -> list:
         return [value for value, label in phi.incoming if label not in body]
 

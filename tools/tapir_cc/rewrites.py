@@ -1,21 +1,18 @@
 """Rewrites that give facts. In and out: a function whose meaning stays. Where a rewrite means the same only if
 something holds, it is tried under a `shows` line for that, and has forms to fall back to: the judge takes the next
 where the line is refused."""
-import itertools
 
 from .children import tasks_of
-from .clean import clean
 from .ir import BINARY, CONVERSIONS, Function, Graph, Instruction
 from .llvm_text import made_of
 from .ranges import Ranges
 
 FACTLESS = {"shl", "lshr", "ashr", "sdiv", "srem", "udiv", "urem", "and", "or", "xor"}
-MOST = 1 << 40  # factors beyond are left alone
 
 
 def offer(f: Function, x: Instruction, *forms: str) -> None:
     """Puts the first form in an instruction's place; the others come in turn, where it is refused. A form is a number,
-    or instructions divided by `;`, each behind the lines that it rests on. `%.half` is a register of this form."""
+    or a text for `made_of`."""
     form, *rest = forms
     block = f.block_of(x)
     if form.isdigit():
@@ -56,7 +53,6 @@ def rewrite(f: Function) -> None:
     signed_exits(f)
     for x in [x for block in f.blocks.values() for x in block.body]:
         plain_operands(f, x)
-    distribute(f)
 
 
 def hoist_one(f: Function) -> bool:
@@ -90,12 +86,10 @@ def signed_exits(f: Function) -> None:
     for head, body in ranges.graph.loops.items():
         for phi in f.blocks[head].phis:
             back = [value for value, label in phi.incoming if label in body]
-            steps = set(ranges.steps(phi, body))
-            step = steps.pop() if len(steps) == 1 else None
-            is_counter = step is not None and step.is_constant and step.constant != 0
-            if not is_counter or not all(v in ranges.definitions and ranges.maker(v).nsw for v in back):
+            step = ranges.step(phi, body)
+            if not step or not all(ranges.maker(v).nsw for v in back):
                 continue
-            signed = {"ne": "slt", "eq": "sge"} if step.constant > 0 else {"ne": "sgt", "eq": "sle"}
+            signed = {"ne": "slt", "eq": "sge"} if step > 0 else {"ne": "sgt", "eq": "sle"}
             for end in [f.blocks[name].end for name in body if f.blocks[name].end.op == "cbr"]:
                 compare = ranges.maker(end.args[0])
                 goes_on = [target in body for target in end.targets]
@@ -123,22 +117,6 @@ def plain_operands(f: Function, x: Instruction) -> None:
         x.args.reverse()
 
 
-def distribute(f: Function) -> None:
-    """(x + c) * d is x * d + c * d: forms have no brackets, and x * d may be there already."""
-    definitions = f.definitions()
-    for block in f.blocks.values():
-        for x in [x for x in block.body if x.op == "mul" and isinstance(x.args[1], int) and x.args[0] in definitions]:
-            y, factor = definitions[x.args[0]][0], x.args[1]
-            if y.op not in ("add", "sub") or isinstance(y.args[1], str) or abs(y.args[1] * factor) > MOST:
-                continue
-            earlier = itertools.takewhile(lambda z: z is not x, block.body)
-            row = next((z for z in earlier if z.op == "mul" and z.args == [y.args[0], factor]), None)
-            if row is None:
-                row = f.make("mul", y.args[0], factor, place=x.place, hint="row", nsw=x.nsw)
-                block.body.insert(block.body.index(x), row)
-            x.op, x.args, x.forms, x.nsw = y.op, [row.result, y.args[1] * factor], [], x.nsw and row.nsw and y.nsw
-
-
 def unbounded(f: Function) -> set[str]:
     """What comes from memory or from products has no bound."""
     found, before = set(), -1
@@ -159,14 +137,14 @@ def try_facts(f: Function) -> None:
     for block in f.blocks.values():
         for x in list(block.body):
             is_strange = bool(strange & set(x.args))
-            if x.op == "icmp" and x.predicate in ("eq", "ne") and [x.result] == block.end.args and not is_strange:
+            if x.predicate in ("eq", "ne") and [x.result] == block.end.args and not is_strange:
                 a, b = x.args
-                at_least, less = ("sle", "sge") if x.predicate == "eq" else ("sgt", "slt")
-                offer(f, x, f"shows {a} >= {b}; {x.result} = icmp {at_least} i64 {a}, {b}",
-                      f"shows {a} <= {b}; {x.result} = icmp {less} i64 {a}, {b}", text_of(x))  # fmt: skip
-            elif x.op in ("add", "sub", "mul") and x.nsw and (is_strange or x.result in strange):
-                if x.op == "mul" or isinstance(x.args[1], str):
-                    fall_back(f, x)
+                at_least, at_most = ("sle", "sge") if x.predicate == "eq" else ("sgt", "slt")
+                up = f"shows {a} >= {b}; {x.result} = icmp {at_least} i64 {a}, {b}"
+                down = f"shows {a} <= {b}; {x.result} = icmp {at_most} i64 {a}, {b}"
+                offer(f, x, up, down, text_of(x))
+            elif x.nsw and (is_strange or x.result in strange) and (x.op == "mul" or isinstance(x.args[1], str)):
+                fall_back(f, x)
 
 
 def middles(f: Function) -> None:

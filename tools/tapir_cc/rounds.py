@@ -89,8 +89,7 @@ class Loop:
         inner = self.inner(gap) if gap else []
         if len(inner) != 1 or self.ranges.home(inner[0]) != self.head.name:
             return False
-        steps = set(self.ranges.steps(self.ranges.maker(inner[0]), self.body))
-        return len(steps) == 1 and all(s.is_constant and s.constant * -gap.terms[inner[0]] > 0 for s in steps)
+        return self.ranges.step(self.ranges.maker(inner[0]), self.body) * gap.terms[inner[0]] < 0
 
     def test_first(self, compare: Instruction, exit: str, last: Block) -> bool:
         """Puts a compare before all that the head does; where it fails the loop ends as behind the last block. Not if
@@ -172,7 +171,7 @@ class Loop:
         for grown in [r for r in inner if gap.terms[r] == 1]:
             counter = next(r for r in inner if r != grown)
             tests, phi = tests_of(f, web_of(ranges, ranges.maker(grown))), ranges.maker(counter)
-            if not tests or gap.terms[counter] != -1 or set(ranges.steps(phi, self.body)) != {Form(constant=1)}:
+            if not tests or gap.terms[counter] != -1 or ranges.step(phi, self.body) != 1:
                 continue
             most, place = tests[0], head.end.place
             bound = most + gap.constant + 1
@@ -196,7 +195,7 @@ def guess_counters(f: Function) -> None:
     for head, body in ranges.graph.loops.items():
         phis = [phi for phi in f.blocks[head].phis if len(ranges.start(phi, body)) == 1]
         risen = {phi.result: Form.of(phi.result) - ranges.form(ranges.start(phi, body)[0]) for phi in phis}
-        counters = [phi for phi in phis if set(ranges.steps(phi, body)) == {Form(constant=1)}]
+        counters = [phi for phi in phis if ranges.step(phi, body) == 1]
         for phi in [phi for phi in phis if phi not in counters]:
             web, own = web_of(ranges, phi), risen[phi.result]
             f.guesses.append((head, own, phi.place))

@@ -30,7 +30,7 @@ class Zones:
             inside = {name for name in f.blocks if graph.dominates(first, name)}
             outside = {r: home for r, (_, home) in definitions.items() if home not in inside}
             known = {r for r, home in outside.items() if graph.dominates(home, block.name)}
-            f.feet[first] = self.collect(block.name, inside, self.ranges.parameters | known)
+            f.feet[first] = self.collect(first, inside, self.ranges.parameters | known)
         f.measure = f.measure or self.measure()
 
     def collect(self, task: Optional[str], blocks: Iterable[str], allowed: set[str]) -> list[Zone]:
