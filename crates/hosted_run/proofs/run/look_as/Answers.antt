@@ -10,8 +10,8 @@ returns-clause-progress g c =
     let m : Machine = reached o events in
     let b = c.wake-board.result.0 in
     progress_here c.end-ended.result c.instructions-instructions.result c.peak-peak.result c.progress_of-progress.result m c.progress_of-progress.ensures
-      (ended_here b.start o b.events events c.end-ended.result c.end-ended.ensures c.machine.ensures.start c.rest.ensures.events)
-      (c.instructions-instructions.ensures m
-        (stands b.start o b.events events b.stage c.machine.result.now.stage c.machine.ensures.legal c.machine.ensures.start c.rest.ensures.events c.machine.ensures.stage))
-      (c.peak-peak.ensures m
-        (stands b.start o b.events events b.stage c.machine-2.result.now.stage c.machine-2.ensures.legal c.machine-2.ensures.start c.rest.ensures.events c.machine-2.ensures.stage))
+    (ended_here b.start o b.events events c.end-ended.result c.end-ended.ensures c.machine.ensures.start c.rest.ensures.events)
+    (c.instructions-instructions.ensures m
+    (stands b.start o b.events events b.stage c.machine.result.now.stage c.machine.ensures.legal c.machine.ensures.start c.rest.ensures.events c.machine.ensures.stage))
+    (c.peak-peak.ensures m
+    (stands b.start o b.events events b.stage c.machine-2.result.now.stage c.machine-2.ensures.legal c.machine-2.ensures.start c.rest.ensures.events c.machine-2.ensures.stage))
