@@ -1,6 +1,6 @@
 //! The verdict on a module that a request names.
 
-ghost use Rattle.std.specs.Prelude.{IfErr, IfOk, Option, ℕ};
+ghost use Rattle.std.specs.Prelude.{IfErr, IfOk};
 ghost use Rattle.cli_answers.specs.Granted.{granted_by};
 ghost use Rattle.cli_answers.specs.Undecided.{IsSpentWithin};
 ghost use Rattle.verifier.specs.Accepted.{IsProgramOf};
@@ -10,7 +10,7 @@ use crate::requests::effort_of;
 use cli_words::{Beside, Request};
 use std::alloc::{AllocError, Global};
 use std::hash::RandomState;
-use verifier::{Refused, Unverified, Verified, verify_within};
+use verifier::{Effort, Unverified, Verified, verify_within};
 
 /// A text as it is judged, and the verdict.
 #[derive(Drop)]
@@ -34,21 +34,41 @@ pub fn verdict_on(
 {
     let more = match judged_text(alloc, state, request, text, &effort_of(request)) {
         Ok(more) => more,
-        Err(refused) => return Ok(refused_at_once(alloc, refused)),
+        Err(refused) => {
+            return Ok(Verdict {
+                text: Vec::new(alloc),
+                answer: Err(Unverified::Refused(refused)),
+            });
+        }
     };
-    let answer = match verify_within(alloc, state, more.as_slice(), &effort_of(request)) {
-        Ok(verified) => Ok(verified),
-        Err(unverified) => Err(in_own_lines(alloc, text, more.as_slice(), unverified, beside)?),
-    };
+    let answer = judged(
+        alloc,
+        state,
+        &effort_of(request),
+        text,
+        more.as_slice(),
+        beside,
+    )?;
     Ok(Verdict { text: more, answer })
 }
 
-/// The verdict on a text that cannot be read.
-fn refused_at_once(alloc: Global, refused: Refused) -> Verdict
-    ensures spent { (effort : Option ℕ) → IfErr result.answer (IsSpentWithin effort) }
+/// The verdict on a text with more lines. A refusal names a line of the text without them.
+fn judged(
+    alloc: Global,
+    state: RandomState,
+    effort: &Effort,
+    text: &[u8],
+    more: &[u8],
+    beside: &mut Beside,
+) -> Result<Result<Verified, Unverified>, AllocError>
+    ensures accepted { IfOk result (λ answer. IfOk answer (IsProgramOf more.now)) }
+    ensures spent { IfOk result (λ answer. IfErr answer (IsSpentWithin effort.now)) }
 {
-    Verdict {
-        text: Vec::new(alloc),
-        answer: Err(Unverified::Refused(refused)),
+    match verify_within(alloc, state, more, effort) {
+        Ok(verified) => Ok(Ok(verified)),
+        Err(unverified) => {
+            let own = in_own_lines(alloc, text, more, unverified, beside)?;
+            Ok(Err(own))
+        }
     }
 }
