@@ -1,5 +1,5 @@
 -- A worker's tickets: a list in time, which three kinds of atomic step change.
-use Rattle.std.specs.Prelude.{◌≡◌, ◌≢◌, ℕ, ◌==◌, ◌+◌, ◌≤◌, ◌<◌, List, [], ◌∷◌, ◌++◌, Bool, length, sum_by, if◌then◌else◌}
+use Rattle.std.specs.Prelude.{◌≡◌, ◌≢◌, ℕ, ◌==◌, ◌+◌, ◌≤◌, ◌<◌, ◌⊎◌, true, false, List, [], ◌∷◌, ◌++◌, Bool, length, sum_by, if◌then◌else◌}
 use mathlib.Core.Option.{some}
 use lib.ListN.{get_elem?}
 use Rattle.shared_run.specs.schedule_core.declared.ready.Spot.{Spot as Ticket}
@@ -23,11 +23,15 @@ abbrev pub moves_of : ℕ → List Turn → List Move
 moves_of seat [] = []
 moves_of seat ((at, m) ∷ log) = if at == seat then m ∷ moves_of seat log else moves_of seat log
 
--- what a seat knows is its own steps, and whether it is the owner's
-abbrev pub FitsSeat : List Turn → ℕ → View → Type 0
-FitsSeat log seat v = (moves_of seat log ≡ v.moves) × (v.owns ≡ (seat == 0))
+-- the history was this once
+abbrev pub GoesOnFrom : List Turn → List Turn → Type 0
+GoesOnFrom log seen = (newer : List Turn) × (log ≡ newer ++ seen)
 
--- the rule: at each moment the tickets are what some order of all seats' steps leads to
+-- what a seat knows is its own steps, whether it is the owner's, and what the history was once
+abbrev pub FitsSeat : List Turn → ℕ → View → Type 0
+FitsSeat log seat v = (v.lives ≡ true → moves_of seat log ≡ v.moves) × (v.owns ≡ (seat == 0)) × GoesOnFrom log v.seen × GoesOnFrom log v.told
+
+-- the rule: the list has one history, of all seats' steps, and at each moment the tickets are what it leads to
 abbrev pub IsPlayed : List Ticket → List View → Type 0
 IsPlayed tickets views =
     (log : List Turn)
@@ -36,51 +40,73 @@ IsPlayed tickets views =
     × ((seat : ℕ) → length views ≤ seat → moves_of seat log ≡ [])
     × (0 < length views)
 
--- some order of steps, of which just these are a seat's, leads to these tickets; whether others took these steps is not said
-pub record IsMoment (moves : List Move) (tickets : List Ticket) : Type 0 where
-  pub log : List Turn
+-- a seat that had made and seen this makes a step more: what it sees then goes on from that by steps of others and this one, has no other steps of the seat,
+-- and leads to some tickets
+pub record Goes (moves : List Move) (seen : List Turn) (m : Move) (now : List Turn) : Type 0 where
   pub seat : ℕ
-  pub leads : Leads log tickets
-  pub own : moves_of seat log ≡ moves
+  pub others : List Turn
+  pub last : now ≡ (seat, m) ∷ (others ++ seen)
+  pub own : moves_of seat now ≡ m ∷ moves
+  pub tickets : List Ticket
+  pub leads : Leads now tickets
 
--- there is such an order
-abbrev pub Happened : List Move → Type 0
-Happened moves = (tickets : List Ticket) × IsMoment moves tickets
-
--- there is one that leads to so many tickets at most
-abbrev pub HadFew : ℕ → List Move → Type 0
-HadFew most moves = (tickets : List Ticket) × IsMoment moves tickets × (length tickets ≤ most)
+-- steps of others, after what a seat has seen, lead to so many tickets at most. Others may take all that is there, so this does not say that they did
+pub record MayHaveFew (most : ℕ) (moves : List Move) (seen : List Turn) : Type 0 where
+  pub seat : ℕ
+  pub others : List Turn
+  pub own : moves_of seat (others ++ seen) ≡ moves
+  pub tickets : List Ticket
+  pub leads : Leads (others ++ seen) tickets
+  pub few : length tickets ≤ most
 
 -- ---- what a step adds to what its seat knows
 
-abbrev pub view_of : Bool → List Move → View
-view_of owns moves = record { owns = owns; moves = moves }
+abbrev pub view_of : Bool → List Move → List Turn → View
+view_of owns moves seen = record { lives = true; owns = owns; moves = moves; seen = seen; told = [] }
 
-abbrev pub with_offers : View → List Ticket → View
-with_offers v [] = v
-with_offers v (t ∷ ts) = view_of v.owns (Offer t ∷ v.moves)
+-- with what another seat had seen
+abbrev pub both : View → View → View
+both v w = record { lives = v.lives; owns = v.owns; moves = v.moves; seen = v.seen; told = w.seen }
 
-abbrev pub with_newest : View → List Ticket → View
-with_newest v [] = v
-with_newest v (t ∷ ts) = view_of v.owns (Newest t ∷ v.moves)
+-- a seat that was taken in
+abbrev pub spent : View
+spent = record { lives = false; owns = false; moves = []; seen = []; told = [] }
 
-abbrev pub with_oldest : View → List Ticket → View
-with_oldest v [] = v
-with_oldest v (t ∷ ts) = view_of v.owns (Oldest t ∷ v.moves)
+-- one of them goes on from the other
+abbrev pub AreOfOne : List Turn → List Turn → Type 0
+AreOfOne seen told = GoesOnFrom seen told ⊎ GoesOnFrom told seen
+
+abbrev pub Makes : View → Move → View → Type 0
+Makes v m w = (w.lives ≡ true) × (w.owns ≡ v.owns) × (w.moves ≡ m ∷ v.moves) × Goes v.moves v.seen m w.seen
+
+abbrev pub WithOffers : View → List Ticket → View → Type 0
+WithOffers v [] w = w ≡ v
+WithOffers v (t ∷ ts) w = Makes v (Offer t) w
+
+abbrev pub WithNewest : View → List Ticket → View → Type 0
+WithNewest v [] w = w ≡ v
+WithNewest v (t ∷ ts) w = Makes v (Newest t) w
+
+abbrev pub WithOldest : View → List Ticket → View → Type 0
+WithOldest v [] w = w ≡ v
+WithOldest v (t ∷ ts) w = Makes v (Oldest t) w
 
 -- ---- an end of a list, as contracts see it
 
--- which list it is, and the steps of this end's seat, the latest first
+-- which list it is, the steps of this end's seat, and the list's history up to the last of them, each the latest first
 pub record End : Type 0 where
   pub list : ℕ × ℕ
   pub moves : List Move
+  pub seen : List Turn
 
 abbrev pub fresh : ℕ × ℕ → End
-fresh list = record { list = list; moves = [] }
+fresh list = record { list = list; moves = []; seen = [] }
 
 -- with a step more
-abbrev pub moved : End → Move → End
-moved e m = record { list = e.list; moves = m ∷ e.moves }
+pub record Moved (old new : End) (m : Move) : Type 0 where
+  pub list : new.list ≡ old.list
+  pub moves : new.moves ≡ m ∷ old.moves
+  pub goes : Goes old.moves old.seen m new.seen
 
 -- ---- what was offered, and what was taken
 

@@ -1,10 +1,10 @@
-ghost use Rattle.std.specs.Prelude.{◌≡◌, [], All, vec_len, IfOk, IfErr, OnOk, IfSome, IfNone};
-ghost use Rattle.deque_pool_tickets.specs.TicketList.{HadFew, Happened, fresh, moved};
+ghost use Rattle.std.specs.Prelude.{◌≡◌, All, vec_len, IfOk, IfErr, OnOk, IfSome, IfNone};
+ghost use Rattle.deque_pool_tickets.specs.TicketList.{AreOfOne, MayHaveFew, Moved, fresh};
 ghost use Rattle.deque_pool_tickets.specs.declared.ticket_list.Move.TheVariants.{Offer, Newest};
 ghost use Rattle.deque_pool_tickets.specs.Takes.{Takes};
 
 use crate::taken::Taken;
-use crate::ticket_list::{Offers, TakesNewest, TakesOldest, TicketList, View};
+use crate::ticket_list::{Compares, Offers, TakesIn, TakesNewest, TakesOldest, TicketList, View};
 use crossbeam_deque::{Pass, Steal, Stealer, Worker};
 use lists::OutOfMemory;
 use shared_run::Ticket;
@@ -14,8 +14,7 @@ use std::marker::Model;
 /// For how many tickets a list has room at first.
 const FIRST_ROOM: usize = 64;
 
-/// The owner's end of a worker's list of tickets. Contracts see which list it is, and the owner's steps on it, the latest
-/// first.
+/// The owner's end of a worker's list of tickets. Contracts see which list it is, the owner's steps on it, and the list's history up to the last of them.
 #[derive(Drop)]
 pub struct Hands {
     worker: Worker<Ticket, Global, View, TicketList>,
@@ -28,13 +27,12 @@ impl Model for Hands {
 
     ghost Value = { End };
 
-    ghost view = { λ h. record { list = (worker_deque h.worker).0; moves = (worker_view h.worker).moves } };
+    ghost view = { λ h. record { list = (worker_deque h.worker).0; moves = (worker_view h.worker).moves; seen = (worker_view h.worker).seen } };
 
-    ghost invariant = { λ h. ((worker_view h.worker).owns ≡ true) × (worker_flavor h.worker ≡ 1) };
+    ghost invariant = { λ h. ((worker_view h.worker).lives ≡ true) × ((worker_view h.worker).owns ≡ true) × (worker_flavor h.worker ≡ 1) };
 }
 
-/// A thief's end of another worker's list of tickets. Contracts see which list it is, and this thief's steps on it, the
-/// latest first.
+/// A thief's end of another worker's list of tickets. Contracts see which list it is, this thief's steps on it, and the list's history up to the last of them.
 #[derive(Drop)]
 pub struct Thief {
     stealer: Stealer<Ticket, Global, View, TicketList>,
@@ -42,21 +40,21 @@ pub struct Thief {
 }
 
 impl Model for Thief {
-    ghost use Rattle.std.specs.Prelude.{◌≡◌, false};
+    ghost use Rattle.std.specs.Prelude.{◌≡◌, true, false};
     ghost use Rattle.deque_pool_tickets.specs.TicketList.{End};
     ghost use Rattle.crossbeam_deque.specs.Handles.{view as pass_view, IsPassOf, stealer_deque, stealer_flavor};
 
     ghost Value = { End };
 
-    ghost view = { λ t. record { list = (stealer_deque t.stealer).0; moves = (pass_view t.pass).moves } };
+    ghost view = { λ t. record { list = (stealer_deque t.stealer).0; moves = (pass_view t.pass).moves; seen = (pass_view t.pass).seen } };
 
-    ghost invariant = { λ t. ((pass_view t.pass).owns ≡ false) × (stealer_flavor t.stealer ≡ 1) × IsPassOf (stealer_deque t.stealer) t.pass };
+    ghost invariant = { λ t. ((pass_view t.pass).lives ≡ true) × ((pass_view t.pass).owns ≡ false) × (stealer_flavor t.stealer ≡ 1) × IsPassOf (stealer_deque t.stealer) t.pass };
 }
 
 impl Hands {
     /// An empty list: its owner's end, and the ends of so many thieves.
     pub fn new(alloc: Global, thieves: usize) -> Result<(Hands, Vec<Thief>), OutOfMemory>
-        ensures hands { IfOk result (λ made. made.0.moves ≡ []) }
+        ensures hands { IfOk result (λ made. made.0 ≡ fresh made.0.list) }
         ensures count { IfOk result (λ made. vec_len made.1 ≡ thieves) }
         ensures thieves { IfOk result (λ made. All (λ thief. thief ≡ fresh made.0.list) made.1.items) }
     {
@@ -88,27 +86,37 @@ impl Hands {
     /// Puts a ticket at the back. One that is refused, for memory or at the list's limit, is given back, and nothing
     /// changes.
     pub fn offer(&mut self, ticket: Ticket) -> Result<(), Ticket>
-        ensures offered { OnOk result (self.new ≡ moved self.old (Offer ticket)) }
+        ensures offered { OnOk result (Moved self.old self.new (Offer ticket)) }
         ensures refused { IfErr result (λ back. back ≡ ticket) }
         ensures same { IfErr result (λ back. self.new ≡ self.old) }
     {
         self.worker.push_as::<Offers>(ticket)
     }
 
-    /// Takes the ticket at the back, where there is one. Of what thieves did meanwhile the contract knows nothing: it says that some order of steps, with
-    /// these of the owner, leads to the answer.
+    /// Takes the ticket at the back of the list, as the history then is. Where there is none nothing changes, so which history that was is not known.
     pub fn take_newest(&mut self) -> Option<Ticket>
-        ensures taken { IfSome result (λ ticket. self.new ≡ moved self.old (Newest ticket)) }
-        ensures offered { IfSome result (λ ticket. Happened self.new.moves) }
-        ensures empty { IfNone result (HadFew 0 self.old.moves) }
+        ensures taken { IfSome result (λ ticket. Moved self.old self.new (Newest ticket)) }
+        ensures empty { IfNone result (MayHaveFew 0 self.old.moves self.old.seen) }
         ensures same { IfNone result (self.new ≡ self.old) }
     {
         self.worker.pop_as::<TakesNewest>()
     }
+
+    /// Takes in the end of a thief, which makes no more steps. What the two have seen are beginnings of one history, as the list has no other.
+    pub fn take_in(&mut self, thief: Thief)
+        requires { thief.list ≡ self.old.list }
+        ensures one { AreOfOne self.old.seen thief.seen }
+        ensures same { self.new ≡ self.old }
+    {
+        let Thief { stealer, pass } = thief;
+        drop(stealer);
+        self.worker.absorb::<TakesIn>(pass);
+        let _tickets = self.worker.len_as::<Compares>();
+    }
 }
 
 impl Thief {
-    /// Takes the ticket at the front. The contract knows this thief's own steps alone, as that of [`Hands::take_newest`] the owner's.
+    /// Takes the ticket at the front of the list, as the history then is. Where there is none nothing changes, as in [`Hands::take_newest`].
     pub fn take_oldest(&mut self) -> Taken
         ensures { Takes self.old self.new result }
     {

@@ -2,8 +2,8 @@
 //! and from whose other end thieves take (Blumofe and Leiserson, "Scheduling multithreaded computations by work stealing").
 //!
 //! A list changes by three kinds of atomic step: the owner's offer at the back, the owner's taking of the newest, and a
-//! thief's taking of the oldest. `specs/TicketList.antt` has the rule that each step keeps, however the threads run: the list is what some order of the
-//! steps of all ends leads to. The contract of an end knows its own steps alone; none is about all ends together.
+//! thief's taking of the oldest. `specs/TicketList.antt` has the rule that each step keeps, however the threads run: a list has one history, of the steps
+//! of all ends, and is what that leads to. The contract of an end knows the history up to its own last step.
 #![tactic(auto)]
 
 mod hands;

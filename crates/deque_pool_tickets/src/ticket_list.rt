@@ -1,5 +1,5 @@
 //! The rule of a worker's list of tickets.
-use crossbeam_deque::protocol::{Outcome, Protocol};
+use crossbeam_deque::protocol::{Join, Lesson, Outcome, Protocol};
 use shared_run::Ticket;
 use std::collections::LinkedList;
 
@@ -13,10 +13,16 @@ pub enum Move {
     Oldest(Ticket),
 }
 
-/// What a seat knows: whether it is the owner's, and its own steps, the latest first. No value of it is made.
+/// What a seat knows: whether it is the owner's, its own steps, and the list's history up to the last of them, each the latest first. No value of it is made.
 pub struct View {
+    /// It may still make steps.
+    pub lives: bool,
     pub owns: bool,
     pub moves: LinkedList<Move>,
+    /// Each step with the seat that made it.
+    pub seen: LinkedList<(u64, Move)>,
+    /// What a seat had seen that it took in.
+    pub told: LinkedList<(u64, Move)>,
 }
 
 /// The list is what the steps of all seats lead to.
@@ -28,38 +34,53 @@ impl Protocol<Ticket, View> for TicketList {
 
     ghost holds = { IsPlayed };
 
-    ghost first = { view_of true [] };
+    ghost first = { view_of true [] [] };
 
-    ghost guest = { view_of false [] };
+    ghost guest = { view_of false [] [] };
 }
 
 pub struct Offers;
 
 impl Outcome<Ticket, View> for Offers {
-    ghost use Rattle.std.specs.Prelude.{◌≡◌};
-    ghost use Rattle.deque_pool_tickets.specs.TicketList.{with_offers};
+    ghost use Rattle.deque_pool_tickets.specs.TicketList.{WithOffers};
 
-    ghost then = { λ v xs w. w ≡ with_offers v xs };
+    ghost then = { WithOffers };
 }
 
 pub struct TakesNewest;
 
 impl Outcome<Ticket, View> for TakesNewest {
-    ghost use Rattle.std.specs.Prelude.{◌≡◌};
-    ghost use Rattle.deque_pool_tickets.specs.TicketList.{with_newest, HadFew, Happened};
+    ghost use Rattle.deque_pool_tickets.specs.TicketList.{WithNewest, MayHaveFew};
 
-    ghost then = { λ v xs w. (w ≡ with_newest v xs) × Happened w.moves };
+    ghost then = { WithNewest };
 
-    ghost empty = { λ v. HadFew 0 v.moves };
+    ghost empty = { λ v. MayHaveFew 0 v.moves v.seen };
 }
 
 pub struct TakesOldest;
 
 impl Outcome<Ticket, View> for TakesOldest {
-    ghost use Rattle.std.specs.Prelude.{◌≡◌};
-    ghost use Rattle.deque_pool_tickets.specs.TicketList.{with_oldest, HadFew, Happened};
+    ghost use Rattle.deque_pool_tickets.specs.TicketList.{WithOldest, MayHaveFew};
 
-    ghost then = { λ v xs w. (w ≡ with_oldest v xs) × Happened w.moves };
+    ghost then = { WithOldest };
 
-    ghost empty = { λ v. HadFew 1 v.moves };
+    ghost empty = { λ v. MayHaveFew 1 v.moves v.seen };
+}
+
+pub struct TakesIn;
+
+impl Join<View> for TakesIn {
+    ghost use Rattle.deque_pool_tickets.specs.TicketList.{both, spent};
+
+    ghost both = { both };
+
+    ghost spent = { spent };
+}
+
+pub struct Compares;
+
+impl Lesson<Ticket, View> for Compares {
+    ghost use Rattle.deque_pool_tickets.specs.TicketList.{AreOfOne};
+
+    ghost fact = { λ v tickets. AreOfOne v.seen v.told };
 }

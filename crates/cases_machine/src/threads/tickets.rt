@@ -62,7 +62,20 @@ fn answer_order(alloc: Global, report: &mut Report) -> Result<(), OutOfMemory> {
     report.holds("a thief takes in order", takes_in_order(thief));
     offer_three(&mut hands);
     report.holds("the owner takes in reverse", takes_in_reverse(&mut hands));
+    let has_taken_in = has_taken_in(alloc)?;
+    report.holds("an owner that took in its thief has all", has_taken_in);
     Ok(())
+}
+
+/// Whether an owner that takes in its only thief has its tickets still.
+fn has_taken_in(alloc: Global) -> Result<bool, OutOfMemory> {
+    let (mut hands, mut thieves) = Hands::new(alloc, 1)?;
+    let Some(thief) = thieves.pop() else {
+        return Ok(false);
+    };
+    hands.take_in(thief);
+    offer_three(&mut hands);
+    Ok(takes_in_reverse(&mut hands))
 }
 
 const TICKETS: u64 = 100_000;
