@@ -261,7 +261,7 @@ uint32_t tapirvm_global_at(struct tapirvm_handle *handle, size_t number, uint8_t
                            uint64_t *cells);
 
 /* The name of the argument of this number, from 0, and what `requires` says of it. TAPIRVM_DONE; else the range has no bound: _CLOSED, _NOT_FOUND.
- * (That the name is the text's is no contract: the tests hold it. A program keeps no names of registers.) */
+ * (That the name is the text's, and that no bound is left out, is no contract: the tests hold it. A program keeps no names of registers.) */
 uint32_t tapirvm_argument_at(struct tapirvm_handle *handle, size_t number, uint8_t *out, size_t room, size_t *needed, struct tapirvm_range *range);
 
 /* ---- A text that is judged anew by each call */
