@@ -48,8 +48,8 @@ class Program:
 
 
 class Judge:
-    def __init__(self, program: Program, module: Module, functions: list[Function], few_hints: bool = False):
-        self.program, self.module, self.functions, self.few_hints = program, module, functions, few_hints
+    def __init__(self, program: Program, module: Module, functions: list[Function]):
+        self.program, self.module, self.functions = program, module, functions
         self.by_name = {f.name: f for f in functions}
         self.refused: set[tuple[str, str, str]] = set()  # hints: function, block, line
         self.done: set[tuple] = set()  # mends that are made once
@@ -86,7 +86,7 @@ class Judge:
 
     def infer(self, f: Function) -> None:
         Zones(f, self.by_name).apply()
-        Hints(f, self.by_name, self.refused, self.few_hints).apply()
+        Hints(f, self.by_name, self.refused).apply()
 
     def infer_from(self, f: Function) -> None:
         """What f and its callers touch, anew."""
@@ -122,7 +122,7 @@ class Judge:
         for f in self.functions:
             for name, rests in f.rests.items():
                 f.rests[name] = [rest for rest in rests if (f.name, name, rest[0]) not in self.refused]
-            Hints(f, self.by_name, self.refused, self.few_hints).apply()
+            Hints(f, self.by_name, self.refused).apply()
         return bool(new)
 
     def clear_local(self, f: Function, x: Instruction) -> bool:
