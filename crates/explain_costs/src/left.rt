@@ -3,11 +3,11 @@
 use crate::rounds::push_rounds;
 use crate::sums::{Counted, Share, amount, less_form, number_sum, plus_form};
 use cost_table::Work;
-use explain_facts::{Scene, Trying, push_form, within_bounds};
+use explain_facts::{Known, Scene, Trying, push_form, within_bounds};
 use linear::{Fact, Form, RegisterId};
 use lists::{OutOfMemory, TextBuffer};
 use program::{Block, Function, Instruction, Step};
-use ranges::{Sum, Unanswered, sum_form};
+use ranges::{Sum, Unanswered, start_facts, sum_form};
 use std::alloc::{AllocError, Global};
 
 /// A number that no coefficient of a form reaches: 2^24.
@@ -247,6 +247,20 @@ impl Bare<'_, '_> {
         }
     }
 
+    /// Whether both forms are known to be at least 0 where the block begins.
+    fn is_at_least_zero(&self, alloc: Global, wanted: &Wanted) -> Result<bool, Unanswered> {
+        let known = self.trying.known;
+        let function = known.scene.function;
+        let facts = start_facts(alloc, function, known.block.0, self.block)?;
+        let start = Known {
+            facts: facts.as_slice(),
+            ..known
+        };
+        let calls = plus_form(number_sum(alloc, 0), &[], &wanted.self_calls)?;
+        let instructions = plus_form(number_sum(alloc, 0), &[], &wanted.instructions)?;
+        Ok(start.shows(alloc, &calls)? && start.shows(alloc, &instructions)?)
+    }
+
     /// A `left` line of the block that is enough, if the text can have it.
     fn push_line(
         &self,
@@ -256,8 +270,16 @@ impl Bare<'_, '_> {
     ) -> Result<(), Unanswered> {
         let line = left_line(alloc, self.scene(), wanted)?;
         let after = self.block.line;
-        if self.trying.is_line(alloc, line.as_str(), after)? {
+        if !self.trying.is_line(alloc, line.as_str(), after)? {
+            return Ok(());
+        }
+        if self.is_at_least_zero(alloc, wanted)? {
             writeln!(out, "    try: {line}, after line {after}");
+        } else {
+            writeln!(
+                out,
+                "    {line} would be enough, but nothing shows at the block's start that it is at least 0: bound its registers there by `keeps`"
+            );
         }
         Ok(())
     }
