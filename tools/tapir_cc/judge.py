@@ -48,8 +48,8 @@ class Program:
 
 
 class Judge:
-    def __init__(self, program: Program, module: Module, functions: list[Function]):
-        self.program, self.module, self.functions = program, module, functions
+    def __init__(self, program: Program, module: Module, functions: list[Function], has_hints: bool = True):
+        self.program, self.module, self.functions, self.has_hints = program, module, functions, has_hints
         self.by_name = {f.name: f for f in functions}
         self.refused: set[tuple[str, str, str]] = set()  # hints: function, block, line
         self.done: set[tuple] = set()  # mends that are made once
@@ -86,7 +86,11 @@ class Judge:
 
     def infer(self, f: Function) -> None:
         Zones(f, self.by_name).apply()
-        Hints(f, self.by_name, self.refused).apply()
+        self.add_hints(f)
+
+    def add_hints(self, f: Function) -> None:
+        if self.has_hints:
+            Hints(f, self.by_name, self.refused).apply()
 
     def infer_from(self, f: Function) -> None:
         """What f and its callers touch, anew."""
@@ -122,7 +126,7 @@ class Judge:
         for f in self.functions:
             for name, rests in f.rests.items():
                 f.rests[name] = [rest for rest in rests if (f.name, name, rest[0]) not in self.refused]
-            Hints(f, self.by_name, self.refused).apply()
+            self.add_hints(f)
         return bool(new)
 
     def clear_local(self, f: Function, x: Instruction) -> bool:

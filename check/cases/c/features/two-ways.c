@@ -1,4 +1,4 @@
-// refused 702 line 7
+// accepted; args 0 | 5 | 63
 #include "tapir.h"
 int64_t a[64];
 int64_t kernel(int64_t n) {
