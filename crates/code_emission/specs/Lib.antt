@@ -1,2 +1,3 @@
 pub mod Emitted
 pub mod Segments
+pub mod Endings
