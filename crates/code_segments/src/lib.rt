@@ -9,4 +9,4 @@ mod rows;
 mod running;
 
 pub use rows::{move_window, run_window};
-pub use running::{Exit, Stop, run_codes};
+pub use running::{Exit, run_codes};
