@@ -1,6 +1,7 @@
 -- What is told of a run.
 use Rattle.std.proofs.Common.{◌≡◌, ◌∙◌, ◌<◌, ◌≤◌, List, length, Option, None, Some, false, is_some, refl, subst, sym, ℕ, ℤ}
-use Rattle.std.specs.Prelude.{sum}
+use Rattle.std.specs.Prelude.{◌≢◌, sum}
+use Rattle.store.specs.Requirements.{unmet_in}
 use Rattle.program.specs.declared.function.Program.{Program}
 use Rattle.semantics.specs.Events.{Machine}
 use Rattle.hosted_run.specs.Hosted.{IsProgress, IsTold}
@@ -29,6 +30,14 @@ begins_here program own arguments row memory workers fuel run state long same is
   new = subst (λ (m : List NamedCells). IsNew (origin program arguments m workers) fuel run) is
       (subst (λ (p : Program). IsNew (origin p arguments memory workers) fuel run) same new);
 }
+
+-- ---- one that does not
+
+pub lacks_here : (program own : Program) (arguments : List ℤ) (requirement : ℕ) → own ≡ program → unmet_in own arguments ≡ Some requirement → unmet_in program arguments ≡ Some requirement
+lacks_here program own arguments requirement same lacks = subst (λ (p : Program). unmet_in p arguments ≡ Some requirement) same lacks
+
+pub other_here : (program own : Program) (row : List ℤ) → own ≡ program → length row ≢ sum (sizes_in own) → length row ≢ sum (sizes_in program)
+other_here program own row same other = subst (λ (p : Program). length row ≢ sum (sizes_in p)) same other
 
 -- ---- one that has not ended
 
