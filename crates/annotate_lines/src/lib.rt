@@ -13,6 +13,7 @@ mod feet;
 mod goal;
 mod hull;
 mod left;
+mod limits;
 mod order;
 mod pending;
 mod proposal;
@@ -21,4 +22,5 @@ mod step;
 mod total;
 mod wanted;
 
+pub use limits::{Limit, MetLimit, limits_met};
 pub use proposal::{Kind, proposed};
