@@ -78,14 +78,14 @@ class Claims:
         left, right = [self.ranges.form(v, lambda r, y: r not in self.for_claims) for v in x.args]
         lines, registers = lines_of(x.predicate, left, right), {*left.terms, *right.terms}
         if x.kind == "invariant":
-            self.of_loop(x, block, lines, registers, gaps(x.predicate, left, right))
+            self.of_loop(x, block, lines, registers)
         elif all(y.result in self.for_claims for y in block.body) and not registers & {y.result for y in block.body}:
             block.notes += [("keeps " + line, x.place) for line in lines]
         else:
             return ["shows " + line for line in lines]
         return []
 
-    def of_loop(self, x: Instruction, block: Block, lines: list[str], registers: set[str], wanted: list[Form]) -> None:
+    def of_loop(self, x: Instruction, block: Block, lines: list[str], registers: set[str]) -> None:
         """An INVARIANT belongs to the innermost loop whose head knows its registers."""
         graph = self.graph
         heads = [h for h, body in graph.loops.items() if block.name in body and self.ranges.are_known(registers, h)]
@@ -96,7 +96,6 @@ class Claims:
         if not all(graph.dominates(block.name, p) for p in graph.before[head] if p in graph.loops[head]):
             raise Fault(x.place, "INVARIANT stands first in a loop, and is compares joined by &&", ONE_EACH)
         self.f.blocks[head].notes += [("keeps " + line, x.place) for line in lines]
-        self.f.wanted += [(head, gap, x.place) for gap in wanted]
 
     def call(self, x: Instruction, task) -> None:
         word = x.callee[len("@__tapir_") :]

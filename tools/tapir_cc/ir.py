@@ -67,7 +67,6 @@ class Instruction:
     region: Optional[str] = None
     shows: list[str] = field(default_factory=list)  # annotations before it that the author wrote
     tried: list[str] = field(default_factory=list)  # those that a rewrite rests on
-    steps: list[str] = field(default_factory=list)  # those by which more is shown
     forms: list[str] = field(default_factory=list)  # what to try in place of its group, where it is refused
     group: list[Instruction] = field(default_factory=list)
 
@@ -126,7 +125,6 @@ class Function:
     requires: list[tuple[str, Place]] = field(default_factory=list)
     ensures: list[tuple[str, Place]] = field(default_factory=list)
     needs: list[Form] = field(default_factory=list)  # what is 0 or more, by REQUIRES
-    wanted: list[tuple[str, Form, Place]] = field(default_factory=list)  # at a loop's head a form is 0 or more, said so
     guesses: list[tuple[str, Form, Place]] = field(default_factory=list)  # where a block begins a form is 0 or more
     said: dict[str, tuple] = field(default_factory=dict)  # register -> bounds that claims say
     given: dict[Optional[str], list[Zone]] = field(default_factory=dict)  # the author's zones, by a child's first block
@@ -136,7 +134,6 @@ class Function:
     goes_through_copies: bool = False  # whether feet look through registers that a child copies
     measure: Optional[tuple[Form, int]] = None
     budget: Optional[list[Value]] = None
-    rests: dict[str, list[tuple[str, Place]]] = field(default_factory=dict)  # what loops need to be left, by block
     printed: dict[str, str] = field(default_factory=dict)  # register -> the name that it is printed by
 
     @property

@@ -7,7 +7,6 @@ import subprocess
 from typing import NamedTuple
 
 from .clean import clean
-from .hints import Hints, Rests, steps_of_goals
 from .ir import Function, Instruction
 from .llvm_text import Module
 from .printer import Line, Printed, print_module
@@ -48,16 +47,15 @@ class Program:
 
 
 class Judge:
-    def __init__(self, program: Program, module: Module, functions: list[Function], few_hints: bool = False):
-        self.program, self.module, self.functions, self.few_hints = program, module, functions, few_hints
+    def __init__(self, program: Program, module: Module, functions: list[Function]):
+        self.program, self.module, self.functions = program, module, functions
         self.by_name = {f.name: f for f in functions}
         self.refused: set[tuple[str, str, str]] = set()  # hints: function, block, line
-        self.done: set[tuple] = set()  # mends that are made once
+        self.cleared: set[tuple] = set()
         self.printed = Printed()
-        self.explained, self.at = "", 0
-        self.mends = {402: [self.clear_local], 501: [self.add_steps], 505: [self.add_steps], 506: [self.add_steps]}
-        self.mends |= dict.fromkeys((502, 503, 508), [self.add_steps, self.fall_back])
-        self.mends |= dict.fromkeys((601, 604), [self.take_whole]) | dict.fromkeys((602, 603), [self.part_feet])
+        self.explained = ""
+        self.mends = {402: self.clear_local} | dict.fromkeys((502, 503, 508), self.fall_back)
+        self.mends |= dict.fromkeys((601, 604), self.take_whole) | dict.fromkeys((602, 603), self.part_feet)
 
     def judge(self) -> Verdict:
         for f in self.functions:
@@ -74,37 +72,20 @@ class Judge:
         pathlib.Path(self.program.file).write_text(self.printed.text())
 
     def mend(self, rule: int, at: int) -> bool:
-        line, self.explained, self.at = self.printed.line(at), self.program.explained(), at
-        if line.kind == "step" and rule == 508:
-            line.of.steps.remove(line.note)
-            return True
-        rests = Rests(self.printed, self.refused)
-        if rule == 702 and rests.add(self.functions, self.explained, self.program.annotated()):
-            return True
-        mends = self.mends.get(rule, []) if line.kind in ("instruction", "tried") else []
-        return any(mend(line.function, line.of) for mend in mends) or self.drop_hints(line)
+        line, self.explained = self.printed.line(at), self.program.explained()
+        mend = self.mends.get(rule) if line.kind in ("instruction", "tried") else None
+        return (mend is not None and mend(line.function, line.of)) or self.drop_hints(line)
 
     def infer(self, f: Function) -> None:
         Zones(f, self.by_name).apply()
-        Hints(f, self.by_name, self.refused, self.few_hints).apply()
+        for block in f.blocks.values():
+            block.hints = [(f"keeps {form} >= 0", place) for name, form, place in f.guesses if name == block.name]
+            block.hints = [hint for hint in block.hints if (f.name, block.name, hint[0]) not in self.refused]
 
     def infer_from(self, f: Function) -> None:
         """What f and its callers touch, anew."""
         for other in self.functions[self.functions.index(f) :]:
             self.infer(other)
-
-    def once(self, *mend) -> bool:
-        is_new = mend not in self.done
-        self.done.add(mend)
-        return is_new
-
-    def add_steps(self, f: Function, x: Instruction) -> bool:
-        """Shows what is refused by smaller steps, once."""
-        registers = {printed: register for register, printed in f.printed.items()}
-        new = [f"shows {step} >= 0" for step in steps_of_goals(self.explained, registers, self.at)]
-        new = [step for step in new if self.once(x, step)]
-        x.steps += new
-        return bool(new)
 
     def fall_back(self, f: Function, x: Instruction) -> bool:
         """Takes the next form of what was tried."""
@@ -120,15 +101,14 @@ class Judge:
         new = {(hint.function.name, *hint.of) for hint in [line, *asked] if hint.kind == "hint"} - self.refused
         self.refused |= new
         for f in self.functions:
-            for name, rests in f.rests.items():
-                f.rests[name] = [rest for rest in rests if (f.name, name, rest[0]) not in self.refused]
-            Hints(f, self.by_name, self.refused, self.few_hints).apply()
+            self.infer(f)
         return bool(new)
 
     def clear_local(self, f: Function, x: Instruction) -> bool:
         """A local that may be read before it is written begins as 0."""
         locals = f.locals()
-        new = [o for o in ([x.object] if x.object else x.args) if o in locals and self.once(f, o)]
+        new = [o for o in ([x.object] if x.object else x.args) if o in locals and (f, o) not in self.cleared]
+        self.cleared |= {(f, o) for o in new}
         for object in new:
             f.at_entry(Instruction("zero", None, "void", [object], x.place, object=object))
         return bool(new)

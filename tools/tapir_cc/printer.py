@@ -30,7 +30,7 @@ FORMATS = {
 
 
 class Line(NamedTuple):
-    """A line of the module. `kind` says what `of` is: instruction, shows, tried or step (before an instruction), hint
+    """A line of the module. `kind` says what `of` is: instruction, shows or tried (before an instruction), hint
     (a line of a block), block, function, zone, foot."""
 
     text: str
@@ -114,12 +114,12 @@ class FunctionPrinter:
         self.put(self.name("%" + block.name)[1:] + ":", first, "block", block)
         for line, place in block.notes:
             self.note(line, place)
-        for line, place in block.hints + self.f.rests.get(block.name, []):
+        for line, place in block.hints:
             self.note(line, place, "hint", (block.name, line))
         for zone in self.f.feet.get(block.name, []):
             self.zone("foot ", zone, first)
         for x in block.all():
-            for kind, lines in (("shows", x.shows), ("step", x.steps), ("tried", x.tried)):
+            for kind, lines in (("shows", x.shows), ("tried", x.tried)):
                 for line in lines:
                     self.note(line, x.place, kind, x)
             self.put("  " + self.instruction(x), x.place, "instruction", x)
