@@ -75,6 +75,29 @@ static void judge(void) {
     want("nothing is held", handle.live, 0);
 }
 
+/* An effort that is just enough for a verdict, and one that is a step short: those at which the program turns over (check/cases/transcripts/verify.txt). */
+static void judge_within(const char *name, uint64_t enough) {
+    struct text text = read_text(name);
+    struct tapirvm_handle handle = TAPIRVM_NOTHING;
+    struct tapirvm_verdict verdict = {0};
+    struct tapirvm_outcome outcome = {0};
+    int64_t none[1] = {0};
+    uint8_t out[1];
+    size_t needed;
+    for (uint64_t less = 0; less < 2; less++) {
+        uint32_t status = less ? TAPIRVM_OUT_OF_EFFORT : TAPIRVM_DONE;
+        tapirvm_verify(text.bytes, text.length, 1, 2, enough - less, &verdict);
+        want(name, verdict.status, status);
+        tapirvm_open(text.bytes, text.length, 1, 2, enough - less, &verdict, &handle);
+        want(name, verdict.status, status);
+        want("it is held", handle.live, !less);
+        tapirvm_close(&handle);
+        tapirvm_serial(text.bytes, text.length, 1, 2, enough - less, 0, none, 0, none, 0, &outcome);
+        want("judged before it is run", outcome.status == TAPIRVM_OUT_OF_EFFORT, (int64_t)less);
+    }
+    want("explain a step short", tapirvm_explain(text.bytes, text.length, 1, 2, enough - 1, out, 0, &needed), TAPIRVM_OUT_OF_EFFORT);
+}
+
 /* pair.ll: each child stores its argument in a cell, the root returns their sum, in 14 instructions on two frames at most */
 static void run(void) {
     struct tapirvm_handle handle = open_text("pair.ll");
@@ -439,6 +462,9 @@ int main(int count, char **given) {
     want("version", tapirvm_abi(), TAPIRVM_MAJOR);
     want("its minor number", tapirvm_minor(), TAPIRVM_MINOR);
     judge();
+    judge_within("fib.ll", 16411);
+    judge_within("parallel-for.ll", 22337);
+    judge_within("kernels/tree-sum.ll", 60165);
     run();
     rows();
     replays();

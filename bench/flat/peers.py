@@ -1,5 +1,6 @@
-"""The kernels of `run` once more, in a few words of Python, of which this makes a module of WebAssembly and a program of Lua: what other interpreters
-are timed with. Numbers have 64 bits, shifts to the right bring zeros; Lua's numbers are doubles, so only three kernels are made for it."""
+"""The kernels of `run` once more, in a few words of Python, of which this makes a module of WebAssembly, a program of Lua and one of C: what other
+interpreters are timed with, and what a compiler makes of the same. Numbers have 64 bits, shifts to the right bring zeros; Lua's numbers are doubles, so
+only three kernels are made for it."""
 
 import ast, re, shutil, subprocess, time
 
@@ -296,8 +297,8 @@ def main(n):
 }
 FOR_LUA = ["fib", "long", "sieve"]
 
-BINARY = {ast.Add: ("i64.add", "+"), ast.Sub: ("i64.sub", "-"), ast.Mult: ("i64.mul", "*"), ast.BitAnd: ("i64.and", "band"),
-          ast.BitXor: ("i64.xor", "bxor"), ast.RShift: ("i64.shr_u", "rshift")}
+BINARY = {ast.Add: ("i64.add", "+", "+"), ast.Sub: ("i64.sub", "-", "-"), ast.Mult: ("i64.mul", "*", "*"), ast.BitAnd: ("i64.and", "band", "&"),
+          ast.BitXor: ("i64.xor", "bxor", "^"), ast.RShift: ("i64.shr_u", "rshift", ">>")}
 COMPARED = {ast.Lt: ("i64.lt_s", "<"), ast.Gt: ("i64.gt_s", ">"), ast.Eq: ("i64.eq", "==")}
 
 
@@ -398,6 +399,57 @@ class Lua:
         return "\n".join([*lines, f"print(string.format('%d', main({argument})))"])
 
 
+class C:
+    """Writes C. The argument is the program's, so that no compiler knows it."""
+    def number(self, node):
+        match node:
+            case ast.Constant():
+                return f"{node.value}ull"
+            case ast.Name():
+                return node.id
+            case ast.BinOp():
+                return f"({self.number(node.left)} {BINARY[type(node.op)][2]} {self.number(node.right)})"
+            case ast.Compare():
+                return f"((int64_t){self.number(node.left)} {COMPARED[type(node.ops[0])][1]} (int64_t){self.number(node.comparators[0])})"
+            case ast.Subscript():
+                return f"{node.value.id}[{self.number(node.slice)}]"
+            case ast.Call():
+                return f"{self.name(node.func.id)}({', '.join(map(self.number, node.args))})"
+
+    def name(self, function):
+        return "kernel" if function == "main" else function
+
+    def lines(self, body):
+        return " ".join(map(self.line, body))
+
+    def line(self, node):
+        match node:
+            case ast.Assign():
+                return f"{self.number(node.targets[0])} = {self.number(node.value)};"
+            case ast.While():
+                return f"while {self.number(node.test)} {{ {self.lines(node.body)} }}"
+            case ast.If():
+                return f"if {self.number(node.test)} {{ {self.lines(node.body)} }}"
+            case ast.Return():
+                return f"return {self.number(node.value)};"
+
+    def program(self, source):
+        lines = ["#include <stdint.h>", "#include <stdio.h>", "#include <stdlib.h>", f"static uint64_t {', '.join(f'{it}[{CELLS}]' for it in ARRAYS)};"]
+        for one in ast.parse(source).body:
+            names, parameters = locals_of(one), ", ".join(f"uint64_t {p.arg}" for p in one.args.args)
+            own = f"uint64_t {', '.join(names)};" if names else ""
+            lines.append(f"static uint64_t {self.name(one.name)}({parameters or 'void'}) {{ {own} {self.lines(one.body)} }}")
+        return "\n".join([*lines, 'int main(int n, char **v) { return n == 2 && printf("%lld\\n", (long long)kernel(strtoull(v[1], 0, 10))) < 0; }\n'])
+
+
+def native(work, name, argument):
+    """The words that run the kernel as clang compiles it."""
+    path = f"{work}/{name}-native"
+    open(f"{path}.c", "w").write(C().program(SOURCES[name]))
+    subprocess.run(["clang", "-O2", f"{path}.c", "-o", path], check=True)
+    return [path, str(argument)]
+
+
 def wasm(work, name, argument):
     """The words that run the kernel in wabt's interpreter."""
     path = f"{work}/{name}.{argument}"
@@ -424,7 +476,8 @@ def run_of(words, wanted):
 def times(work, name, most, least, wanted, count):
     """Seconds of each interpreter that is installed: the least of so many runs, less that of the smallest run."""
     found = {}
-    for peer, make, names, program in (("wasm-interp", wasm, SOURCES, "wat2wasm"), ("luajit -joff", lua, FOR_LUA, "luajit")):
+    peers = (("wasm-interp", wasm, SOURCES, "wat2wasm"), ("luajit -joff", lua, FOR_LUA, "luajit"), ("clang -O2", native, SOURCES, "clang"))
+    for peer, make, names, program in peers:
         if name in names and shutil.which(program) and shutil.which(peer.split()[0]):
             long, short = make(work, name, most), make(work, name, least)
             small = subprocess.run(short, capture_output=True, text=True, check=True)

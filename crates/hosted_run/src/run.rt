@@ -1,4 +1,4 @@
-ghost use Rattle.std.specs.Prelude.{◌≡◌, ◌≢◌, ◌+◌, ◌-◌, ◌^◌, [], IfErr, IfOk, IfSome, min};
+ghost use Rattle.std.specs.Prelude.{◌≡◌, ◌≢◌, ◌+◌, ◌-◌, ◌^◌, ◌<◌, [], IfErr, IfNone, IfOk, IfSome, None, OnErr, length, min};
 ghost use Rattle.hosted_run.specs.Hosted.{IsProgress, IsTold, RunsFrom, WorksFor, start_of};
 ghost use Rattle.hosted_run.specs.declared.met.Met.TheVariants.{Stopped};
 ghost use Rattle.schedule_core.specs.Admission.{IsAdmitted};
@@ -166,6 +166,7 @@ fn events_as<L: Bench>(
     ensures board { IsAtRest (origin L.code L.arguments L.memory L.crew) result.0 }
     ensures same { result.0.history.events ≡ board.history.events }
     ensures events { IfOk result.1 (λ found. IfSome found (λ events. events.items ≡ board.history.events)) }
+    ensures long { IfOk result.1 (λ found. IfNone found (most < length board.history.events)) }
 {
     let (board, _seat) = board.wake::<L>(alloc, verified, blank, 0);
     let history = board.history();
@@ -195,6 +196,8 @@ fn finish_as<L: Bench>(
     ensures answer { IfOk result (IsSerialAnswer (origin L.code L.arguments L.memory L.crew)) }
     ensures replays { IfOk result (LeadTo (origin L.code L.arguments L.memory L.crew) board.history.events) }
     ensures rests { IfErr result (IsAtRest (origin L.code L.arguments L.memory L.crew)) }
+    ensures same { IfErr result (λ back. back.history.events ≡ board.history.events) }
+    ensures refused { OnErr result ((reached (origin L.code L.arguments L.memory L.crew) board.history.events).core.result ≡ None) }
 {
     match board.finish::<L>(alloc, verified, blank) {
         Ok((finished, _history)) => Ok(finished),
@@ -373,6 +376,7 @@ impl HostedRun {
         ensures fuel { result.0.fuel ≡ self.fuel }
         ensures same { result.0.board.history.events ≡ self.board.history.events }
         ensures events { IfOk result.1 (λ found. IfSome found (λ events. events.items ≡ self.board.history.events)) }
+        ensures long { IfOk result.1 (λ found. IfNone found (most < length self.board.history.events)) }
     {
         let HostedRun {
             board,
@@ -392,12 +396,15 @@ impl HostedRun {
         (run, events)
     }
 
-    /// The answer of a run that has ended; else the run again, also where memory is refused.
+    /// The answer of a run that has ended; else, where it has not, the run again.
     pub fn finish(self, alloc: Global, verified: &Verified) -> Result<Finished, HostedRun>
         requires { RunsFrom (start_of verified.now self) self }
         ensures answer { IfOk result (IsSerialAnswer (start_of verified.now self)) }
         ensures replays { IfOk result (LeadTo (start_of verified.now self) self.board.history.events) }
         ensures runs { IfErr result (RunsFrom (start_of verified.now self)) }
+        ensures fuel { IfErr result (λ run. run.fuel ≡ self.fuel) }
+        ensures same { IfErr result (λ run. run.board.history.events ≡ self.board.history.events) }
+        ensures refused { OnErr result ((reached (start_of verified.now self) self.board.history.events).core.result ≡ None) }
     {
         let HostedRun {
             board,

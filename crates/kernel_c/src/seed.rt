@@ -2,6 +2,7 @@
 
 ghost use Rattle.std.specs.Int.{to_le_bytes, w64};
 ghost use Rattle.std.specs.Prelude.{◌≡◌, ◌++◌, IfErr, IfOk, length};
+ghost use Rattle.kernel_c.specs.Marks.{mark_of};
 ghost use Rattle.kernel_c.specs.Told.{granted_by};
 ghost use Rattle.verifier.specs.Accepted.{IsProgramOf, IsUnverified};
 
@@ -21,7 +22,9 @@ pub struct Seed {
 
 impl Seed {
     /// A number that stands for the text: who does not know the seed finds no other text that has it.
-    pub fn mark_of(&self, text: &[u8]) -> u64 {
+    pub fn mark_of(&self, text: &[u8]) -> u64
+        ensures { result ≡ mark_of self.now.low self.now.high text.now }
+    {
         let mut hasher = keyed_hasher(self.low, self.high);
         hasher.write(text);
         hasher.finish()
