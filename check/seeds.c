@@ -11,7 +11,7 @@
 #include <string.h>
 #include <time.h>
 
-enum { NAMES = 3000, LETTERS = 6, FUNCTIONS = 2, TRIES = 3, TIMES = 2 };
+enum { NAMES = 3000, LETTERS = 6, FUNCTIONS = 2, TRIES = 3, ROUNDS = 5, TIMES = 2 };
 
 /* the lowest 7 bits, and the highest byte of 32 */
 static const uint32_t SHARED = UINT32_C(0xff00007f);
@@ -91,9 +91,13 @@ static double seconds_under(uint64_t low, uint64_t high, size_t length) {
 int main(void) {
     seek_names();
     size_t length = write_text();
-    double met = seconds_under(LOW, HIGH, length);
-    double other_low = seconds_under(LOW + 1, HIGH, length), other_high = seconds_under(LOW, HIGH + 1, length);
-    double other = other_low > other_high ? other_low : other_high;
+    double met = 0, other = 0;
+    /* Others may have the processors meanwhile; where seeds do not count then no round shows a difference. */
+    for (int k = 0; k < ROUNDS && met <= TIMES * other; k++) {
+        met = seconds_under(LOW, HIGH, length);
+        double other_low = seconds_under(LOW + 1, HIGH, length), other_high = seconds_under(LOW, HIGH + 1, length);
+        other = other_low > other_high ? other_low : other_high;
+    }
     printf("a text of %d names that meet under one seed: its verdict takes %.3f s there, %.3f s under others\n", NAMES, met, other);
     return met <= TIMES * other;
 }
