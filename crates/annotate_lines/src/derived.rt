@@ -1,10 +1,10 @@
 //! Facts that follow from those that are known where a register is made, and may be of use in later blocks: between which numbers it lies, and what its call
 //! says of it.
 
-use crate::facts::{
+use annotate_facts::{
     Edge, Extra, Known, Sum, block_at, facts_of, greatest_number, is_used_beside, register_of,
 };
-use crate::goal::Scope;
+use annotate_zones::Scope;
 use syntax::{Block, Operand, Phi};
 
 /// The facts of a block's head that are looked at, and those of its end; the registers of them whose numbers are bounded.

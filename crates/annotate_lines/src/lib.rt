@@ -6,19 +6,10 @@
 //! for the verifier to say.
 #![tactic(auto)]
 
-mod cells;
 mod derived;
-mod facts;
-mod feet;
-mod goal;
-mod hull;
-mod left;
 mod order;
-mod pending;
 mod proposal;
-mod ring;
 mod step;
-mod total;
 mod wanted;
 
 pub use proposal::{Kind, proposed};

@@ -1,19 +1,17 @@
 //! The lines that are put in.
 
-use crate::cells::firsts_of;
 use crate::derived::{derived, ends_of};
-use crate::facts::{
+use crate::order::put_in_order;
+use crate::step::{Told, Walk};
+use crate::wanted::Wants;
+use annotate_facts::{
     Extra, Heap, Known, Lives, MOST_BLOCKS, Place, Sum, dominators_of, edges_of, known_of,
 };
-use crate::feet::{Stand, has_no_zones, waits_for_callee, zones_from};
-use crate::goal::Scope;
-use crate::hull::hulls_of;
-use crate::left::{Need, needs_of, uses_of};
-use crate::order::put_in_order;
-use crate::pending::{Handed, handed_of};
-use crate::step::{Told, Walk};
-use crate::total::Total;
-use crate::wanted::Wants;
+use annotate_left::{Need, Total, needs_of, uses_of};
+use annotate_zones::{
+    Handed, Scope, Stand, firsts_of, handed_of, has_no_zones, hulls_of, waits_for_callee,
+    zones_from,
+};
 use ir_annotation::push_zone;
 use ir_reader::read;
 use lists::{Seq, TextBuffer};

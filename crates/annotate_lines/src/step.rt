@@ -1,12 +1,11 @@
 //! Lines within blocks, with which facts show what is asked at an instruction or along an edge: lines to be tried.
 
-use crate::cells::Cells;
-use crate::facts::{
+use annotate_facts::{
     Edge, Equation, Heap, Known, Sum, Way, block_at, definition_of, is_exact, lines_between, moved,
     register_of, sum_before, times_for,
 };
-use crate::goal::{Call, Scope, ends_of};
-use crate::left::{Need, given};
+use annotate_left::{Need, given};
+use annotate_zones::{Call, Cells, Scope, ends_of};
 use lists::TextBuffer;
 use syntax::{
     BinaryOperator, Block, Conversion, Ending, Inequality, Instruction, Operand, Step, Terminator,

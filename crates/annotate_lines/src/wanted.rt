@@ -1,6 +1,6 @@
 //! Facts that would show what a block asks and its facts do not show: tried where their registers are made, and on the ways there.
 
-use crate::facts::{
+use annotate_facts::{
     Edge, Extra, Heap, Sum, block_at, defines, dominators_of, is_above, is_phi, moved, names_own,
     sum_before,
 };

@@ -1,7 +1,7 @@
 //! Bounds of registers by facts about them alone, and of sums by those.
 
-use crate::facts::search::is_factor;
-use crate::facts::sum::Sum;
+use crate::search::is_factor;
+use crate::sum::Sum;
 
 /// The greatest number of a budget.
 const MOST: i128 = 1_000_000_000_000;

@@ -1,6 +1,6 @@
 //! Sums of registers, for reckoning.
 
-use crate::facts::heap::Heap;
+use crate::heap::Heap;
 use lists::TextBuffer;
 use syntax::{Form, Inequality, Operand, Relation};
 

@@ -1,9 +1,9 @@
 //! What a block needs, from its own instructions and from what is left behind it.
 
-use crate::facts::{
+use crate::ring::{Ring, names_inner, ring_of};
+use annotate_facts::{
     Edge, Heap, Known, MOST_BLOCKS, Sum, Way, block_at, greatest, most_before, moved,
 };
-use crate::ring::{Ring, names_inner, ring_of};
 use lists::Name;
 use syntax::{Block, Function, Instruction, Phi};
 

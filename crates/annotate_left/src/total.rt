@@ -1,7 +1,7 @@
 //! What a function may use in all, by what is left at its entry.
 
-use crate::facts::{Heap, Sum, greatest_shown};
 use crate::left::Need;
+use annotate_facts::{Heap, Sum, greatest_shown};
 use syntax::Function;
 
 /// Self calls and instructions, as numbers.

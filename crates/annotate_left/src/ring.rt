@@ -1,6 +1,6 @@
 //! Loops that a counter leads round: what falls each time, and what a round needs.
 
-use crate::facts::{
+use annotate_facts::{
     Edge, Known, Sum, block_at, defines, greatest_apart, is_phi, last_of, names_own, phi_value,
     sum_before, value_of,
 };

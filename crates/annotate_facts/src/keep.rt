@@ -1,11 +1,11 @@
 //! What is known wherever a block begins, because all ways to it bring it along.
 
-use crate::facts::bound::bound_among;
-use crate::facts::edge::{Edge, Way, defines, edges_of};
-use crate::facts::fact::Facts;
-use crate::facts::guess::{Place, dominators_of};
-use crate::facts::heap::Heap;
-use crate::facts::sum::Sum;
+use crate::bound::bound_among;
+use crate::edge::{Edge, Way, defines, edges_of};
+use crate::fact::Facts;
+use crate::guess::{Place, dominators_of};
+use crate::heap::Heap;
+use crate::sum::Sum;
 use syntax::{Block, Function};
 
 /// The most blocks of a function in which something is guessed, and rounds are counted.

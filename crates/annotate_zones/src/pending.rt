@@ -1,8 +1,8 @@
 //! The zones that children may still touch where a block begins, because they are handed on to it.
 
 use crate::cells::is_same_object;
-use crate::facts::{Edge, Heap, Place, Sum, Way, block_at, dominators_of, names_own};
 use crate::hull::Hull;
+use annotate_facts::{Edge, Heap, Place, Sum, Way, block_at, dominators_of, names_own};
 use syntax::{Block, Form, Function, Pending, Zone};
 
 /// A zone that is pending of a region.

@@ -1,7 +1,7 @@
 //! The cells that instructions touch, and the zones that may cover them.
 
-use crate::facts::{Edge, Heap, Sum, Way, block_at};
 use crate::goal::{Call, Scope};
+use annotate_facts::{Edge, Heap, Sum, Way, block_at};
 use lists::Name;
 use syntax::{
     Address, Argument, Function, FunctionNotes, Instruction, Mode, Operand, Parameter, Step, Zone,

@@ -1,7 +1,7 @@
 //! The search for facts that add up to a sum.
 
-use crate::facts::heap::Heap;
-use crate::facts::sum::Sum;
+use crate::heap::Heap;
+use crate::sum::Sum;
 
 /// The most sums that a search looks at.
 const MOST_RESTS: usize = 128;

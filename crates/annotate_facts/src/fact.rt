@@ -1,10 +1,10 @@
 //! What inequalities, and the conditions of branches, say.
 
-use crate::facts::definition::{definition_of, sum_before};
-use crate::facts::edge::{Edge, Way, block_at, is_used_beside, register_of};
-use crate::facts::heap::Heap;
-use crate::facts::learned::facts_of;
-use crate::facts::sum::Sum;
+use crate::definition::{definition_of, sum_before};
+use crate::edge::{Edge, Way, block_at, is_used_beside, register_of};
+use crate::heap::Heap;
+use crate::learned::facts_of;
+use crate::sum::Sum;
 use std::mem::replace;
 use syntax::{Function, Inequality, Instruction, Operand, Predicate, Step};
 

@@ -1,8 +1,8 @@
 //! Where registers are used later on, so that a line about them may serve.
 
-use crate::facts::edge::{Edge, block_at, block_uses, defines, is_register, phi_takes};
-use crate::facts::heap::Heap;
-use crate::facts::sum::Sum;
+use crate::edge::{Edge, block_at, block_uses, defines, is_register, phi_takes};
+use crate::heap::Heap;
+use crate::sum::Sum;
 use syntax::{Block, Form, Function, Inequality, Terminator, Zone};
 
 /// Where a register is used later on.

@@ -2,9 +2,9 @@
 //! where the zones stand.
 
 use crate::cells::{Cells, is_same_object};
-use crate::facts::{Place, Sum, is_above, value_of};
 use crate::goal::Scope;
 use crate::hull::zone_of;
+use annotate_facts::{Place, Sum, is_above, value_of};
 use syntax::{Block, Function, Instruction, Mode, Zone};
 
 /// How often a register of an end is replaced.

@@ -1,6 +1,6 @@
 //! The ways from block to block, by the labels of the text.
 
-use crate::facts::heap::Heap;
+use crate::heap::Heap;
 use lists::Name;
 use syntax::{Argument, Block, Function, Instruction, Operand, Phi, Step, Terminator};
 

@@ -1,9 +1,9 @@
 //! What instructions make known of the registers that they define.
 
-use crate::facts::definition::{Equation, definition_of, is_exact};
-use crate::facts::edge::register_of;
-use crate::facts::heap::Heap;
-use crate::facts::sum::Sum;
+use crate::definition::{Equation, definition_of, is_exact};
+use crate::edge::register_of;
+use crate::heap::Heap;
+use crate::sum::Sum;
 use syntax::{BinaryOperator, Conversion, Instruction, Operand, Step};
 
 /// The greatest number by which a quotient is known.

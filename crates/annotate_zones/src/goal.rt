@@ -1,6 +1,6 @@
 //! What a text asks of numbers before its instructions and along its edges.
 
-use crate::facts::{Heap, Sum, block_at, definition_of};
+use annotate_facts::{Heap, Sum, block_at, definition_of};
 use lists::Name;
 use syntax::{
     Address, Argument, BinaryOperator, Form, Function, Inequality, Instruction, Module, Operand,

@@ -1,8 +1,8 @@
 //! What instructions and phis make of registers.
 
-use crate::facts::edge::{definition_in, phi_value, register_of};
-use crate::facts::heap::Heap;
-use crate::facts::sum::Sum;
+use crate::edge::{definition_in, phi_value, register_of};
+use crate::heap::Heap;
+use crate::sum::Sum;
 use lists::Name;
 use syntax::{BinaryOperator, Function, Instruction, Operand, Phi, Step};
 
