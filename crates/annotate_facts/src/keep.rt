@@ -211,6 +211,17 @@ impl<'a> Known<'a> {
         row_of(self.added.as_slice(), edge)
     }
 
+    /// The facts that the source of an edge adds on it.
+    pub fn sums_on(&self, edge: usize) -> Vec<Sum<'a>> {
+        let mut sums = self.heap.list();
+        for number in self.facts_on(edge) {
+            if let Some(sum) = self.facts.sums.get(*number) {
+                self.heap.push(&mut sums, sum.copy());
+            }
+        }
+        sums
+    }
+
     /// The numbers of the facts that being taken says of an edge.
     pub fn facts_by_taking(&self, edge: usize) -> &[usize] {
         row_of(self.taken.as_slice(), edge)

@@ -1,10 +1,10 @@
 //! What instructions make known of the registers that they define.
 
 use crate::definition::{Equation, definition_of, is_exact};
-use crate::edge::register_of;
+use crate::edge::{definition_in, register_of};
 use crate::heap::Heap;
 use crate::sum::Sum;
-use syntax::{BinaryOperator, Conversion, Instruction, Operand, Step};
+use syntax::{BinaryOperator, Conversion, Function, Instruction, Operand, Step};
 
 /// The greatest number by which a quotient is known.
 const MOST_DIVISOR: i128 = 1_000_000;
@@ -100,6 +100,39 @@ pub fn facts_of<'a>(heap: &'a Heap, name: &'a str, instruction: &'a Instruction)
     learned.facts
 }
 
+/// Whether a sum names a register that these steps of a block define.
+fn names_made(sum: &Sum<'_>, steps: &[Step]) -> bool {
+    for step in steps {
+        if let Some(name) = register_of(&step.instruction) {
+            if sum.has(name) {
+                return true;
+            }
+        }
+    }
+    false
+}
+
+/// No less than a sum, without a register of it and those that these steps define, by one of some facts; none where no fact bounds it.
+fn most_by<'a>(
+    facts: &[Sum<'a>],
+    sum: &Sum<'a>,
+    name: &str,
+    steps: &[Step],
+) -> Option<Sum<'a>> {
+    let coefficient = sum.coefficient(name);
+    for fact in facts {
+        let times = coefficient.checked_div(fact.coefficient(name)).unwrap_or(0);
+        let times = 0i128.saturating_sub(times);
+        if times > 0 {
+            let rest = sum.with(fact, times);
+            if !rest.has(name) && !names_made(&rest, steps) {
+                return Some(rest);
+            }
+        }
+    }
+    None
+}
+
 /// No less than a sum, without a register of it, by what its instruction makes known; none where that bounds it not.
 fn most_without<'a>(
     heap: &'a Heap,
@@ -112,28 +145,27 @@ fn most_without<'a>(
         rest.put(name, &value);
         return Some(rest);
     }
-    let coefficient = sum.coefficient(name);
-    for fact in facts_of(heap, name, instruction) {
-        let times = coefficient.checked_div(fact.coefficient(name)).unwrap_or(0);
-        let times = 0i128.saturating_sub(times);
-        if times > 0 {
-            let rest = sum.with(&fact, times);
-            if !rest.has(name) {
-                return Some(rest);
-            }
-        }
-    }
-    None
+    let facts = facts_of(heap, name, instruction);
+    most_by(facts.as_slice(), sum, name, &[])
 }
 
-/// No less than a sum, before these steps of a block; none where nothing bounds what they define.
-pub fn most_before<'a>(heap: &'a Heap, sum: &Sum<'a>, steps: &'a [Step]) -> Option<Sum<'a>> {
+/// No less than a sum, before these steps of a block, by what they make known and by facts behind them; none where nothing bounds what they define.
+pub fn most_before<'a>(
+    heap: &'a Heap,
+    sum: &Sum<'a>,
+    steps: &'a [Step],
+    behind: &[Sum<'a>],
+) -> Option<Sum<'a>> {
     let mut most = sum.copy();
     for index in (0..steps.len()).rev() {
         let instruction = &steps[index].instruction;
         if let Some(name) = register_of(instruction) {
             if most.has(name) {
-                match most_without(heap, &most, name, instruction) {
+                let rest = match most_without(heap, &most, name, instruction) {
+                    Some(rest) => Some(rest),
+                    None => most_by(behind, &most, name, &steps[index..]),
+                };
+                match rest {
                     Some(rest) => most = rest,
                     None => return None,
                 }
@@ -141,4 +173,31 @@ pub fn most_before<'a>(heap: &'a Heap, sum: &Sum<'a>, steps: &'a [Step]) -> Opti
         }
     }
     Some(most)
+}
+
+/// Whether an instruction makes a register of which nothing is known by it.
+fn is_opaque<'a>(heap: &'a Heap, name: &'a str, instruction: &'a Instruction) -> bool {
+    definition_of(heap, instruction).is_none() && facts_of(heap, name, instruction).is_empty()
+}
+
+/// No less than a sum, without those of its registers of which their instructions make nothing known, as far as one of some facts bounds them.
+pub fn most_along<'a>(
+    heap: &'a Heap,
+    function: &'a Function,
+    sum: &Sum<'a>,
+    facts: &[Sum<'a>],
+) -> Sum<'a> {
+    let mut most = sum.copy();
+    for (name, coefficient) in &sum.terms {
+        if *coefficient != 0 {
+            if let Some(instruction) = definition_in(function, name) {
+                if is_opaque(heap, name, instruction) {
+                    if let Some(rest) = most_by(facts, &most, name, &[]) {
+                        most = rest;
+                    }
+                }
+            }
+        }
+    }
+    most
 }

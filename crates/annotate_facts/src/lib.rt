@@ -27,7 +27,7 @@ pub use fact::Facts;
 pub use guess::{Place, Rise, dominators_of, is_above, rise_of};
 pub use heap::Heap;
 pub use keep::{Extra, Known, MOST_BLOCKS, known_of, names_own};
-pub use learned::{facts_of, most_before};
+pub use learned::{facts_of, most_along, most_before};
 pub use live::Lives;
 pub use search::{lines_between, times_for};
 pub use sum::Sum;

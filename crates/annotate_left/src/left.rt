@@ -1,11 +1,15 @@
 //! What a block needs, from its own instructions and from what is left behind it.
 
-use crate::ring::{Ring, names_inner, ring_of};
 use annotate_facts::{
-    Edge, Heap, Known, MOST_BLOCKS, Sum, Way, block_at, greatest, most_before, moved,
+    Edge, Heap, Known, MOST_BLOCKS, Sum, Way, block_at, greatest, most_along, most_before, moved,
 };
+use crate::reserve::reserves_of;
+use crate::ring::{Ring, fall_of, names_inner, ring_of};
 use lists::Name;
 use syntax::{Block, Function, Instruction, Phi};
+
+/// How often one goes round a loop until what is needed at its head is found.
+const MOST_TURNS: usize = 4;
 
 /// Self calls and instructions.
 pub struct Need<'a> {
@@ -31,6 +35,8 @@ struct Finder<'w, 'a> {
     costs: &'w [(&'a str, u128)],
     /// The loops whose rounds are counted.
     rings: &'w [Ring<'a>],
+    /// Whether what is read from memory is replaced by what it is at most as soon as an edge says that, and not only where it is read.
+    is_eager: bool,
     lefts: Vec<Option<Need<'a>>>,
 }
 
@@ -76,6 +82,13 @@ impl<'a> Need<'a> {
         }
     }
 
+    fn copy(&self) -> Need<'a> {
+        Need {
+            calls: self.calls.copy(),
+            instructions: self.instructions.copy(),
+        }
+    }
+
     fn add(&mut self, other: &Need<'a>) {
         self.calls.add(&other.calls, 1);
         self.instructions.add(&other.instructions, 1);
@@ -102,22 +115,27 @@ impl<'a> Need<'a> {
     }
 }
 
-/// A sum at a block's start, as it is at the start of another from which an edge leads there: what that block's instructions define is replaced by what it
-/// is made of. None where it is no sum.
-fn sum_along<'a>(
-    heap: &'a Heap,
-    sum: &Sum<'a>,
-    from: &'a Block,
-    phis: &'a [Phi],
-) -> Option<Sum<'a>> {
-    let sum = moved(heap, sum, &from.label, phis);
-    most_before(heap, &sum, from.steps.as_slice())
-}
-
 impl<'a> Finder<'_, 'a> {
-    /// What the target of an edge needs, at the start of the block where the edge begins.
-    fn behind(&self, edge: Edge<'a>) -> Option<Need<'a>> {
+    /// A sum at the start of an edge's target, as it is at the start of its source: what that block's instructions define is replaced by what it is made of,
+    /// or by what it is at most. None where nothing says that.
+    fn sum_along(
+        &self,
+        number: usize,
+        sum: &Sum<'a>,
+        from: &'a Block,
+        phis: &'a [Phi],
+    ) -> Option<Sum<'a>> {
         let heap = self.known.heap;
+        let facts = self.known.sums_on(number);
+        let mut sum = moved(heap, sum, &from.label, phis);
+        if self.is_eager {
+            sum = most_along(heap, self.known.function, &sum, facts.as_slice());
+        }
+        most_before(heap, &sum, from.steps.as_slice(), facts.as_slice())
+    }
+
+    /// What the target of the edge of this number needs, at the start of the block where the edge begins.
+    fn behind(&self, number: usize, edge: Edge<'a>) -> Option<Need<'a>> {
         let function = self.known.function;
         let (Some(from), Some(to), Some(Some(left))) = (
             block_at(function, edge.from),
@@ -128,8 +146,8 @@ impl<'a> Finder<'_, 'a> {
         };
         let phis = to.phis.as_slice();
         match (
-            sum_along(heap, &left.calls, from, phis),
-            sum_along(heap, &left.instructions, from, phis),
+            self.sum_along(number, &left.calls, from, phis),
+            self.sum_along(number, &left.instructions, from, phis),
         ) {
             (Some(calls), Some(instructions)) => Some(Need {
                 calls,
@@ -141,8 +159,8 @@ impl<'a> Finder<'_, 'a> {
 
     /// Joins what is needed along one more edge: at a detach that of both targets together, else of that which needs most. Whether it
     /// is known.
-    fn join(&self, edge: Edge<'a>, is_first: bool, all: &mut Need<'a>) -> bool {
-        let Some(next) = self.behind(edge) else {
+    fn join(&self, number: usize, edge: Edge<'a>, is_first: bool, all: &mut Need<'a>) -> bool {
+        let Some(next) = self.behind(number, edge) else {
             return false;
         };
         if is_first || matches!(edge.way, Way::Continued(_)) {
@@ -156,9 +174,9 @@ impl<'a> Finder<'_, 'a> {
     /// Joins what is needed behind all edges of a block to nothing. Whether it is known.
     fn join_all(&self, block: usize, all: &mut Need<'a>) -> bool {
         let mut is_first = true;
-        for edge in &self.known.edges {
+        for (number, edge) in self.known.edges.iter().enumerate() {
             if edge.from == block {
-                if !self.join(*edge, is_first, all) {
+                if !self.join(number, *edge, is_first, all) {
                     return false;
                 }
                 is_first = false;
@@ -171,11 +189,14 @@ impl<'a> Finder<'_, 'a> {
     fn join_exit(
         &self,
         ring: &Ring<'a>,
-        edge: Edge<'a>,
+        number: usize,
         is_first: bool,
         all: &mut Need<'a>,
     ) -> bool {
-        let Some(next) = self.behind(edge) else {
+        let Some(edge) = self.known.edges.get(number).copied() else {
+            return false;
+        };
+        let Some(next) = self.behind(number, edge) else {
             return false;
         };
         if is_first {
@@ -193,9 +214,9 @@ impl<'a> Finder<'_, 'a> {
     fn join_exits(&self, ring: &Ring<'a>, all: &mut Need<'a>) -> Option<bool> {
         let mut is_first = true;
         let mut is_tested_first = true;
-        for edge in &self.known.edges {
+        for (number, edge) in self.known.edges.iter().enumerate() {
             if ring.has(edge.from) && !ring.has(edge.to) {
-                if !self.join_exit(ring, *edge, is_first, all) {
+                if !self.join_exit(ring, number, is_first, all) {
                     return None;
                 }
                 is_first = false;
@@ -210,20 +231,100 @@ impl<'a> Finder<'_, 'a> {
         need.add(&uses_of(self.known.heap, self.known.function, self.costs, block));
     }
 
-    /// What is needed at the head of a loop: so many rounds, as the rank says, and what is needed behind it.
-    fn need_of_ring(&self, ring: &Ring<'a>, head: &Block) -> Option<Need<'a>> {
-        let mut need = Need::none(self.known.heap);
-        match self.join_exits(ring, &mut need) {
-            Some(true) => self.add_steps(&mut need, head),
-            Some(false) => {
-                need.calls.add_number(ring.calls);
-                need.instructions.add_number(ring.instructions);
+    /// What each block needs by now, but for those of a loop, and this at the loop's head.
+    fn lefts_around(&self, ring: &Ring<'a>, need: &Need<'a>) -> Vec<Option<Need<'a>>> {
+        let heap = self.known.heap;
+        let mut lefts = heap.list();
+        for (block, left) in self.lefts.iter().enumerate() {
+            let left = match left {
+                _ if block == ring.head => Some(need.copy()),
+                Some(left) if !ring.has(block) => Some(left.copy()),
+                _ => None,
+            };
+            heap.push(&mut lefts, left);
+        }
+        lefts
+    }
+
+    /// What is needed at the head of a loop for one round, if this is needed once it is done.
+    fn need_of_round(
+        &self,
+        ring: &Ring<'a>,
+        head: &'a Block,
+        need: &Need<'a>,
+    ) -> Option<Need<'a>> {
+        let mut finder = Finder {
+            known: self.known,
+            costs: self.costs,
+            rings: self.rings,
+            is_eager: self.is_eager,
+            lefts: self.lefts_around(ring, need),
+        };
+        finder.draw_until_known();
+        finder.need_behind(ring.head, head)
+    }
+
+    /// What is needed at the head of a loop where what is needed behind it falls from round to round by what a round does, so that one round needs no more.
+    fn need_that_falls(
+        &self,
+        ring: &Ring<'a>,
+        head: &'a Block,
+        behind: &Need<'a>,
+    ) -> Option<Need<'a>> {
+        let known = self.known;
+        let mut need = behind.copy();
+        for _round in 0..MOST_TURNS {
+            let Some(next) = self.need_of_round(ring, head, &need) else {
+                return None;
+            };
+            let calls = known.lack_of(ring.head, &need.calls, &next.calls);
+            let instructions = known.lack_of(ring.head, &need.instructions, &next.instructions);
+            match (calls, instructions) {
+                (Some(0), Some(0)) => return Some(need),
+                (Some(calls), Some(instructions)) => {
+                    need.calls.add_number(calls);
+                    need.instructions.add_number(instructions);
+                }
+                _ => return None,
             }
-            None => return None,
+        }
+        None
+    }
+
+    /// What is needed at the head of a loop: so many rounds, as the rank says, and what is needed behind it, unless that falls from round to round and so pays
+    /// for them.
+    fn need_of_ring(&self, ring: &Ring<'a>, head: &'a Block) -> Option<Need<'a>> {
+        let mut need = Need::none(self.known.heap);
+        let Some(is_covered) = self.join_exits(ring, &mut need) else {
+            return None;
+        };
+        if fall_of(self.known, ring.head, &need.instructions).is_some() {
+            if let Some(need) = self.need_that_falls(ring, head, &need) {
+                return Some(need);
+            }
+        }
+        Some(self.need_of_rounds(ring, head, need, is_covered))
+    }
+
+    /// The same by so many rounds; whether they cover what is done before the loop is left.
+    fn need_of_rounds(
+        &self,
+        ring: &Ring<'a>,
+        head: &Block,
+        behind: Need<'a>,
+        is_covered: bool,
+    ) -> Need<'a> {
+        let mut need = behind;
+        if is_covered {
+            self.add_steps(&mut need, head);
+        } else {
+            need.calls.add_number(ring.calls);
+            need.instructions.add_number(ring.instructions);
         }
         ring.add_rounds(&mut need.calls, ring.calls);
         ring.add_rounds(&mut need.instructions, ring.instructions);
-        Some(need)
+        need.instructions.add(&ring.reserve, 1);
+        need
     }
 
     /// What a block needs by the edges behind it, if that is known.
@@ -320,62 +421,115 @@ fn greatest_at<'a>(known: &Known<'a>, block: usize, sum: &Sum<'a>) -> Option<i12
     }
 }
 
-/// What a round needs, where nothing is needed once it is done and behind the loop.
-fn round_need<'w, 'a>(
+/// Loops while their rounds are counted.
+#[derive(Clone, Copy)]
+struct Counting<'w, 'a> {
     known: &'w Known<'a>,
     costs: &'w [(&'a str, u128)],
+    /// The loops within.
     rings: &'w [Ring<'a>],
-    ring: &Ring<'a>,
-) -> Option<Need<'a>> {
-    let mut finder = Finder {
-        known,
-        costs,
-        rings,
-        lefts: known.heap.list(),
-    };
-    for block in 0..known.function.blocks.len() {
-        let is_asked = block != ring.head && ring.has(block);
-        let left = if is_asked {
-            None
-        } else {
-            Some(Need::none(known.heap))
-        };
-        known.heap.push(&mut finder.lefts, left);
-    }
-    finder.draw_until_known();
-    match block_at(known.function, ring.head) {
-        Some(head) => finder.need_behind(ring.head, head),
-        None => None,
-    }
+    is_eager: bool,
 }
 
-/// Counts what a round needs. Whether that is known.
-fn count_round<'a>(
-    known: &Known<'a>,
-    costs: &[(&'a str, u128)],
-    rings: &[Ring<'a>],
-    ring: &mut Ring<'a>,
-) -> bool {
-    let Some(need) = round_need(known, costs, rings, ring) else {
-        return false;
-    };
-    let calls = greatest_at(known, ring.head, &need.calls);
-    let instructions = greatest_at(known, ring.head, &need.instructions);
-    ring.calls = calls.unwrap_or(0);
-    ring.instructions = instructions.unwrap_or(0);
-    calls.is_some() && instructions.is_some()
+impl<'a> Counting<'_, 'a> {
+    /// What a round needs, where only what the loop holds in reserve is needed once it is done, and nothing behind the loop.
+    fn round_need(self, ring: &Ring<'a>) -> Option<Need<'a>> {
+        let heap = self.known.heap;
+        let mut finder = Finder {
+            known: self.known,
+            costs: self.costs,
+            rings: self.rings,
+            is_eager: self.is_eager,
+            lefts: heap.list(),
+        };
+        for block in 0..self.known.function.blocks.len() {
+            let left = if block == ring.head {
+                Some(Need {
+                    calls: Sum::number(heap, 0),
+                    instructions: ring.reserve.copy(),
+                })
+            } else if ring.has(block) {
+                None
+            } else {
+                Some(Need::none(heap))
+            };
+            heap.push(&mut finder.lefts, left);
+        }
+        finder.draw_until_known();
+        match block_at(self.known.function, ring.head) {
+            Some(head) => finder.need_behind(ring.head, head),
+            None => None,
+        }
+    }
+
+    /// A loop with this reserve, with what a round needs beside what falls of that; none where it is not known.
+    fn counted(self, ring: &Ring<'a>, reserve: Sum<'a>) -> Option<Ring<'a>> {
+        let mut ring = ring.with_reserve(reserve);
+        let Some(need) = self.round_need(&ring) else {
+            return None;
+        };
+        let used = need.instructions.with(&ring.reserve, -1);
+        let calls = greatest_at(self.known, ring.head, &need.calls);
+        let instructions = greatest_at(self.known, ring.head, &used);
+        match (calls, instructions) {
+            (Some(calls), Some(instructions)) => {
+                ring.calls = calls;
+                ring.instructions = instructions;
+                Some(ring)
+            }
+            _ => None,
+        }
+    }
+
+    /// The instructions that all rounds of a loop need at most.
+    fn most_of(self, ring: &Ring<'a>) -> Option<i128> {
+        let mut all = ring.reserve.copy();
+        ring.add_rounds(&mut all, ring.instructions);
+        greatest_at(self.known, ring.head, &all)
+    }
+
+    /// Whether all rounds of one loop need less than those of the other.
+    fn is_less(self, one: &Ring<'a>, other: &Ring<'a>) -> bool {
+        match (self.most_of(one), self.most_of(other)) {
+            (Some(one), Some(other)) => one < other,
+            _ => false,
+        }
+    }
+
+    /// A loop with what a round needs: without a reserve, or with one, where its rounds need less so. None where it is not known.
+    fn best(self, ring: &Ring<'a>) -> Option<Ring<'a>> {
+        let mut best = self.counted(ring, Sum::number(self.known.heap, 0));
+        for reserve in reserves_of(self.known, self.rings, ring) {
+            if let Some(next) = self.counted(ring, reserve) {
+                let is_better = match &best {
+                    Some(best) => self.is_less(&next, best),
+                    None => true,
+                };
+                if is_better {
+                    best = Some(next);
+                }
+            }
+        }
+        best
+    }
 }
 
 /// The loops whose rounds are counted, the inner ones first.
-fn rings_of<'a>(known: &Known<'a>, costs: &[(&'a str, u128)]) -> Vec<Ring<'a>> {
+fn rings_of<'a>(known: &Known<'a>, costs: &[(&'a str, u128)], is_eager: bool) -> Vec<Ring<'a>> {
     let mut rings = known.heap.list();
     let count = known.function.blocks.len();
     if count > MOST_BLOCKS {
         return rings;
     }
     for head in (0..count).rev() {
-        if let Some(mut ring) = ring_of(known, head) {
-            if count_round(known, costs, rings.as_slice(), &mut ring) {
+        if let Some(ring) = ring_of(known, head) {
+            let counting = Counting {
+                known,
+                costs,
+                rings: rings.as_slice(),
+                is_eager,
+            };
+            if let Some(ring) = counting.best(&ring) {
                 known.heap.push(&mut rings, ring);
             }
         }
@@ -400,11 +554,13 @@ fn needs_by<'w, 'a>(
     known: &'w Known<'a>,
     costs: &'w [(&'a str, u128)],
     rings: &'w [Ring<'a>],
+    is_eager: bool,
 ) -> Vec<Option<Need<'a>>> {
     let mut finder = Finder {
         known,
         costs,
         rings,
+        is_eager,
         lefts: known.heap.list(),
     };
     finder.begin();
@@ -412,8 +568,30 @@ fn needs_by<'w, 'a>(
     finder.lefts
 }
 
+/// The same, where the loops are still to be found.
+fn needs_with<'a>(
+    known: &Known<'a>,
+    costs: &[(&'a str, u128)],
+    is_eager: bool,
+) -> Vec<Option<Need<'a>>> {
+    let rings = rings_of(known, costs, is_eager);
+    needs_by(known, costs, rings.as_slice(), is_eager)
+}
+
+fn has_first(needs: &[Option<Need<'_>>]) -> bool {
+    matches!(needs.first(), Some(Some(_)))
+}
+
 /// What each block needs: what its line says, and where it has none what follows, from the ends back. None where that is not known.
 pub fn needs_of<'a>(known: &Known<'a>, costs: &[(&'a str, u128)]) -> Vec<Option<Need<'a>>> {
-    let rings = rings_of(known, costs);
-    needs_by(known, costs, rings.as_slice())
+    let needs = needs_with(known, costs, false);
+    if has_first(needs.as_slice()) {
+        return needs;
+    }
+    let others = needs_with(known, costs, true);
+    if has_first(others.as_slice()) {
+        others
+    } else {
+        needs
+    }
 }

@@ -4,6 +4,7 @@
 #![tactic(auto)]
 
 mod left;
+mod reserve;
 mod ring;
 mod total;
 

@@ -1,8 +1,8 @@
 //! Loops that a counter leads round: what falls each time, and what a round needs.
 
 use annotate_facts::{
-    Edge, Known, Sum, block_at, defines, greatest_apart, is_phi, last_of, names_own, phi_value,
-    sum_before, value_of,
+    Edge, Known, Sum, block_at, defines, greatest_apart, greatest_number, is_phi, last_of, moved,
+    names_own, phi_value, sum_before, value_of,
 };
 use syntax::{Block, Function, Operand};
 
@@ -16,6 +16,8 @@ pub struct Ring<'a> {
     pub step: i128,
     /// The least number that the rank has at the head.
     pub least: i128,
+    /// What is held at the head for what the loops within do, and not counted in a round.
+    pub reserve: Sum<'a>,
     /// Whether the head tests it, so that a round that has begun is one of those that the rank counts.
     pub is_tested_first: bool,
     /// The self calls and instructions of one time round, at most.
@@ -26,6 +28,21 @@ pub struct Ring<'a> {
 impl<'a> Ring<'a> {
     pub fn has(&self, block: usize) -> bool {
         self.head <= block && block <= self.last
+    }
+
+    /// The loop with this reserve, whose rounds are still to be counted.
+    pub fn with_reserve(&self, reserve: Sum<'a>) -> Ring<'a> {
+        Ring {
+            head: self.head,
+            last: self.last,
+            rank: self.rank.copy(),
+            step: self.step,
+            least: self.least,
+            reserve,
+            is_tested_first: self.is_tested_first,
+            calls: 0,
+            instructions: 0,
+        }
     }
 
     /// Adds a round's cost to a sum as often as rounds are left.
@@ -88,7 +105,7 @@ fn fall_along<'a>(known: &Known<'a>, head: &'a Block, from: &'a Block, rank: &Su
 }
 
 /// The least number that a sum may come to at a block, by the bounds of its registers.
-fn least_of<'a>(known: &Known<'a>, block: usize, sum: &Sum<'a>) -> Option<i128> {
+pub fn least_of<'a>(known: &Known<'a>, block: usize, sum: &Sum<'a>) -> Option<i128> {
     let opposite = sum.times(-1);
     let facts = known.facts_at(block);
     match greatest_apart(facts.as_slice(), &opposite) {
@@ -98,7 +115,7 @@ fn least_of<'a>(known: &Known<'a>, block: usize, sum: &Sum<'a>) -> Option<i128> 
 }
 
 /// By how much a sum at the head of a loop falls each time round at least: the same number on each edge that leads back, 1 or more.
-fn fall_of<'a>(known: &Known<'a>, head: usize, rank: &Sum<'a>) -> Option<i128> {
+pub fn fall_of<'a>(known: &Known<'a>, head: usize, rank: &Sum<'a>) -> Option<i128> {
     let mut found = None;
     for edge in &known.edges {
         if edge.to == head && edge.from >= head {
@@ -166,16 +183,14 @@ fn least_at<'a>(known: &Known<'a>, head: usize, rank: &Sum<'a>, step: i128) -> i
     0i128.saturating_sub(lack.unwrap_or(step))
 }
 
-/// What falls each time round a loop, by this fact on this edge within it.
-fn ring_by<'a>(
+/// The loop from a head to its last block, if a rank falls each time round.
+fn ring_with<'a>(
     known: &Known<'a>,
     last: usize,
-    head: usize,
     edge: Edge<'a>,
-    fact: &Sum<'a>,
+    head: usize,
+    rank: Sum<'a>,
 ) -> Option<Ring<'a>> {
-    let rank = rank_by(known.function, head, edge, fact);
-    let rank = by_outer(known, head, last, rank);
     if names_inner(known, head, last, &rank) {
         return None;
     }
@@ -189,10 +204,104 @@ fn ring_by<'a>(
         rank,
         step,
         least,
+        reserve: Sum::number(known.heap, 0),
         is_tested_first: edge.from == head,
         calls: 0,
         instructions: 0,
     })
+}
+
+/// A rank, where the greatest numbers that its registers may be take their place, but for those of the head's phis. None where there are none such.
+fn rank_by_numbers<'a>(known: &Known<'a>, head: usize, rank: &Sum<'a>) -> Option<Sum<'a>> {
+    let Some(block) = block_at(known.function, head) else {
+        return None;
+    };
+    let facts = known.facts_at(head);
+    let mut plain = Sum::number(known.heap, rank.constant);
+    for (name, coefficient) in &rank.terms {
+        if is_phi(block.phis.as_slice(), name) {
+            plain.add_term(name, *coefficient);
+        } else if *coefficient != 0 {
+            let own = Sum::of_register(known.heap, name, *coefficient);
+            match greatest_apart(facts.as_slice(), &own) {
+                Some(most) => plain.add_number(most),
+                None => return None,
+            }
+        }
+    }
+    Some(plain)
+}
+
+/// How far above its least number the rank of a loop is at most where the loop is entered.
+fn most_at_start<'a>(known: &Known<'a>, ring: &Ring<'a>) -> Option<i128> {
+    let facts = known.facts_at(ring.head);
+    let mut most = None;
+    for edge in &known.edges {
+        if edge.to == ring.head && edge.from < ring.head {
+            let start = at_start(known, *edge, &ring.rank);
+            match greatest_number(facts.as_slice(), &start) {
+                Some(next) => most = Some(next.max(most.unwrap_or(next))),
+                None => return None,
+            }
+        }
+    }
+    match most {
+        Some(most) => Some(most.saturating_sub(ring.least)),
+        None => None,
+    }
+}
+
+/// A sum at a loop's head, by what the head's phis take along an edge.
+fn at_start<'a>(known: &Known<'a>, edge: Edge<'a>, sum: &Sum<'a>) -> Sum<'a> {
+    match (
+        block_at(known.function, edge.to),
+        block_at(known.function, edge.from),
+    ) {
+        (Some(to), Some(from)) => moved(known.heap, sum, &from.label, to.phis.as_slice()),
+        _ => sum.copy(),
+    }
+}
+
+/// Whether it is known how far the rank of a loop may be below 0 at its head.
+fn is_bounded(known: &Known<'_>, ring: &Ring<'_>) -> bool {
+    let nothing = Sum::number(known.heap, 0);
+    known.lack_of(ring.head, &ring.rank, &nothing).is_some()
+}
+
+/// A loop, by numbers where it has fewer rounds so, or no more and it is sure that they do not fall below 0: of `%n-%i` from 1 on, which may be -1, `64-%i`
+/// has fewer.
+fn with_fewer<'a>(known: &Known<'a>, edge: Edge<'a>, ring: Ring<'a>) -> Ring<'a> {
+    if ring.least >= 0 {
+        return ring;
+    }
+    let Some(rank) = rank_by_numbers(known, ring.head, &ring.rank) else {
+        return ring;
+    };
+    let Some(plain) = ring_with(known, ring.last, edge, ring.head, rank) else {
+        return ring;
+    };
+    match (most_at_start(known, &plain), most_at_start(known, &ring)) {
+        (Some(few), Some(many)) if few < many => plain,
+        (Some(few), Some(many))
+            if few == many && is_bounded(known, &plain) && !is_bounded(known, &ring) => plain,
+        _ => ring,
+    }
+}
+
+/// What falls each time round a loop, by this fact on this edge within it.
+fn ring_by<'a>(
+    known: &Known<'a>,
+    last: usize,
+    head: usize,
+    edge: Edge<'a>,
+    fact: &Sum<'a>,
+) -> Option<Ring<'a>> {
+    let rank = rank_by(known.function, head, edge, fact);
+    let rank = by_outer(known, head, last, rank);
+    match ring_with(known, last, edge, head, rank) {
+        Some(ring) => Some(with_fewer(known, edge, ring)),
+        None => None,
+    }
 }
 
 /// What falls each time round a loop by a fact on this edge.
