@@ -242,14 +242,19 @@ pub fn phi_takes(phis: &[Phi], name: &str, predecessor: &Name) -> bool {
 }
 
 /// What a phi takes where the run comes from a block of this label.
-pub fn phi_value<'a>(phis: &'a [Phi], name: &str, predecessor: &Name) -> Option<&'a Operand> {
-    let Some(phi) = phi_of(phis, name) else {
-        return None;
-    };
+pub fn value_from<'a>(phi: &'a Phi, predecessor: &Name) -> Option<&'a Operand> {
     for entry in phi.entries.as_slice() {
         if entry.predecessor.is_same(predecessor) {
             return Some(&entry.value);
         }
     }
     None
+}
+
+/// The same of the phi among these that defines the register.
+pub fn phi_value<'a>(phis: &'a [Phi], name: &str, predecessor: &Name) -> Option<&'a Operand> {
+    match phi_of(phis, name) {
+        Some(phi) => value_from(phi, predecessor),
+        None => None,
+    }
 }

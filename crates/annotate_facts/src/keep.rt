@@ -1,7 +1,8 @@
 //! What is known wherever a block begins, because all ways to it bring it along.
 
 use crate::bound::bound_among;
-use crate::edge::{Edge, Way, defines, edges_of};
+use crate::definition::{moved, sum_before};
+use crate::edge::{Edge, Way, block_at, defines, edges_of};
 use crate::fact::Facts;
 use crate::guess::{Place, dominators_of};
 use crate::heap::Heap;
@@ -149,6 +150,38 @@ impl<'a> Known<'a> {
         }
     }
 
+    /// States what may be so where the end of a round begins, because it is so at the loop's head then; of sums that name several phis there, as others are
+    /// guessed phi by phi.
+    fn guess_along(&mut self, edge: Edge<'a>, sums: &[Sum<'a>]) {
+        let (Some(to), Some(from)) = (
+            block_at(self.function, edge.to),
+            block_at(self.function, edge.from),
+        ) else {
+            return;
+        };
+        for sum in sums {
+            let sum = moved(self.heap, sum, &from.label, to.phis.as_slice());
+            if let Some(before) = sum_before(self.heap, &sum, from.steps.as_slice()) {
+                if names_phis(from, &before) {
+                    self.facts.add(before);
+                }
+            }
+        }
+        let stated = self.facts.take();
+        extend(self.heap, &mut self.guessed, edge.from, stated.as_slice());
+    }
+
+    /// The same on all edges that lead back to a block.
+    fn guess_before(&mut self, block: usize, sums: &[Sum<'a>]) {
+        for number in 0..self.edges.len() {
+            if let Some(edge) = self.edges.get(number).copied() {
+                if edge.to == block && edge.from > block {
+                    self.guess_along(edge, sums);
+                }
+            }
+        }
+    }
+
     /// States what may be so of a block's counters, by the facts from this number on.
     fn guess(&mut self, above: &[usize], block: usize, first: usize) {
         let place = Place {
@@ -164,6 +197,7 @@ impl<'a> Known<'a> {
         } else {
             place.guesses_of_taken(&sums[from..])
         };
+        self.guess_before(block, guesses.as_slice());
         self.facts.add_all(guesses);
         let stated = self.facts.take();
         extend(self.heap, &mut self.guessed, block, stated.as_slice());
@@ -471,6 +505,17 @@ fn lack_by<'a>(sum: &Sum<'a>, fact: &Sum<'a>) -> Option<i128> {
         Some(number) => Some(number.saturating_neg().max(0)),
         None => None,
     }
+}
+
+/// Whether a sum names several phis of the block.
+fn names_phis(block: &Block, sum: &Sum<'_>) -> bool {
+    let mut count = 0usize;
+    for phi in block.phis.as_slice() {
+        if sum.has(phi.register.as_str()) {
+            count = count.saturating_add(1);
+        }
+    }
+    count >= 2
 }
 
 /// Whether a sum names a register that the block defines.

@@ -5,6 +5,7 @@
 //! the outcomes of branches and what instructions make, and if asked what may be so of counters; of these it finds what all ways to a block bring along.
 #![tactic(auto)]
 
+mod balance;
 mod bound;
 mod definition;
 mod edge;
