@@ -2,7 +2,7 @@
 
 use crate::bound::bound_among;
 use crate::definition::{moved, sum_before};
-use crate::edge::{Edge, Way, block_at, defines, edges_of};
+use crate::edge::{Edge, Way, block_at, defines, edges_of, is_phi};
 use crate::fact::Facts;
 use crate::guess::{Place, dominators_of};
 use crate::heap::Heap;
@@ -150,8 +150,32 @@ impl<'a> Known<'a> {
         }
     }
 
-    /// States what may be so where the end of a round begins, because it is so at the loop's head then; of sums that name several phis there, as others are
-    /// guessed phi by phi.
+    /// The last of the blocks before this one whose instructions make a register of one sum that another one has not.
+    fn maker_of(&self, end: usize, sum: &Sum<'a>, other: &Sum<'a>) -> Option<usize> {
+        let mut maker = None;
+        for (index, block) in self.function.blocks.as_slice().iter().enumerate() {
+            if index < end && makes_more(block, sum, other) {
+                maker = Some(index);
+            }
+        }
+        maker
+    }
+
+    /// States what may be so on an edge that leads back to a loop's head, because this is so at the head then: at the source of the edge, where that names
+    /// several of its phis, as others are guessed phi by phi; or from where a register is made that a phi of the head takes.
+    fn guess_moved(&mut self, edge: Edge<'a>, from: &'a Block, sum: &Sum<'a>, before: Sum<'a>) {
+        if names_phis(from, &before) {
+            self.facts.add(before);
+            let stated = self.facts.take();
+            extend(self.heap, &mut self.guessed, edge.from, stated.as_slice());
+        } else if let Some(maker) = self.maker_of(edge.from, &before, sum) {
+            self.facts.add(before);
+            let stated = self.facts.take();
+            extend(self.heap, &mut self.made, maker, stated.as_slice());
+        }
+    }
+
+    /// The same of sums that may be at least 0 at the head.
     fn guess_along(&mut self, edge: Edge<'a>, sums: &[Sum<'a>]) {
         let (Some(to), Some(from)) = (
             block_at(self.function, edge.to),
@@ -160,15 +184,11 @@ impl<'a> Known<'a> {
             return;
         };
         for sum in sums {
-            let sum = moved(self.heap, sum, &from.label, to.phis.as_slice());
-            if let Some(before) = sum_before(self.heap, &sum, from.steps.as_slice()) {
-                if names_phis(from, &before) {
-                    self.facts.add(before);
-                }
+            let moved = moved(self.heap, sum, &from.label, to.phis.as_slice());
+            if let Some(before) = sum_before(self.heap, &moved, from.steps.as_slice()) {
+                self.guess_moved(edge, from, sum, before);
             }
         }
-        let stated = self.facts.take();
-        extend(self.heap, &mut self.guessed, edge.from, stated.as_slice());
     }
 
     /// The same on all edges that lead back to a block.
@@ -505,6 +525,20 @@ fn lack_by<'a>(sum: &Sum<'a>, fact: &Sum<'a>) -> Option<i128> {
         Some(number) => Some(number.saturating_neg().max(0)),
         None => None,
     }
+}
+
+/// Whether a sum names a register that the block's instructions make, and that another sum has not.
+fn makes_more(block: &Block, sum: &Sum<'_>, other: &Sum<'_>) -> bool {
+    for (name, coefficient) in &sum.terms {
+        if *coefficient != 0
+            && !other.has(name)
+            && defines(block, name)
+            && !is_phi(block.phis.as_slice(), name)
+        {
+            return true;
+        }
+    }
+    false
 }
 
 /// Whether a sum names several phis of the block.
