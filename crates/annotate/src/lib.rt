@@ -12,6 +12,7 @@ mod trial;
 mod trying;
 mod verdict;
 
+pub use annotate_lines::{Limit, MetLimit, limits_met};
 pub use new_lines::NewLines;
 pub use pruning::pruned;
-pub use trying::annotated;
+pub use trying::{annotated, is_long};

@@ -31,6 +31,11 @@ const MOST_CALLS: usize = 3;
 /// The bytes of a text over which guesses are tried without the lines that may show them.
 const LONG: usize = 65_536;
 
+/// Whether a text is so long that guesses are tried without the lines that may show them, and nothing is found that costs and zones want.
+pub fn is_long(text: &[u8]) -> bool {
+    text.len() > LONG
+}
+
 /// A text as it was.
 pub fn copied(alloc: Global, text: &[u8]) -> Result<Vec<u8>, AllocError>
     ensures { IfOk result (λ out. out.items ≡ text.now) }

@@ -60,6 +60,11 @@ impl<'a> Facts<'a> {
         }
     }
 
+    /// Whether there is no room for another one.
+    pub fn is_full(&self) -> bool {
+        self.sums.len() >= MOST_FACTS
+    }
+
     /// States that these sums are at least 0.
     pub fn add_all(&mut self, sums: Vec<Sum<'a>>) {
         for sum in sums {
@@ -153,7 +158,7 @@ impl<'a> Facts<'a> {
 
     /// States what a block's own instructions make of registers that other blocks take, unless the function has many.
     pub fn make_all(&mut self, index: usize) {
-        if is_long(self.function) {
+        if has_many_instructions(self.function) {
             return;
         }
         if let Some(block) = block_at(self.function, index) {
@@ -193,7 +198,7 @@ impl<'a> Facts<'a> {
 }
 
 /// Whether a function has many instructions.
-fn is_long(function: &Function) -> bool {
+pub fn has_many_instructions(function: &Function) -> bool {
     let mut count = 0usize;
     for block in function.blocks.as_slice() {
         count = count.saturating_add(block.steps.len());

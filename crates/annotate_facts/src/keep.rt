@@ -1,6 +1,6 @@
 //! What is known wherever a block begins, because all ways to it bring it along.
 
-use crate::bound::bound_among;
+use crate::bound::{bound_among, greatest_number};
 use crate::definition::{moved, sum_before};
 use crate::edge::{Edge, Way, block_at, defines, edges_of, is_phi};
 use crate::fact::Facts;
@@ -381,6 +381,26 @@ impl<'a> Known<'a> {
         }
     }
 
+    /// How much more than one sum another one may be, in numbers.
+    fn over(&self, block: usize, one: &Sum<'a>, other: &Sum<'a>) -> Option<i128> {
+        let facts = self.facts_at(block);
+        let difference = other.with(one, -1);
+        match greatest_number(facts.as_slice(), &difference) {
+            Some(most) => Some(most.max(0)),
+            None => None,
+        }
+    }
+
+    /// One of two sums with as much as the other may be more, or their sum where nothing is known of that.
+    fn no_less(&self, block: usize, one: &Sum<'a>, other: &Sum<'a>) -> Sum<'a> {
+        match (self.over(block, one, other), self.over(block, other, one)) {
+            (Some(first), Some(second)) if second < first => other.raised(second),
+            (Some(first), _) => one.raised(first),
+            (None, Some(second)) => other.raised(second),
+            (None, None) => one.with(other, 1),
+        }
+    }
+
     /// The greater of two sums, or one with what it may lack, or their sum where nothing is known of that.
     pub fn greater(&self, block: usize, one: &Sum<'a>, other: &Sum<'a>) -> Sum<'a> {
         match (
@@ -390,7 +410,7 @@ impl<'a> Known<'a> {
             (Some(first), Some(second)) if second < first => other.raised(second),
             (Some(first), _) => one.raised(first),
             (None, Some(second)) => other.raised(second),
-            (None, None) => one.with(other, 1),
+            (None, None) => self.no_less(block, one, other),
         }
     }
 

@@ -24,7 +24,7 @@ pub use edge::{
     Edge, Way, block_at, block_numbered, defines, definition_in, edges_of, is_phi, is_used_beside,
     last_of, phi_value, register_of,
 };
-pub use fact::Facts;
+pub use fact::{Facts, has_many_instructions};
 pub use guess::{Place, Rise, dominators_of, is_above, rise_of};
 pub use heap::Heap;
 pub use keep::{Extra, Known, MOST_BLOCKS, known_of, names_own};

@@ -7,9 +7,11 @@
 #![tactic(auto)]
 
 mod derived;
+mod limits;
 mod order;
 mod proposal;
 mod step;
 mod wanted;
 
+pub use limits::{Limit, MetLimit, limits_met};
 pub use proposal::{Kind, proposed};

@@ -153,9 +153,23 @@ impl<'a> Walk<'a> {
             return;
         }
         for line in lines {
-            self.learn(line.copy());
-            self.scope.heap.push(&mut self.told, line);
+            if !self.says(&line) {
+                self.learn(line.copy());
+                self.scope.heap.push(&mut self.told, line);
+            }
         }
+    }
+
+    /// Whether one of the facts says no less of the same registers.
+    fn says(&self, line: &Sum<'a>) -> bool {
+        for fact in &self.facts {
+            if let Some(over) = line.number_with(fact, -1) {
+                if over >= 0 {
+                    return true;
+                }
+            }
+        }
+        false
     }
 
     /// Tells how the facts show a sum; whether they do.

@@ -4,6 +4,7 @@ ghost use Rattle.std.specs.Prelude.{IfOk, Option, ℕ};
 ghost use Rattle.cli_answers.specs.Undecided.{IsSpentWithin};
 ghost use Rattle.verifier.specs.Accepted.{IsUnverified};
 
+use crate::limits::note_limits;
 use crate::refusals::print_unverified;
 use annotate::{NewLines, annotated, pruned};
 use cli_words::{Beside, Request, Status, print_refused};
@@ -48,7 +49,10 @@ pub fn print_annotated<W: Write>(
         };
     }
     match annotated(alloc, state, text, effort) {
-        Ok(text) => give(alloc, request, text.as_slice(), output, beside),
+        Ok(more) => {
+            note_limits(alloc, state, request.file.as_str(), text, effort, beside)?;
+            give(alloc, request, more.as_slice(), output, beside)
+        }
         Err(refused) => print_refused(&refused, output),
     }
 }

@@ -8,6 +8,7 @@ mod accepted;
 mod annotations;
 mod faults;
 mod json;
+mod limits;
 mod own_lines;
 mod reasons;
 mod refusals;
