@@ -21,6 +21,8 @@ struct Rest<'a> {
 struct Search<'w, 'a> {
     heap: &'a Heap,
     facts: &'w [Sum<'a>],
+    /// What the first rest is to show beside one more fact, if that is asked.
+    beside: Option<&'w Sum<'a>>,
     rests: Vec<Rest<'a>>,
     /// How many rests were compared with others since that was last counted.
     compared: usize,
@@ -155,13 +157,13 @@ impl<'a> Search<'_, 'a> {
         None
     }
 
-    /// Adds so many times the fact of a rest, where the one that two facts are to show has no such factor. Whether it may stand in a line.
-    fn push_multiple(&self, rest: &Rest<'a>, shown: usize, lines: &mut Vec<Sum<'a>>) -> bool {
+    /// Adds so many times the fact of a rest, where the sum that two facts are to show has no such factor. Whether it may stand in a line.
+    fn push_multiple(&self, rest: &Rest<'a>, shown: &Sum<'a>, lines: &mut Vec<Sum<'a>>) -> bool {
         let facts = self.facts;
-        let (Some(whole), Some(fact)) = (self.rests.get(shown), facts.get(rest.fact)) else {
+        let Some(fact) = facts.get(rest.fact) else {
             return false;
         };
-        if is_factor(&whole.sum, rest.times) {
+        if is_factor(shown, rest.times) {
             return true;
         }
         let multiple = fact.times(rest.times);
@@ -188,26 +190,34 @@ impl<'a> Search<'_, 'a> {
         };
         let is_last = number == end.last;
         let shown = if is_last { whole.of } else { rest.of };
+        let Some(shown) = self.shown(shown, is_last && rest.of == 0) else {
+            return false;
+        };
         if !self.push_multiple(rest, shown, lines) {
             return false;
         }
-        if is_last || rest.of == 0 && !end.is_stated {
+        if is_last || rest.of == 0 && self.beside.is_none() {
             return true;
         }
         self.push_rest(whole, end.over, lines)
     }
 
+    /// What two facts are to show: the rest of this number, or where one fact alone shows the first rest the sum that this stands beside.
+    fn shown(&self, number: usize, is_alone: bool) -> Option<&Sum<'a>> {
+        match (self.beside, self.rests.get(number)) {
+            (Some(beside), _) if is_alone => Some(beside),
+            (_, Some(rest)) => Some(&rest.sum),
+            _ => None,
+        }
+    }
+
     /// The lines with which the facts show the first rest, by the one that is shown.
-    fn lines_to(&self, last: usize, is_stated: bool) -> Option<Vec<Sum<'a>>> {
+    fn lines_to(&self, last: usize) -> Option<Vec<Sum<'a>>> {
         let over = match self.rests.get(last) {
             Some(rest) => rest.sum.constant,
             None => 0,
         };
-        let end = End {
-            last,
-            over,
-            is_stated,
-        };
+        let end = End { last, over };
         let mut lines = self.heap.list();
         let mut number = last;
         for _step in 0..self.rests.len() {
@@ -226,27 +236,27 @@ impl<'a> Search<'_, 'a> {
     }
 }
 
-/// The number of the rest that is shown, what is over in it, and whether what is to be shown is to stand in a line.
+/// The number of the rest that is shown, and what is over in it.
 #[derive(Clone, Copy)]
 struct End {
     last: usize,
     over: i128,
-    is_stated: bool,
 }
 
-/// Lines with which facts show that a sum is at least 0: each of them is shown by two facts and those before it, and so is the sum. It is the last of them
-/// itself where `is_stated` asks for that and one fact alone does not show it. None where none are found within the effort, of which what was looked at is
-/// taken off.
+/// Lines with which facts show that a sum is at least 0: each of them is shown by two facts and those before it, and so is the sum. Where it is to show another
+/// sum `beside` one more fact, it is the last of them itself, unless one fact alone shows it, and as often as that other sum lets it count. None where none are
+/// found within the effort, of which what was looked at is taken off.
 pub fn lines_between<'a>(
     heap: &'a Heap,
     facts: &[Sum<'a>],
     sum: &Sum<'a>,
-    is_stated: bool,
+    beside: Option<&Sum<'a>>,
     effort: &mut usize,
 ) -> Option<Vec<Sum<'a>>> {
     let mut search = Search {
         heap,
         facts,
+        beside,
         rests: heap.list(),
         compared: 0,
     };
@@ -258,7 +268,7 @@ pub fn lines_between<'a>(
     };
     heap.push(&mut search.rests, whole);
     match search.run(effort) {
-        Some(last) => search.lines_to(last, is_stated),
+        Some(last) => search.lines_to(last),
         None => None,
     }
 }

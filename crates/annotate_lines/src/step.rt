@@ -172,14 +172,14 @@ impl<'a> Walk<'a> {
         false
     }
 
-    /// Tells how the facts show a sum; whether they do.
-    fn reach(&mut self, sum: &Sum<'a>, is_stated: bool) -> bool {
+    /// Tells how the facts show a sum, or what shows another one beside one more fact; whether they do.
+    fn reach(&mut self, sum: &Sum<'a>, beside: Option<&Sum<'a>>) -> bool {
         if let Some(number) = sum.as_number() {
             return number >= 0;
         }
         let heap = self.scope.heap;
         let mut effort = self.effort;
-        let found = lines_between(heap, self.facts.as_slice(), sum, is_stated, &mut effort);
+        let found = lines_between(heap, self.facts.as_slice(), sum, beside, &mut effort);
         self.effort = effort;
         match found {
             Some(lines) => {
@@ -202,7 +202,7 @@ impl<'a> Walk<'a> {
 
     /// Tells how the facts show what is asked, or keeps it.
     fn ask(&mut self, goal: &Sum<'a>) {
-        if !self.reach(goal, false) {
+        if !self.reach(goal, None) {
             self.miss(goal);
         }
     }
@@ -228,7 +228,7 @@ impl<'a> Walk<'a> {
     fn is_at_least(&mut self, times: i128, operand: &'a Operand, number: i128) -> bool {
         let mut sum = Sum::of_operand(self.scope.heap, operand, times);
         sum.add_number(0i128.saturating_sub(number));
-        self.reach(&sum, false)
+        self.reach(&sum, None)
     }
 
     /// States what a quotient or a remainder by a number is.
@@ -365,7 +365,7 @@ impl<'a> Walk<'a> {
     /// Tells how the facts show that cells lie in a zone. Whether they do.
     fn reach_ends(&mut self, cells: &Cells<'a>, zone: &'a Zone) -> bool {
         let heap = self.scope.heap;
-        self.reach(&begin_in(cells, zone), false) && self.reach(&end_in(heap, cells, zone), false)
+        self.reach(&begin_in(cells, zone), None) && self.reach(&end_in(heap, cells, zone), None)
     }
 
     /// The same; nothing is told where they do not.
@@ -449,18 +449,18 @@ impl<'a> Walk<'a> {
             let times = times_for(*coefficient, fact.coefficient(name));
             if let Some(times) = times {
                 let rest = goal.with(fact, 0i128.saturating_sub(times));
-                if self.reach(&rest, true) {
+                if self.reach(&rest, Some(goal)) {
                     return true;
                 }
             }
         }
         let rest = goal.with(fact, -1);
-        self.reach(&rest, true)
+        self.reach(&rest, Some(goal))
     }
 
     /// Tells how the facts show a sum along an edge, with what being taken says of it, or without.
     fn reach_along(&mut self, known: &Known<'a>, edge: usize, goal: &Sum<'a>) {
-        if self.reach(goal, false) {
+        if self.reach(goal, None) {
             return;
         }
         for number in known.facts_by_taking(edge) {
@@ -477,7 +477,7 @@ impl<'a> Walk<'a> {
     fn ask_left(&mut self, sum: &Sum<'a>) {
         let heap = self.scope.heap;
         let mut effort = self.effort;
-        let found = lines_between(heap, self.facts.as_slice(), sum, false, &mut effort);
+        let found = lines_between(heap, self.facts.as_slice(), sum, None, &mut effort);
         self.effort = effort;
         let is_shown = match &found {
             Some(lines) => lines.is_empty(),
