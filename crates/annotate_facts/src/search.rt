@@ -22,7 +22,7 @@ struct Search<'w, 'a> {
     heap: &'a Heap,
     facts: &'w [Sum<'a>],
     /// What the first rest is to show beside one more fact, if that is asked.
-    beside: Option<&'w Sum<'a>>,
+    beside: Option<Sum<'a>>,
     rests: Vec<Rest<'a>>,
     /// How many rests were compared with others since that was last counted.
     compared: usize,
@@ -157,15 +157,12 @@ impl<'a> Search<'_, 'a> {
         None
     }
 
-    /// Adds so many times the fact of a rest, where the sum that two facts are to show has no such factor. Whether it may stand in a line.
-    fn push_multiple(&self, rest: &Rest<'a>, shown: &Sum<'a>, lines: &mut Vec<Sum<'a>>) -> bool {
+    /// Adds so many times the fact of a rest. Whether it may stand in a line.
+    fn push_multiple(&self, rest: &Rest<'a>, lines: &mut Vec<Sum<'a>>) -> bool {
         let facts = self.facts;
         let Some(fact) = facts.get(rest.fact) else {
             return false;
         };
-        if is_factor(shown, rest.times) {
-            return true;
-        }
         let multiple = fact.times(rest.times);
         let is_line = multiple.is_form() && is_factor(&multiple, rest.times);
         self.heap.push(lines, multiple);
@@ -189,11 +186,12 @@ impl<'a> Search<'_, 'a> {
             return false;
         };
         let is_last = number == end.last;
-        let shown = if is_last { whole.of } else { rest.of };
-        let Some(shown) = self.shown(shown, is_last && rest.of == 0) else {
-            return false;
+        let may_count = if is_last && rest.of == 0 {
+            self.may_count_alone(rest.times)
+        } else {
+            self.may_count(if is_last { whole.of } else { rest.of }, rest.times)
         };
-        if !self.push_multiple(rest, shown, lines) {
+        if !may_count && !self.push_multiple(rest, lines) {
             return false;
         }
         if is_last || rest.of == 0 && self.beside.is_none() {
@@ -202,12 +200,19 @@ impl<'a> Search<'_, 'a> {
         self.push_rest(whole, end.over, lines)
     }
 
-    /// What two facts are to show: the rest of this number, or where one fact alone shows the first rest the sum that this stands beside.
-    fn shown(&self, number: usize, is_alone: bool) -> Option<&Sum<'a>> {
-        match (self.beside, self.rests.get(number)) {
-            (Some(beside), _) if is_alone => Some(beside),
-            (_, Some(rest)) => Some(&rest.sum),
-            _ => None,
+    /// Whether a fact may count so often where two facts show the rest of this number.
+    fn may_count(&self, number: usize, times: i128) -> bool {
+        match self.rests.get(number) {
+            Some(rest) => is_factor(&rest.sum, times),
+            None => false,
+        }
+    }
+
+    /// The same where one fact alone shows the first rest, and so the sum that this stands beside.
+    fn may_count_alone(&self, times: i128) -> bool {
+        match &self.beside {
+            Some(beside) => is_factor(beside, times),
+            None => self.may_count(0, times),
         }
     }
 
@@ -256,7 +261,10 @@ pub fn lines_between<'a>(
     let mut search = Search {
         heap,
         facts,
-        beside,
+        beside: match beside {
+            Some(beside) => Some(beside.copy()),
+            None => None,
+        },
         rests: heap.list(),
         compared: 0,
     };
