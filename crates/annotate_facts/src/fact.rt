@@ -43,7 +43,7 @@ impl<'a> Facts<'a> {
     fn find(&self, sum: &Sum<'a>) -> Option<usize> {
         for number in 0..self.sums.len() {
             let other = &self.sums[number];
-            if other.constant == sum.constant && other.number_with(sum, -1).is_some() {
+            if other.constant == sum.constant && other.apart_from(sum).is_some() {
                 return Some(number);
             }
         }

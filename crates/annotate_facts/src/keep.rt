@@ -336,7 +336,7 @@ impl<'a> Known<'a> {
         let is_sure = !self.has_guesses();
         for number in 0..self.facts.sums.len() {
             if self.is_known(block, number) && (is_sure || self.is_given(block, number)) {
-                if let Some(apart) = fact.number_with(&self.facts.sums[number], -1) {
+                if let Some(apart) = fact.apart_from(&self.facts.sums[number]) {
                     if apart > 0 {
                         return true;
                     }

@@ -10,6 +10,8 @@ const MOST_RESTS: usize = 128;
 #[derive(Drop)]
 struct Rest<'a> {
     sum: Sum<'a>,
+    /// All its coefficients together, by which most others are seen to have other registers.
+    total: i128,
     /// The number of that rest; of the first one its own.
     of: usize,
     fact: usize,
@@ -76,8 +78,12 @@ impl<'a> Search<'_, 'a> {
 
     /// Whether a rest with the same registers and no less a number was found.
     fn is_found(&self, sum: &Sum<'a>) -> bool {
+        let total = sum.total();
         for rest in &self.rests {
-            if rest.sum.constant >= sum.constant && rest.sum.number_with(sum, -1).is_some() {
+            if rest.total == total
+                && rest.sum.constant >= sum.constant
+                && rest.sum.apart_from(sum).is_some()
+            {
                 return true;
             }
         }
@@ -94,8 +100,10 @@ impl<'a> Search<'_, 'a> {
         let is_shown = matches!(sum.as_number(), Some(left) if left >= 0);
         self.compared = self.compared.saturating_add(number);
         if is_shown || number < MOST_RESTS && sum.has_form_terms() && !self.is_found(&sum) {
+            let total = sum.total();
             let rest = Rest {
                 sum,
+                total,
                 of,
                 fact,
                 times,
@@ -270,6 +278,7 @@ pub fn lines_between<'a>(
     };
     let whole = Rest {
         sum: sum.copy(),
+        total: sum.total(),
         of: 0,
         fact: 0,
         times: 0,

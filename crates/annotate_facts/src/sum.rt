@@ -198,6 +198,34 @@ impl<'a> Sum<'a> {
         }
     }
 
+    /// By how much the sum is more than another one with the same registers as often; none where the other has others.
+    pub fn apart_from(&self, other: &Sum<'a>) -> Option<i128> {
+        if self.has_as_often(other) && other.has_as_often(self) {
+            Some(self.constant.saturating_sub(other.constant))
+        } else {
+            None
+        }
+    }
+
+    /// Whether each register of the other sum stands in this one as often.
+    fn has_as_often(&self, other: &Sum<'a>) -> bool {
+        for (name, coefficient) in &other.terms {
+            if self.coefficient(name) != *coefficient {
+                return false;
+            }
+        }
+        true
+    }
+
+    /// All coefficients together.
+    pub fn total(&self) -> i128 {
+        let mut total = 0i128;
+        for (_name, coefficient) in &self.terms {
+            total = total.saturating_add(*coefficient);
+        }
+        total
+    }
+
     /// Whether all registers of the other sum stand in this one.
     fn has_all(&self, other: &Sum<'a>) -> bool {
         for (name, coefficient) in &other.terms {

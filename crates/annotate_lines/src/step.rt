@@ -163,7 +163,7 @@ impl<'a> Walk<'a> {
     /// Whether one of the facts says no less of the same registers.
     fn says(&self, line: &Sum<'a>) -> bool {
         for fact in &self.facts {
-            if let Some(over) = line.number_with(fact, -1) {
+            if let Some(over) = line.apart_from(fact) {
                 if over >= 0 {
                     return true;
                 }

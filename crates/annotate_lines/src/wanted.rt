@@ -55,7 +55,7 @@ impl<'w, 'a> Wants<'w, 'a> {
 
     fn is_wanted(&self, block: usize, sum: &Sum<'a>) -> bool {
         for want in &self.wants {
-            if want.block == block && matches!(want.sum.number_with(sum, -1), Some(0)) {
+            if want.block == block && matches!(want.sum.apart_from(sum), Some(0)) {
                 return true;
             }
         }
