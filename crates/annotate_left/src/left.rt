@@ -89,6 +89,10 @@ impl<'a> Need<'a> {
         }
     }
 
+    fn is_form(&self) -> bool {
+        self.calls.is_form() && self.instructions.is_form()
+    }
+
     fn add(&mut self, other: &Need<'a>) {
         self.calls.add(&other.calls, 1);
         self.instructions.add(&other.instructions, 1);
@@ -260,7 +264,7 @@ impl<'a> Finder<'_, 'a> {
             is_eager: self.is_eager,
             lefts: self.lefts_around(ring, need),
         };
-        finder.draw_until_known();
+        finder.count_until_known();
         finder.need_behind(ring.head, head)
     }
 
@@ -294,27 +298,24 @@ impl<'a> Finder<'_, 'a> {
     /// What is needed at the head of a loop: so many rounds, as the rank says, and what is needed behind it, unless that falls from round to round and so pays
     /// for them.
     fn need_of_ring(&self, ring: &Ring<'a>, head: &'a Block) -> Option<Need<'a>> {
+        let mut behind = Need::none(self.known.heap);
+        if self.join_exits(ring, &mut behind).is_none() {
+            return None;
+        }
+        if fall_of(self.known, ring.head, &behind.instructions).is_some() {
+            if let Some(need) = self.need_that_falls(ring, head, &behind) {
+                return Some(need);
+            }
+        }
+        self.need_of_rounds(ring, head)
+    }
+
+    /// The same, whether that falls or not.
+    fn need_of_rounds(&self, ring: &Ring<'a>, head: &Block) -> Option<Need<'a>> {
         let mut need = Need::none(self.known.heap);
         let Some(is_covered) = self.join_exits(ring, &mut need) else {
             return None;
         };
-        if fall_of(self.known, ring.head, &need.instructions).is_some() {
-            if let Some(need) = self.need_that_falls(ring, head, &need) {
-                return Some(need);
-            }
-        }
-        Some(self.need_of_rounds(ring, head, need, is_covered))
-    }
-
-    /// The same by so many rounds; whether they cover what is done before the loop is left.
-    fn need_of_rounds(
-        &self,
-        ring: &Ring<'a>,
-        head: &Block,
-        behind: Need<'a>,
-        is_covered: bool,
-    ) -> Need<'a> {
-        let mut need = behind;
         if is_covered {
             self.add_steps(&mut need, head);
         } else {
@@ -324,7 +325,7 @@ impl<'a> Finder<'_, 'a> {
         ring.add_rounds(&mut need.calls, ring.calls);
         ring.add_rounds(&mut need.instructions, ring.instructions);
         need.instructions.add(&ring.reserve, 1);
-        need
+        Some(need)
     }
 
     /// What a block needs by the edges behind it, if that is known.
@@ -338,42 +339,53 @@ impl<'a> Finder<'_, 'a> {
         }
     }
 
-    /// What a block needs. None where that is not known, or no form of its start's registers.
+    /// What a block needs. None where that is not known.
     fn need(&self, number: usize) -> Option<Need<'a>> {
         let Some(block) = block_at(self.known.function, number) else {
             return None;
         };
-        let found = match ring_at(self.rings, number) {
+        match ring_at(self.rings, number) {
             Some(ring) => self.need_of_ring(ring, block),
             None => self.need_behind(number, block),
-        };
-        let Some(need) = found else {
-            return None;
-        };
-        if need.calls.is_form() && need.instructions.is_form() {
-            Some(need)
-        } else {
-            None
         }
     }
 
-    /// Finds what a block needs, if that is not known yet; whether it was found.
-    fn draw(&mut self, block: usize) -> bool {
-        if block >= self.lefts.len() || self.lefts[block].is_some() {
-            return false;
+    /// The same where each loop is counted by its rounds.
+    fn counted_need(&self, number: usize) -> Option<Need<'a>> {
+        let Some(block) = block_at(self.known.function, number) else {
+            return None;
+        };
+        match ring_at(self.rings, number) {
+            Some(ring) => self.need_of_rounds(ring, block),
+            None => self.need_behind(number, block),
         }
-        let need = self.need(block);
-        let is_new = need.is_some();
-        self.lefts[block] = need;
-        is_new
+    }
+
+    /// Whether it is not known yet what a block needs.
+    fn is_open(&self, block: usize) -> bool {
+        block < self.lefts.len() && self.lefts[block].is_none()
+    }
+
+    /// Keeps what a block needs, if that was found and is a form; whether it is.
+    fn keep(&mut self, block: usize, found: Option<Need<'a>>) -> bool {
+        match found {
+            Some(need) if need.is_form() && block < self.lefts.len() => {
+                self.lefts[block] = Some(need);
+                true
+            }
+            _ => false,
+        }
     }
 
     /// One round over the blocks, the last one first; whether a need was found.
     fn draw_all(&mut self) -> bool {
         let mut is_new = false;
         for block in (0..self.lefts.len()).rev() {
-            if self.draw(block) {
-                is_new = true;
+            if self.is_open(block) {
+                let found = self.need(block);
+                if self.keep(block, found) {
+                    is_new = true;
+                }
             }
         }
         is_new
@@ -383,6 +395,29 @@ impl<'a> Finder<'_, 'a> {
     fn draw_until_known(&mut self) {
         for _round in 0..self.lefts.len() {
             if !self.draw_all() {
+                return;
+            }
+        }
+    }
+
+    /// One round over the blocks where each loop is counted by its rounds; whether a need was found.
+    fn count_all(&mut self) -> bool {
+        let mut is_new = false;
+        for block in (0..self.lefts.len()).rev() {
+            if self.is_open(block) {
+                let found = self.counted_need(block);
+                if self.keep(block, found) {
+                    is_new = true;
+                }
+            }
+        }
+        is_new
+    }
+
+    /// Round after round of these until nothing new is found.
+    fn count_until_known(&mut self) {
+        for _round in 0..self.lefts.len() {
+            if !self.count_all() {
                 return;
             }
         }
