@@ -4,6 +4,7 @@ ghost use Rattle.explain.specs.Verdict.{IsVerdictOn};
 use crate::accepted::remarks;
 use crate::alloca::alloca_notes;
 use crate::report::Explanation;
+use crate::tries::with_judged_tries;
 use explain_costs::told_cost_findings;
 use explain_facts::{Matched, match_text, number_findings};
 use explain_findings::{Finding, Source, name_finding, word_findings};
@@ -36,7 +37,8 @@ fn matched_findings(
     if number < 600 {
         number_findings(alloc, source, matched, effort)
     } else if number < 700 {
-        zone_findings(alloc, source, matched, effort)
+        let findings = zone_findings(alloc, source, matched, effort)?;
+        with_judged_tries(alloc, source, findings, effort)
     } else {
         told_cost_findings(alloc, source, matched, effort)
     }

@@ -10,6 +10,7 @@ mod explaining;
 mod printing;
 mod report;
 mod trial;
+mod tries;
 
 pub use explain_findings::Finding;
 pub use explaining::explain;
