@@ -7,7 +7,7 @@ use crate::gap::{
 };
 use crate::scene::Scene;
 use crate::spelling::{push_excess, push_inequality};
-use crate::unknown::{is_bounded, push_unbounded};
+use crate::unknown::{is_bounded, push_rounded, push_unbounded};
 use linear::{Fact, Form, Term};
 use lists::{ListBuffer, OutOfMemory, TextBuffer};
 use program::{Block, BlockId, Function, Inequality, RegisterId};
@@ -201,6 +201,13 @@ impl Known<'_> {
         Ok(())
     }
 
+    /// Which of a form's registers are rounded, and what to do.
+    fn push_all_rounded(&self, form: &Form, out: &mut TextBuffer) {
+        for term in form.terms.as_slice() {
+            push_rounded(self.scene, term.register, out);
+        }
+    }
+
     /// Why no facts come near to a form, and what to do.
     fn push_far(&self, form: &Form, out: &mut TextBuffer) {
         let mut is_any = false;
@@ -213,6 +220,7 @@ impl Known<'_> {
         if is_any {
             return;
         }
+        self.push_all_rounded(form, out);
         let start = if self.block.0 == 0 {
             "requires"
         } else {

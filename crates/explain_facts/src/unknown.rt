@@ -3,7 +3,9 @@
 use crate::scene::Scene;
 use linear::{Fact, Term};
 use lists::TextBuffer;
-use program::{Block, BlockId, Function, FunctionId, Instruction, Program, RegisterId, Step};
+use program::{
+    Block, BlockId, Function, FunctionId, Instruction, Operand, Program, RegisterId, Step,
+};
 use syntax::BinaryOperator;
 
 /// Whether two coefficients bound a register from the same side.
@@ -168,5 +170,30 @@ pub fn push_unbounded(
         out.push_str(
             " in this block: a `keeps` line behind its label brings along what is known before it\n",
         );
+    }
+}
+
+/// Whether an instruction makes a quotient by a number, which it rounds down.
+fn is_rounded(step: &Step) -> bool {
+    match &step.instruction {
+        Instruction::Binary {
+            operator: BinaryOperator::SignedDivide,
+            right: Operand::Number(divisor),
+            ..
+        } => *divisor >= 2,
+        _ => false,
+    }
+}
+
+/// Where a register is a quotient, that what only rounding shows is not known of it, and what to do.
+pub fn push_rounded(scene: &Scene<'_>, register: RegisterId, out: &mut TextBuffer) {
+    if let Some((_, step)) = maker_of(scene.function, register) {
+        if is_rounded(step) {
+            let name = scene.register(register);
+            writeln!(
+                out,
+                "    %{name} is rounded down, which no fact says: in place of (%lo+%hi)/2 take %lo+(%hi-%lo)/2, or let `requires` ask for half the size"
+            );
+        }
     }
 }
