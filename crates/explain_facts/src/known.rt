@@ -198,6 +198,9 @@ impl Known<'_> {
             out.push_str("; ");
             self.push_short(form, short, out);
         }
+        if short == 1 {
+            self.push_all_rounded(form, out);
+        }
         Ok(())
     }
 
