@@ -113,12 +113,7 @@ fn names_made(sum: &Sum<'_>, steps: &[Step]) -> bool {
 }
 
 /// No less than a sum, without a register of it and those that these steps define, by one of some facts; none where no fact bounds it.
-fn most_by<'a>(
-    facts: &[Sum<'a>],
-    sum: &Sum<'a>,
-    name: &str,
-    steps: &[Step],
-) -> Option<Sum<'a>> {
+fn most_by<'a>(facts: &[Sum<'a>], sum: &Sum<'a>, name: &str, steps: &[Step]) -> Option<Sum<'a>> {
     let coefficient = sum.coefficient(name);
     for fact in facts {
         let times = coefficient.checked_div(fact.coefficient(name)).unwrap_or(0);

@@ -1,10 +1,10 @@
 //! What a block needs, from its own instructions and from what is left behind it.
 
+use crate::reserve::reserves_of;
+use crate::ring::{Ring, fall_of, names_inner, ring_of};
 use annotate_facts::{
     Edge, Heap, Known, MOST_BLOCKS, Sum, Way, block_at, greatest, most_along, most_before, moved,
 };
-use crate::reserve::reserves_of;
-use crate::ring::{Ring, fall_of, names_inner, ring_of};
 use lists::Name;
 use syntax::{Block, Function, Instruction, Phi};
 
@@ -251,12 +251,7 @@ impl<'a> Finder<'_, 'a> {
     }
 
     /// What is needed at the head of a loop for one round, if this is needed once it is done.
-    fn need_of_round(
-        &self,
-        ring: &Ring<'a>,
-        head: &'a Block,
-        need: &Need<'a>,
-    ) -> Option<Need<'a>> {
+    fn need_of_round(&self, ring: &Ring<'a>, head: &'a Block, need: &Need<'a>) -> Option<Need<'a>> {
         let mut finder = Finder {
             known: self.known,
             costs: self.costs,

@@ -1,8 +1,8 @@
 //! What a loop may hold in reserve for the loops within it: where one of these goes on from where the round before stopped, its rounds are counted over all
 //! rounds of the outer loop together, and not anew in each.
 
-use annotate_facts::{Known, Sum, block_at, is_phi};
 use crate::ring::{Ring, least_of};
+use annotate_facts::{Known, Sum, block_at, is_phi};
 
 /// The most reserves of a loop that are tried.
 const MOST_RESERVES: usize = 32;
@@ -50,8 +50,15 @@ impl<'a> Finder<'_, 'a> {
             if *coefficient != 0 && is_phi(head.phis.as_slice(), name) {
                 let cost = inner.instructions.saturating_mul(*coefficient);
                 let over = inner.step.saturating_sub(1);
-                let over = if cost < 0 { 0i128.saturating_sub(over) } else { over };
-                let times = cost.saturating_add(over).checked_div(inner.step).unwrap_or(0);
+                let over = if cost < 0 {
+                    0i128.saturating_sub(over)
+                } else {
+                    over
+                };
+                let times = cost
+                    .saturating_add(over)
+                    .checked_div(inner.step)
+                    .unwrap_or(0);
                 self.push_phis(times);
             }
         }
