@@ -1,11 +1,8 @@
-"""Cleans a function: what is not reached or not used goes, straight lines become one block, returns and branches on
-chosen conditions go to where they come from. In and out: a function whose meaning stays. (opt's own passes would also
-turn loops around, and choose values by `select`.)"""
+"""Cleans a function: what is not reached or not used goes, straight lines become one block, and ways to an empty block
+lead past it. In and out: a function whose meaning stays."""
 import re
 
-from .ir import BINARY, CONVERSIONS, REGISTER, Block, Function, Instruction, order_of
-
-PURE = BINARY | CONVERSIONS | {"icmp", "phi", "select", "address", "load", "alloca"}
+from .ir import PURE, REGISTER, Block, Function, Instruction, order_of
 
 
 def clean(f: Function) -> None:
@@ -78,11 +75,10 @@ def join_lines(f: Function) -> bool:
     for block in list(f.blocks.values()):
         before = f.predecessors()[block.name]
         above = f.blocks[before[0]] if len(before) == 1 and block.name not in apart else block
-        if above.end.op != "br" or above is block or (block.notes and above.notes):
+        if above.end.op != "br" or above is block or block.notes:
             continue
         f.substitute({phi.result: phi.incoming[0][0] for phi in block.phis})
         above.body += block.body
-        above.notes += block.notes
         above.end = block.end
         for target in set(block.successors()):
             f.rename_edge(target, block.name, above.name)
@@ -92,14 +88,12 @@ def join_lines(f: Function) -> bool:
 
 
 def skip_empty(f: Function) -> bool:
-    """The ways to a block that does nothing but end lead past it. Its phis serve its end alone."""
+    """The ways to a block that does nothing but go on or return lead past it. Its phis serve its return alone."""
     changed, apart = False, kept_apart(f)
-    for block in sorted(f.blocks.values(), key=lambda b: b.end.op != "ret"):  # (so a return has its own line's place)
-        own = {phi.result for phi in block.phis}
-        is_end = block.end.op in ("br", "cbr", "ret") and (not block.phis or own == set(block.end.args))
-        if block.body or block.notes or block.name in apart or not is_end or (block.end.op == "cbr" and not own):
-            continue
-        if any(own & set(x.uses()) for x in f.instructions() if x is not block.end):
+    for block in list(f.blocks.values()):
+        own, end = {phi.result for phi in block.phis}, block.end
+        is_return = end.op == "ret" and own <= set(end.args)
+        if block.body or block.notes or end.shows or block.name in apart or not (is_return or end.op == "br" and not own):
             continue
         for above in [f.blocks[name] for name in f.predecessors()[block.name]]:
             changed |= lead_past(f, above, block)
@@ -107,22 +101,15 @@ def skip_empty(f: Function) -> bool:
 
 
 def lead_past(f: Function, above: Block, block: Block) -> bool:
-    """Gives a block the end of an empty one behind it, or the target of that; whether it could."""
+    """Gives a block the return of an empty one behind it, or the target of that; whether it could."""
     values = {phi.result: value for phi in block.phis for value, label in phi.incoming if label == above.name}
-    end, args = block.end, [values.get(v, v) for v in block.end.args]
-    if end.op == "cbr" and not isinstance(args[0], str):
-        end = Instruction("br", place=end.place, targets=[end.targets[1 - args[0]]])
-    if end.op == "br":
-        target = end.targets[0]
-        if target in above.successors():
-            return False
-        above.end.retarget(block.name, target)
-    elif above.end.op == "br":
-        place = above.end.place if end.op == "ret" else end.place
-        above.end = Instruction(end.op, None, end.type, args, place, targets=end.targets[:])
+    end = block.end
+    if end.op == "ret" and above.end.op == "br":
+        above.end = Instruction("ret", None, [values.get(v, v) for v in end.args], end.place)
+    elif end.op == "br" and end.targets[0] not in above.successors() and end.targets[0] != block.name:
+        above.end.retarget(block.name, end.targets[0])
+        f.copy_edge(end.targets[0], block.name, above.name)
     else:
         return False
-    for target in end.targets:
-        f.copy_edge(target, block.name, above.name)
     f.drop_edge(block.name, above.name)
     return True

@@ -1,18 +1,19 @@
-"""Functions of blocks of instructions, between LLVM's text and ours, and what is computed of their graphs."""
+"""Functions of blocks of instructions over i64, between the C's tree and our text, and what is computed of their
+graphs."""
 from __future__ import annotations
 
 import itertools
-import math
 import re
 from dataclasses import dataclass, field
 from typing import Callable, Iterable, NamedTuple, Optional
 
 from .forms import Form, Value
 
-BINARY = {"add", "sub", "mul", "sdiv", "udiv", "srem", "urem", "shl", "lshr", "ashr", "and", "or", "xor"}
-CONVERSIONS = {"trunc", "sext", "zext"}
 NEGATED = {"eq": "ne", "slt": "sge", "sgt": "sle", "ult": "uge", "ugt": "ule"}
 NEGATED.update({contrary: predicate for predicate, contrary in NEGATED.items()})
+BINARY = {"add", "sub", "mul", "sdiv", "udiv", "srem", "urem", "shl", "lshr", "ashr", "and", "or", "xor"}
+CUTS = {"trunc", "sext"}  # to 32 bits and back
+PURE = BINARY | CUTS | {"icmp", "phi", "load", "alloca"}
 REGISTER = r"%[\w.$]+"
 
 
@@ -32,38 +33,26 @@ class Fault(Exception):
         self.place, self.text, self.change = place, text, change
 
 
-def cells(type: str) -> int:
-    """Of a type as LLVM writes it: `[4 x [8 x i64]]` has 32 cells."""
-    return math.prod(map(int, re.findall(r"(\d+) x", type)))
-
-
-def scalar(type: str) -> str:
-    return type.split(" x ")[-1].rstrip("]")
-
-
 @dataclass(eq=False)
 class Instruction:
-    """An instruction or a terminator. `br` has a target, `cbr` two (true, false), `switch` the default's first. Tapir's
-    are `detach` (child, continuation), `reattach` and `sync`. Ours beside LLVM's: `claim`, `region` (its start),
-    `atomic` (addition), `zero` (of a whole object)."""
+    """An instruction or a terminator. Of LLVM's `br` has a target, `cbr` two (true, false), `switch` the default's
+    first. Tapir's are `detach` (child, continuation), `reattach` and `sync`. Ours: `claim` and `zone` (what the author
+    says, as forms), `region` (its start), `atomic` (addition), `zero` (of a whole object)."""
 
     op: str
     result: Optional[str] = None
-    type: str = "void"
     args: list[Value] = field(default_factory=list)
     place: Place = Place()
-    predicate: str = ""  # of icmp and claim
+    predicate: str = ""  # of icmp
     nsw: bool = False
-    source: str = ""  # the type before a conversion
     incoming: list[tuple[Value, str]] = field(default_factory=list)
     targets: list[str] = field(default_factory=list)
     numbers: list[int] = field(default_factory=list)
     callee: str = ""
-    types: list[str] = field(default_factory=list)  # of a call's arguments
-    kind: str = ""  # of a claim: requires, ensures, keeps, invariant
+    kind: str = ""  # of a claim: keeps, invariant; of a zone: reads, writes, adds
+    said: list[Form] = field(default_factory=list)  # of a claim: what is 0 or more; of a zone: its ends
     object: Optional[str] = None  # of memory's instructions: what they touch, and the cell
     index: Optional[Value] = None
-    cell: str = "i64"  # what C has in that cell
     region: Optional[str] = None
     shows: list[str] = field(default_factory=list)  # annotations before it that the author wrote
     tried: list[str] = field(default_factory=list)  # those that a rewrite rests on
@@ -74,7 +63,8 @@ class Instruction:
     def uses(self) -> list[Value]:
         if self.op == "phi":
             return [value for value, _ in self.incoming]
-        return self.args + ([] if self.index is None else [self.index])
+        said = [register for form in self.said for register in form.terms]
+        return self.args + said + ([] if self.index is None else [self.index])
 
     def retarget(self, old: str, new: str) -> None:
         self.targets = [new if target == old else target for target in self.targets]
@@ -96,13 +86,6 @@ class Block:
         return self.end.targets if self.end.op != "reattach" else []
 
 
-@dataclass
-class Parameter:
-    type: str
-    name: str
-    bytes: Optional[int] = None  # the least size of what a pointer names
-
-
 class Zone(NamedTuple):
     """Cells of an object from `low` to before `high`, and what is done to them: reads, writes or adds."""
 
@@ -115,14 +98,15 @@ class Zone(NamedTuple):
 @dataclass(eq=False)
 class Function:
     name: str
-    returns: str
-    parameters: list[Parameter]
     place: Place
+    returns: bool = False
+    parameters: list[str] = field(default_factory=list)
+    arrays: set[str] = field(default_factory=set)  # the parameters that are arrays
     blocks: dict[str, Block] = field(default_factory=dict)
     names: set[str] = field(default_factory=set)
     c_names: dict[str, str] = field(default_factory=dict)  # register -> variable
-    cells: dict[str, str] = field(default_factory=dict)  # object -> what C has in a cell
     extents: dict[str, int] = field(default_factory=dict)  # object -> cells
+    parts: list[Function] = field(default_factory=list)  # those that are made of its parallel loops
     requires: list[tuple[str, Place]] = field(default_factory=list)
     ensures: list[tuple[str, Place]] = field(default_factory=list)
     needs: list[Form] = field(default_factory=list)  # what is 0 or more, by REQUIRES
@@ -148,9 +132,9 @@ class Function:
         self.names.add(name)
         return name
 
-    def make(self, op: str, *args: Value, place: Place, hint: str = "t", type: str = "i64", **fields) -> Instruction:
+    def make(self, op: str, *args: Value, place: Place, hint: str = "t", **fields) -> Instruction:
         """An instruction with a fresh result."""
-        return Instruction(op, self.fresh(hint), type, list(args), place, **fields)
+        return Instruction(op, self.fresh(hint), list(args), place, **fields)
 
     def new_block(self, hint: str, body: Iterable[Instruction] = (), end: Optional[Instruction] = None) -> Block:
         block = Block(self.fresh(hint)[1:], body=list(body), end=end)
@@ -164,15 +148,15 @@ class Function:
         self.rename_edge(target, above.name, block.name)
         return block
 
-    def require(self, gap: Form, line: str, place: Place) -> None:
+    def require(self, gap: Form) -> None:
         self.needs.append(gap)
-        self.requires.append((line, place))
+        self.requires.append((f"{gap} >= 0", self.place))
 
     def instructions(self) -> list[Instruction]:
         return [x for block in self.blocks.values() for x in block.all()]
 
-    def calls(self, prefix: str = "@") -> list[Instruction]:
-        return [x for x in self.instructions() if x.op == "call" and x.callee.startswith(prefix)]
+    def calls(self) -> list[Instruction]:
+        return [x for x in self.instructions() if x.op == "call"]
 
     def locals(self) -> dict[str, Instruction]:
         return {x.result: x for x in self.entry.body if x.op == "alloca"}
@@ -212,6 +196,7 @@ class Function:
             x.incoming = [(final(value), label) for value, label in x.incoming]
             x.args = [final(value) for value in x.args]
             x.index = final(x.index)
+            x.said = [form.replaced(lambda register: Form.of(final(register))) for form in x.said]
             x.forms = [re.sub(REGISTER, lambda m: str(final(m[0])), form) for form in x.forms]
 
     def drop_edge(self, block: str, before: str) -> None:
@@ -303,8 +288,6 @@ def form_of(definitions: dict, value: Value, stop: Callable[[str, Instruction], 
     x = definitions.get(value, (None,))[0]
     if x is None or stop(value, x):
         return Form.of(value)
-    if x.op == "sext" and x.source == "i32":
-        return form_of(definitions, x.args[0], stop)
     if x.op not in ("add", "sub", "mul") and not (x.op == "shl" and not isinstance(x.args[1], str)):
         return Form.of(value)
     left, right = [form_of(definitions, v, stop) for v in x.args]

@@ -9,9 +9,9 @@ from typing import NamedTuple
 from .clean import clean
 from .hints import Hints, Rests, steps_of_goals
 from .ir import Function, Instruction
-from .llvm_text import Module
 from .printer import Line, Printed, print_module
 from .rewrites import fall_back
+from .translate import Unit
 from .zones import Zones
 
 MOST_TRIES = 200
@@ -48,9 +48,9 @@ class Program:
 
 
 class Judge:
-    def __init__(self, program: Program, module: Module, functions: list[Function], has_hints: bool = True):
-        self.program, self.module, self.functions, self.has_hints = program, module, functions, has_hints
-        self.by_name = {f.name: f for f in functions}
+    def __init__(self, program: Program, unit: Unit, has_hints: bool = True):
+        self.program, self.unit, self.functions, self.has_hints = program, unit, unit.functions, has_hints
+        self.by_name = {f.name: f for f in self.functions}
         self.refused: set[tuple[str, str, str]] = set()  # hints: function, block, line
         self.done: set[tuple] = set()  # mends that are made once
         self.printed = Printed()
@@ -70,7 +70,7 @@ class Judge:
         return verdict
 
     def write(self) -> None:
-        self.printed = print_module(self.module, self.functions)
+        self.printed = print_module(self.unit.globals, self.unit.extents, self.functions)
         pathlib.Path(self.program.file).write_text(self.printed.text())
 
     def mend(self, rule: int, at: int) -> bool:
@@ -134,7 +134,7 @@ class Judge:
         locals = f.locals()
         new = [o for o in ([x.object] if x.object else x.args) if o in locals and self.once(f, o)]
         for object in new:
-            f.at_entry(Instruction("zero", None, "void", [object], x.place, object=object))
+            f.at_entry(Instruction("zero", None, [object], x.place, object=object))
         return bool(new)
 
     def part_feet(self, f: Function, x: Instruction) -> bool:

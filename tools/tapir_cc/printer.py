@@ -4,27 +4,27 @@ import re
 from typing import NamedTuple
 
 from .forms import Value
-from .ir import BINARY, CONVERSIONS, REGISTER, Block, Fault, Function, Instruction, Place, Zone, cells, order_of
-from .llvm_text import Module
+from .ir import BINARY, REGISTER, Block, Function, Instruction, Place, Zone, order_of
 
 MOST_NAME = 56
 FORMATS = {
     **dict.fromkeys(BINARY, "{x.op}{nsw} i64 {0}, {1}"),
-    **dict.fromkeys(CONVERSIONS, "{x.op} {x.source} {0} to {x.type}"),
     **dict.fromkeys(("detach", "reattach", "sync"), "{x.op} within {region}, {labels}"),
     "alloca": "alloca [{cells} x i64]",
-    "atomic": "atomicrmw add ptr {at}, i64 {1} seq_cst",
+    "atomic": "atomicrmw add ptr {at}, i64 {0} seq_cst",
     "br": "br {labels}",
-    "call": "call {x.type} {x.callee}({passed})",
+    "call": "call {type} {x.callee}({passed})",
     "cbr": "br i1 {0}, {labels}",
     "icmp": "icmp {x.predicate} i64 {0}, {1}",
     "load": "load i64, ptr {at}",
     "phi": "phi i64 {incoming}",
     "region": "call token @llvm.syncregion.start()",
-    "ret": "ret {x.type} {0}",
+    "ret": "ret i64 {0}",
     "ret void": "ret void",
+    "sext": "sext i32 {0} to i64",
     "store": "store i64 {0}, ptr {at}",
     "switch": "switch i64 {0}, {first} [ {cases} ]",
+    "trunc": "trunc i64 {0} to i32",
     "zero": "store [{cells} x i64] zeroinitializer, ptr {0}",
 }
 
@@ -51,9 +51,8 @@ class Printed(list):
         return self[number - 1] if 0 < number <= len(self) else Line("")
 
 
-def print_module(module: Module, functions: list[Function]) -> Printed:
-    globals = module.globals.values()
-    lines = [Line(f"{g.name} = global [{cells(g.type)} x i64] zeroinitializer", g.place) for g in globals]
+def print_module(globals: dict[str, Place], extents: dict[str, int], functions: list[Function]) -> Printed:
+    lines = [Line(f"{g} = global [{extents[g]} x i64] zeroinitializer", place) for g, place in globals.items()]
     for f in functions:
         lines += FunctionPrinter(f).lines()
     return Printed(lines)
@@ -69,8 +68,7 @@ class FunctionPrinter:
         if not isinstance(value, str) or value[0] == "@":
             return str(value)
         if value not in self.f.printed:
-            name = re.sub(r"[^\w.]", "_", value[1:])
-            name = "%" + (name if re.match(r"[A-Za-z_.]", name) else "t" + name)[:MOST_NAME]
+            name = "%" + (value[1:] if re.match(r"[A-Za-z_.]", value[1:]) else "t" + value[1:])[:MOST_NAME]
             while name in self.taken:
                 name += ".x"
             self.f.printed[value] = name
@@ -89,12 +87,15 @@ class FunctionPrinter:
         text = f"{word}{zone.mode} {zone.object} {zone.low} {zone.high}"
         self.note(text, place, "foot" if word else "zone", zone.object)
 
+    def passed(self, value: Value) -> str:
+        return f"ptr {self.name(value)}" if value in self.f.extents else f"i64 {self.name(value)}"
+
     def lines(self) -> list[Line]:
         f = self.f
-        types = [(p, f"ptr noalias dereferenceable({8 * f.extents.get(p.name, 0)})") for p in f.parameters]
-        parameters = ", ".join(f"{type if p.type == 'ptr' else 'i64'} {self.name(p.name)}" for p, type in types)
+        types = [f"ptr noalias dereferenceable({8 * f.extents[p]})" if p in f.arrays else "i64" for p in f.parameters]
+        parameters = ", ".join(f"{type} {self.name(p)}" for type, p in zip(types, f.parameters))
         self.put("", f.place)
-        self.put(f"define {f.returns} {f.name}({parameters}) {{", f.place, "function", f)
+        self.put(f"define {'i64' if f.returns else 'void'} {f.name}({parameters}) {{", f.place, "function", f)
         for word, claims in (("requires", f.requires), ("ensures", f.ensures)):
             for line, place in {line: place for line, place in reversed(claims)}.items():
                 self.note(f"{word} {line}", place)
@@ -136,20 +137,19 @@ class FunctionPrinter:
         return self.addresses[key]
 
     def instruction(self, x: Instruction) -> str:
-        if x.op not in FORMATS:
-            raise Fault(x.place, f"LLVM's {x.op} is not taken")
         args, labels = [self.name(v) for v in x.args], ["label " + self.name("%" + target) for target in x.targets]
         text = FORMATS[x.op if args or x.op != "ret" else "ret void"].format(
             *args,
             x=x,
             nsw=" nsw" if x.nsw else "",
             at=self.pointer(x) if x.op in ("load", "store", "atomic") else "",
-            cells=self.f.extents[x.object] if x.op == "zero" else cells(x.type),
+            cells=self.f.extents.get(x.object or x.result),
+            type="i64" if x.result else "void",
             labels=", ".join(labels),
             region=x.region and self.name(x.region),
             incoming=", ".join(f"[ {self.name(v)}, {self.name('%' + label)} ]" for v, label in x.incoming),
             cases=" ".join(f"i64 {number}, {label}" for number, label in zip(x.numbers, labels[1:])),
             first=labels[0] if labels else "",
-            passed=", ".join(map(" ".join, zip(x.types, args))),
+            passed=", ".join(map(self.passed, x.args)),
         )
-        return f"{self.name(x.result)} = {text}" if x.result and x.op != "atomic" else text
+        return f"{self.name(x.result)} = {text}" if x.result else text

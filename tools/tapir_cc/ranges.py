@@ -19,12 +19,11 @@ def gaps(predicate: str, left: Form, right: Form) -> list[Form]:
 class Ranges:
     def __init__(self, function: Function):
         self.function, self.graph, self.definitions = function, Graph(function), function.definitions()
-        self.parameters = {p.name for p in function.parameters if p.type != "ptr"}
+        self.parameters = set(function.parameters) - function.arrays
         self.said: dict[str, list] = {register: list(bounds) for register, bounds in function.said.items()}
         for x in function.instructions():
-            if x.op == "claim" and x.kind in ("invariant", "keeps"):
-                for gap in gaps(x.predicate, self.form(x.args[0]), self.form(x.args[1])):
-                    self.learn(gap, x.predicate in ("sle", "sge"))
+            if x.op == "claim":
+                self.learn(x.said[0], x.predicate in ("sle", "sge"))
         for _, gap, _ in function.guesses:
             self.learn(gap, False)
 

@@ -6,7 +6,7 @@ import pathlib
 import re
 from typing import Optional
 
-from .ir import Function, Instruction, Place
+from .ir import CUTS, Function, Instruction, Place
 from .judge import Judge, Verdict
 
 SIGNS = {"add": "+", "sub": "-", "mul": "*", "sdiv": "/", "udiv": "/", "srem": "%", "urem": "%"}
@@ -63,7 +63,7 @@ class Names:
             return self.cell(x, deep)
         if x.op == "call":
             return f"{x.callee[1:]}(..)"
-        return self.of(x.args[0], deep) if x.op in ("sext", "zext", "trunc") else x.result[1:]
+        return self.of(x.args[0], deep) if x.op in CUTS else x.result[1:]
 
     def cell(self, x: Instruction, deep: int = 4) -> str:
         is_single = x.index == 0 and self.f.extents.get(x.object) == 1
@@ -156,7 +156,7 @@ class Report:
     def claim_to_add(self) -> str:
         """REQUIRES for parameters, INVARIANT for what a loop changes, a test for what comes from memory."""
         names, function = self.names, self.f.name[1:].split(".halves")[0].replace("main", "kernel")
-        parameters = {p.name for p in self.f.parameters}
+        parameters = set(self.f.parameters)
         registers = {names.registers.get(r, r) for r in re.findall(r"%[\w.]+", self.goals[0])}
         required = self.requires_by_nearest() or (self.goal if registers <= parameters else "")
         if required:
@@ -185,7 +185,7 @@ class Report:
     def requires_by_nearest(self) -> str:
         """The bound of a parameter with which the nearest facts would do."""
         found = re.search(r"may be (-?\d+)(?: more than \S+)?, and has to be at (most|least) (-?\d+)", self.nearest)
-        parameters = {self.f.printed.get(p.name, p.name): p.name[1:] for p in self.f.parameters}
+        parameters = {self.f.printed.get(p, p): p[1:] for p in self.f.parameters}
         for name, relation, bound in re.findall(r"(%[\w.]+) (<=|>=) (-?\d+) \(", self.nearest) if found else ():
             if name in parameters and (relation == "<=") == (found[2] == "most"):
                 return f"{parameters[name]} {relation} {int(bound) - int(found[1]) + int(found[3])}"

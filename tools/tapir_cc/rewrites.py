@@ -2,12 +2,29 @@
 something holds, it is tried under a `shows` line for that, and has forms to fall back to: the judge takes the next
 where the line is refused."""
 
-from .children import tasks_of
-from .ir import BINARY, CONVERSIONS, Function, Graph, Instruction
-from .llvm_text import made_of
+import re
+
+from .ir import BINARY, CUTS, Function, Graph, Instruction, Place
 from .ranges import Ranges
+from .tasks import tasks_of
 
 FACTLESS = {"shl", "lshr", "ashr", "sdiv", "srem", "udiv", "urem", "and", "or", "xor"}
+
+
+def made_of(f: Function, text: str, place: Place) -> list[Instruction]:
+    """Instructions divided by `;`, each behind the `shows` lines that it rests on. `%.half` is a fresh register."""
+    own = {name: f.fresh(name[2:]) for name in dict.fromkeys(re.findall(r"%\.\w+", text))}
+    made, tried = [], []
+    for line in re.sub(r"%\.\w+", lambda m: own[m[0]], text).split("; "):
+        if line.startswith("shows "):
+            tried.append(line)
+            continue
+        result, op, flag, *args = re.fullmatch(r"(\S+) = (\w+) (?:(\w+) )?(\S+), (\S+)", line).groups()
+        values = [arg if arg[0] in "%@" else int(arg) for arg in args]
+        predicate = flag if op == "icmp" else ""
+        made.append(Instruction(op, result, values, place, predicate, flag == "nsw", tried=tried))
+        tried = []
+    return made
 
 
 def offer(f: Function, x: Instruction, *forms: str) -> None:
@@ -44,7 +61,7 @@ def fall_back(f: Function, x: Instruction) -> bool:
 def text_of(x: Instruction) -> str:
     """An operation as a form of `offer`."""
     op = f"{x.op} {x.predicate}" if x.op == "icmp" else x.op
-    return "; ".join([*x.tried, f"{x.result} = {op}{' nsw' if x.nsw else ''} i64 {x.args[0]}, {x.args[1]}"])
+    return "; ".join([*x.tried, f"{x.result} = {op}{' nsw' if x.nsw else ''} {x.args[0]}, {x.args[1]}"])
 
 
 def rewrite(f: Function) -> None:
@@ -66,7 +83,7 @@ def hoist_one(f: Function) -> bool:
         backs = [p for p in graph.before[head] if p in body]
         blocks = [f.blocks[name] for name in sorted(body, key=graph.number.get)]
         for block, x in [(block, x) for block in blocks for x in block.body]:
-            is_movable = x.op in BINARY - {"sdiv", "udiv", "srem", "urem"} | CONVERSIONS and not x.shows
+            is_movable = x.op in BINARY - {"sdiv", "udiv", "srem", "urem"} | CUTS and not x.shows
             always = block.name == head or (
                 x.op in BINARY
                 and task.get(block.name) == task.get(head)
@@ -109,9 +126,9 @@ def plain_operands(f: Function, x: Instruction) -> None:
     if isinstance(count, int) and 0 < count < 20 and isinstance(value, str):
         if x.op == "shl" and x.nsw:
             x.nsw = False
-            offer(f, x, f"{x.result} = mul nsw i64 {value}, {1 << count}", text_of(x))
+            offer(f, x, f"{x.result} = mul nsw {value}, {1 << count}", text_of(x))
         elif x.op == "ashr":
-            offer(f, x, f"shows {value} >= 0; {x.result} = sdiv i64 {value}, {1 << count}", text_of(x))
+            offer(f, x, f"shows {value} >= 0; {x.result} = sdiv {value}, {1 << count}", text_of(x))
     x.nsw = x.nsw and x.op not in FACTLESS
     if x.op in ("and", "add", "mul", "or", "xor") and not isinstance(x.args[0], str):
         x.args.reverse()
@@ -124,7 +141,7 @@ def unbounded(f: Function) -> set[str]:
         before = len(found)
         for x in f.instructions():
             is_product = x.op == "mul" and all(isinstance(v, str) for v in x.args)
-            passes_on = x.op in BINARY - {"and", "srem"} | CONVERSIONS | {"phi"} and found & set(x.uses())
+            passes_on = x.op in BINARY - {"and", "srem"} | CUTS | {"phi"} and found & set(x.uses())
             if x.op in ("load", "xor", "or", "shl", "lshr") or is_product or passes_on:
                 found.add(x.result)
     return found
@@ -140,8 +157,8 @@ def try_facts(f: Function) -> None:
             if x.predicate in ("eq", "ne") and [x.result] == block.end.args and not is_strange:
                 a, b = x.args
                 at_least, at_most = ("sle", "sge") if x.predicate == "eq" else ("sgt", "slt")
-                up = f"shows {a} >= {b}; {x.result} = icmp {at_least} i64 {a}, {b}"
-                down = f"shows {a} <= {b}; {x.result} = icmp {at_most} i64 {a}, {b}"
+                up = f"shows {a} >= {b}; {x.result} = icmp {at_least} {a}, {b}"
+                down = f"shows {a} <= {b}; {x.result} = icmp {at_most} {a}, {b}"
                 offer(f, x, up, down, text_of(x))
             elif x.nsw and (is_strange or x.result in strange) and (x.op == "mul" or isinstance(x.args[1], str)):
                 fall_back(f, x)
@@ -154,5 +171,5 @@ def middles(f: Function) -> None:
         total = definitions.get(x.args[0], (x,))[0]
         if total.op == "add" and all(isinstance(v, str) for v in total.args):
             a, b = total.args
-            offer(f, x, f"shows {a} <= {b}; shows {a}+{b} >= 0; %.size = sub nsw i64 {b}, {a}; "
-                  f"%.half = sdiv i64 %.size, 2; {x.result} = add nsw i64 {a}, %.half", text_of(x))  # fmt: skip
+            offer(f, x, f"shows {a} <= {b}; shows {a}+{b} >= 0; %.size = sub nsw {b}, {a}; "
+                  f"%.half = sdiv %.size, 2; {x.result} = add nsw {a}, %.half", text_of(x))  # fmt: skip

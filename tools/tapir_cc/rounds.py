@@ -29,9 +29,9 @@ def bound_more(f: Function) -> None:
 def strict_half(f: Function, x: Instruction) -> None:
     """y / 2 is 1 + (y - 2) / 2 where y >= 2, of which it is known that it is from 1 to y - 1; and (y - 1) - (y - 1) / 2
     where y >= 1, which is below y."""
-    y, half = x.args[0], "%.half = sdiv i64 %.less, 2"
-    more = f"shows {y} >= 2; %.less = sub nsw i64 {y}, 2; {half}; {x.result} = add nsw i64 %.half, 1"
-    less = f"shows {y} >= 1; %.less = sub nsw i64 {y}, 1; {half}; {x.result} = sub nsw i64 %.less, %.half"
+    y, half = x.args[0], "%.half = sdiv %.less, 2"
+    more = f"shows {y} >= 2; %.less = sub nsw {y}, 2; {half}; {x.result} = add nsw %.half, 1"
+    less = f"shows {y} >= 1; %.less = sub nsw {y}, 1; {half}; {x.result} = sub nsw %.less, %.half"
     offer(f, x, more, less, text_of(x), *x.forms)
 
 
@@ -45,13 +45,13 @@ def bounded_rest(f: Function, x: Instruction) -> None:
     """a % m is from 0 to m - 1 where a >= 0 and m >= 1: two tests that always hold say so."""
     (value, divisor), block = x.args, f.block_of(x)
     rest = f.split(block, block.body.index(x) + 1)
-    chosen = Instruction("phi", x.result, "i64", [], x.place)
+    chosen = Instruction("phi", x.result, [], x.place)
     x.result = f.fresh("rest")
     for predicate, bound in (("sge", 0), ("slt", divisor)):
         test = f.make("icmp", x.result, bound, place=x.place, hint="c", predicate=predicate)
         block.body.append(always(test, f"{value} >= 0", f"{divisor} >= 1"))
         inside = f.new_block("rest")
-        block.end = Instruction("cbr", None, "void", [test.result], x.place, targets=[inside.name, rest.name])
+        block.end = Instruction("cbr", None, [test.result], x.place, targets=[inside.name, rest.name])
         chosen.incoming.append((0, block.name))
         block = inside
     block.end = Instruction("br", place=x.place, targets=[rest.name])
@@ -105,7 +105,7 @@ class Loop:
         rest = f.split(head, 0)  # (the head keeps its phis and its annotations)
         f.rename_edge(exit, "test", head.name)
         head.body = [compare]
-        head.end = Instruction("cbr", None, "void", [compare.result], compare.place, targets=[rest.name, exit])
+        head.end = Instruction("cbr", None, [compare.result], compare.place, targets=[rest.name, exit])
         return True
 
     def test_counter_first(self) -> None:
@@ -152,10 +152,10 @@ class Loop:
         exit = self.exit_of(head)
         if self.test_first(always(test, f"{count} <= {most - least}"), exit, head):
             before = f.predecessors()[head.name]
-            head.phis.append(Instruction("phi", count, "i64", [], place))
+            head.phis.append(Instruction("phi", count, [], place))
             head.phis[-1].incoming = [(more.get(name, 0), name) for name in before]
             for name, register in more.items():
-                f.blocks[name].body.append(Instruction("add", register, "i64", [count, 1], place, nsw=True))
+                f.blocks[name].body.append(Instruction("add", register, [count, 1], place, nsw=True))
             own = Form.of(count)
             f.guesses += [(head.name, form, place) for form in (gap - least, -gap - own + most, own)]
 

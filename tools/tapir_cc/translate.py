@@ -1,40 +1,114 @@
-"""From LLVM's text to functions of our language. In: the text, and the function where the run begins. Out: the module,
-and the functions that it needs, callees first (`is_thorough`: with all tests that may help); claims are taken, zones
-and hints are not there yet."""
-from .children import drop_calls, make_children, make_syncs, take_claims
-from .claims import Claims, take_contract
+"""From the tree of a C file to functions of our language, step by step. In: the tree, and the function where the run
+begins. Out: the functions that it needs, callees first, and the globals; claims are taken, zones are not there yet."""
+from .claims import Claims
 from .clean import clean
-from .ir import Fault, Function, Place, cells, scalar
-from .llvm_text import Module, read
-from .memory import Addresses, make_zeros, measure_objects, part_cases
-from .numbers import Conditions, Widths
-from .outline import make_halves, outline_nested
+from .expressions import Cell
+from .ir import Fault, Function, Place
+from .parts import Parts, bound_parts
 from .rewrites import middles, rewrite, try_facts
 from .rounds import bound_more
+from .tasks import make_syncs
+from .tree import Node, Tree
 
 MOST_CELLS = 1048576  # of a module's globals
-KINDS = {"i8": "char", "ptr": "a pointer", "i1": "bool"}
+ALLOWED = ("__tapir_", "memset")
 
 
-def translate(text: str, entry: str, is_thorough: bool = False) -> tuple[Module, list[Function]]:
-    module = read(text)
-    check_globals(module)
-    functions = []
-    for f in callees_first(module, entry):
-        for step in (drop_calls, take_claims, make_children, clean, take_contract):
-            step(f)
-        for part in outline_nested(f) + [f]:
-            clean(part)
-            functions += make_halves(part) + [part]
-            clean(part)
-    for f in functions:
-        Widths(f).apply()
+class Unit:
+    """What is made of a file."""
+
+    def __init__(self, tree: Tree):
+        self.tree = tree
+        self.globals: dict[str, Place] = {}
+        self.objects: dict[str, Cell] = {}  # a global's id -> what it names
+        self.extents: dict[str, int] = {}
+        self.functions: list[Function] = []
+        named = [x for x in tree.declarations if x.kind == "FunctionDecl"]
+        self.bodies = {x.name: x for x in named if x.inner and x.inner[-1].kind == "CompoundStmt"}
+        for node in [x for x in tree.declarations if x.kind == "VarDecl"]:
+            self.add_global(node, node.name)
+
+    def add_global(self, node: Node, name: str) -> None:
+        type, place = node.type, node.place
+        plain = node.tree.type_of(node.data["type"]["qualType"].replace("volatile ", ""))
+        (plain if plain.is_number or plain.lengths else type).check(place)
+        if type.is_pointer or plain.bytes < 4:
+            kind = "a pointer" if type.is_pointer else plain.base
+            raise Fault(place, f"{name} is of {kind}, which memory does not hold", "write int64_t or int")
+        if node.data.get("storageClass") == "extern":
+            raise Fault(place, f"{name} is not in this file", "define it here")
+        if any(not self.is_zero(x) for x in node.inner if "init" in node.data):
+            raise Fault(place, f"{name} has an initial value", "fill it in a function, or from the host (--set, --load)")
+        object = "@" + name
+        self.globals[object], self.extents[object], self.objects[node.id] = place, plain.cells, Cell(object, 0)
+        if sum(self.extents.values()) > MOST_CELLS:
+            text = f"with {name} the globals have {sum(self.extents.values())} cells"
+            raise Fault(place, text, f"a module has at most {MOST_CELLS}")
+
+    def is_zero(self, node: Node) -> bool:
+        parts = node.inner + [Node(x, node.tree) for x in node.data.get("array_filler", [])]
+        return node.data.get("value", "0") == "0" and all(map(self.is_zero, parts))
+
+    def callees_first(self, entry: str) -> list[Node]:
+        """The functions that a run may call."""
+        out: list[Node] = []
+
+        def visit(body: Node, above: list[str]) -> None:
+            for x in [x for x in body.walk() if x.callee()] if body not in out else ():
+                name, callee = x.callee(), self.bodies.get(x.callee())
+                if callee is None and not name.startswith(ALLOWED):
+                    raise Fault(x.place, f"{name} is not in this file", "put its code here")
+                if name in above:
+                    change = "make one function of them, with a parameter that says which"
+                    raise Fault(x.place, f"{body.name} and {name} call each other", change)
+                if callee is not None and callee is not body:
+                    visit(callee, above + [body.name])
+            if body not in out:
+                out.append(body)
+
+        first = self.bodies.get(entry)
+        if first is None:
+            raise Fault(Place(1, 1), f"there is no function {entry}, where the run begins", "name another one by --entry")
+        visit(first, [])
+        self.check_entry(first)
+        return out
+
+    def check_entry(self, node: Node) -> None:
+        if not self.returns(node).is_number:
+            raise Fault(node.place, f"{node.name} returns no number", f"write int64_t {node.name}(..)")
+        for p in [p for p in node.inner if p.type.is_pointer and p.kind == "ParmVarDecl"]:
+            raise Fault(node.place, f"{p.name} is an array, and the host hands over globals alone", "make it a global")
+
+    def returns(self, node: Node):
+        return node.tree.type_of(node.data["type"]["qualType"].split("(")[0])
+
+    def lower(self, node: Node) -> None:
+        """A function's blocks."""
+        f, type = Function("@" + node.name, node.place), self.returns(node)
+        if type.is_pointer or not (type.is_number or type.base == "void"):
+            raise Fault(f.place, f"what {node.name} returns is not taken", "a result is int64_t, int, bool or void")
+        f.returns = type.is_number
+        made = Parts(self, f, node.inner[-1])
+        for p in [p for p in node.inner if p.kind == "ParmVarDecl"]:
+            p.type.check(f.place)
+            rows = node.tree.length(node.name, p.name) if p.type.is_pointer else 0
+            if p.type.is_pointer and not rows:
+                raise Fault(f.place, f"the size of {p.name} is not said", f"write int64_t {p.name}[static N]")
+            made.parameter(p.id, p.name, rows * p.type.cells)
+        made.run()
+        self.functions.append(f)
+
+
+def translate(tree: Tree, entry: str, is_thorough: bool = False) -> Unit:
+    unit = Unit(tree)
+    for node in unit.callees_first(entry):
+        unit.lower(node)
+    for f in reversed(unit.functions):
+        clean(f)
+        bound_parts(f)
+    for f in unit.functions:
         make_syncs(f)
-        Conditions(f).apply()
-        Addresses(f).apply()
-    measure_objects(module, functions)
-    for f in functions:
-        for step in (make_zeros, part_cases, clean, rewrite, clean, try_facts):
+        for step in (clean, rewrite, clean, try_facts):
             step(f)
         Claims(f).apply()
         clean(f)
@@ -42,60 +116,12 @@ def translate(text: str, entry: str, is_thorough: bool = False) -> tuple[Module,
         if is_thorough:
             bound_more(f)
             clean(f)
-    return module, functions
+        name_entry(f, "@" + entry)
+    return unit
 
 
-def check_globals(module: Module) -> None:
-    total = 0
-    for g in module.globals.values():
-        name, kind = g.name[1:], scalar(g.type)
-        total += cells(g.type)
-        if kind not in ("i64", "i32"):
-            text = f"{name} is of {KINDS.get(kind, kind)}, which memory does not hold"
-            raise Fault(g.place, text, "write int64_t or int")
-        if not g.place.line:
-            raise Fault(g.place, f"{name} is not in this file", "define it here")
-        if not g.is_zero:
-            change = "fill it in a function, or from the host (--set, --load)"
-            raise Fault(g.place, f"{name} has an initial value", change)
-        if total > MOST_CELLS:
-            text = f"with {name} the globals have {total} cells"
-            raise Fault(g.place, text, f"a module has at most {MOST_CELLS}")
-
-
-def check_entry(f: Function) -> None:
-    if f.returns not in ("i64", "i32"):
-        raise Fault(f.place, f"{f.name[1:]} returns no number", f"write int64_t {f.name[1:]}(..)")
-    for p in f.parameters:
-        if p.type == "ptr":
-            text = f"{p.name[1:]} is an array, and the host hands over globals alone"
-            raise Fault(f.place, text, "make it a global")
-
-
-def callees_first(module: Module, entry: str) -> list[Function]:
-    """The functions that a run may call, with the name `@main` for the first."""
-    by_name, out = {f.name: f for f in module.functions}, []
-
-    def visit(f: Function, above: list[Function]) -> None:
-        for x in f.calls() if f not in out else ():
-            callee = by_name.get(x.callee)
-            if callee is None and not x.callee.startswith(("@__tapir_", "@llvm.")):
-                raise Fault(x.place, f"{x.callee[1:]} is not in this file", "put its code here")
-            if callee in above:
-                change = "make one function of them, with a parameter that says which"
-                raise Fault(x.place, f"{f.name[1:]} and {x.callee[1:]} call each other", change)
-            if callee is not None and callee is not f:
-                visit(callee, above + [f])
-        if f not in out:
-            out.append(f)
-
-    first = by_name.get("@" + entry)
-    if first is None:
-        change = "name another one by --entry"
-        raise Fault(Place(1, 1), f"there is no function {entry}, where the run begins", change)
-    check_entry(first)
-    visit(first, [])
-    for x in [x for f in out for x in f.calls() if x.callee == first.name]:
-        x.callee = "@main"
-    first.name = "@main"
-    return out
+def name_entry(f: Function, entry: str) -> None:
+    """The function where the run begins is @main."""
+    f.name = "@main" if f.name == entry else f.name
+    for x in f.calls():
+        x.callee = "@main" if x.callee == entry else x.callee

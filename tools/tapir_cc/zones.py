@@ -14,7 +14,7 @@ Interval = tuple[Form, Form]
 
 
 def arguments_of(callee: Function, call: Instruction) -> dict:
-    return {p.name: value for p, value in zip(callee.parameters, call.args)}
+    return dict(zip(callee.parameters, call.args))
 
 
 class Zones:
@@ -85,10 +85,10 @@ class Zones:
         """A parameter that falls in each self call, with its bound."""
         calls = [x for x in self.f.calls() if x.callee == self.f.name]
         for k, p in enumerate(self.f.parameters if calls else []):
-            most = self.ranges.of_parameter(p.name)[1]
-            steps = [self.ranges.form(x.args[k]) - Form.of(p.name) for x in calls]
+            most = self.ranges.of_parameter(p)[1]
+            steps = [self.ranges.form(x.args[k]) - Form.of(p) for x in calls]
             if most is not None and most.is_constant and all(s.is_constant and s.constant < 0 for s in steps):
-                return Form.of(p.name), most.constant
+                return Form.of(p), most.constant
         return None
 
 

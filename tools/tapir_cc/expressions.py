@@ -1,0 +1,309 @@
+"""Expressions. In: nodes of the tree. Out: instructions over i64, and the values that they give. `int` is computed in 64
+bits, which is the same where C leaves overflow undefined; `unsigned` is cut to its 32 bits, and bool is 0 or 1. The
+tree has all of C's conversions as nodes."""
+from typing import NamedTuple, Optional, Union
+
+from .forms import Form, Value
+from .ir import NEGATED, Block, Fault, Function, Instruction, Place
+from .ssa import Builder
+from .tree import Node, Type
+
+LOW = 0xFFFFFFFF
+OPERATIONS = {"+": "add", "-": "sub", "*": "mul", "/": "sdiv", "%": "srem", "<<": "shl", ">>": "ashr"}
+OPERATIONS |= {"&": "and", "|": "or", "^": "xor"}
+OF_UNSIGNED = {"sdiv": "udiv", "srem": "urem", "ashr": "lshr"}
+COMPARES = {"<": "slt", "<=": "sle", ">": "sgt", ">=": "sge", "==": "eq", "!=": "ne"}
+SAME = {"LValueToRValue", "NoOp", "ArrayToPointerDecay", "BitCast"}  # casts that leave an address as it is
+WHOLE = "a pointer is an array or a parameter itself, not stored, chosen, moved or returned"
+BY_INDEX = "keep the index in a variable, not the pointer"
+
+
+def unconverted(node: Node) -> Node:
+    """What is passed as a pointer to anything."""
+    node = node.bare
+    return unconverted(node.inner[0]) if node.data.get("castKind") in ("BitCast", "ArrayToPointerDecay") else node
+
+
+class Cell(NamedTuple):
+    object: str
+    index: Value
+
+
+class Expressions:
+    """What a function's expressions come to. `self.objects` are the variables that lie in memory."""
+
+    build: Builder
+    f: Function
+    objects: dict[str, Cell]
+
+    def value(self, node: Node) -> Value:
+        node = node.bare
+        if not node.kind:
+            return 0
+        found = getattr(self, "of_" + node.kind, None)
+        if node.type.base != "void" or node.type.is_pointer:
+            node.type.check(node.place)
+        if found is None:
+            raise Fault(node.place, f"{node.kind} is not taken", "write it with numbers, arrays, and calls")
+        return found(node)
+
+    def of_IntegerLiteral(self, node: Node) -> Value:
+        number = int(node.data["value"])
+        return number - (1 << 64) if number >> 63 else number
+
+    of_CharacterLiteral = of_IntegerLiteral
+
+    def of_UnaryExprOrTypeTraitExpr(self, node: Node) -> Value:
+        type = node.inner[0].type if node.inner else node.type_at("argType")
+        type.check(node.place)
+        return type.bytes * type.cells
+
+    def of_DeclRefExpr(self, node: Node) -> Value:
+        if node.declared.id in node.tree.constants:
+            return node.tree.constants[node.declared.id]
+        raise Fault(node.place, WHOLE, BY_INDEX)
+
+    def of_ImplicitCastExpr(self, node: Node) -> Value:
+        kind, inner = node.data["castKind"], node.inner[0]
+        if node.type.is_pointer:
+            raise Fault(node.place, WHOLE, BY_INDEX)
+        if kind == "LValueToRValue":
+            return self.load(self.target(inner), inner)
+        if kind == "ToVoid":
+            return self.value(inner)
+        if kind == "IntegralToBoolean":
+            return self.bit(inner)
+        if kind not in ("IntegralCast", "NoOp"):
+            inner.type.check(inner.place)
+            raise Fault(node.place, "a pointer is no number", "keep the index, not the pointer")
+        return self.converted(self.value(inner), inner.type, node.type, node.place)
+
+    of_CStyleCastExpr = of_ImplicitCastExpr
+
+    def converted(self, value: Value, old: Type, new: Type, place: Place) -> Value:
+        new.check(place)
+        if new.base == "int" and old.base in ("long", "ulong", "uint"):
+            return self.build.cut(value, place)
+        if new.base == "uint" and old.base in ("long", "ulong", "int"):
+            return self.build.binary("and", value, LOW, place, hint="low")
+        return value
+
+    def of_BinaryOperator(self, node: Node) -> Value:
+        left, right = node.inner
+        if node.opcode == "=":
+            target = self.target(left)
+            return self.store(target, self.value(right), left)
+        if node.opcode == ",":
+            self.value(left)
+            return self.value(right)
+        if node.opcode in ("&&", "||") or node.opcode in COMPARES:
+            return self.bit(node)
+        return self.operation(node.opcode, self.value(left), self.value(right), node.type, node.place)
+
+    def operation(self, opcode: str, a: Value, b: Value, type: Type, place: Place) -> Value:
+        type.check(place)
+        op = OPERATIONS[opcode]
+        if "u" in type.base:
+            op = OF_UNSIGNED.get(op, op)
+        is_narrow = type.base == "int" and op == "shl" or type.base == "uint" and op in ("add", "sub", "mul", "shl")
+        result = self.build.binary(op, a, b, place, op in ("add", "sub", "mul") and "u" not in type.base)
+        return self.converted(result, Type("long"), type, place) if is_narrow else result
+
+    def of_CompoundAssignOperator(self, node: Node) -> Value:
+        left, right = node.inner
+        target, type = self.target(left), node.type_at("computeLHSType")
+        old = self.converted(self.load(target, left), left.type, type, node.place)
+        new = self.operation(node.opcode[:-1], old, self.value(right), node.type_at("computeResultType"), node.place)
+        return self.store(target, self.assigned(new, type, left.type, node.place), left)
+
+    def assigned(self, value: Value, old: Type, new: Type, place: Place) -> Value:
+        """A value that becomes a bool is 1 where it is not 0."""
+        if new.base == "bool" and old.base != "bool":
+            return self.chosen(lambda yes, no: self.build.branch("ne", value, 0, yes, no, place), place)
+        return self.converted(value, old, new, place)
+
+    def of_UnaryOperator(self, node: Node) -> Value:
+        inner, type, place = node.inner[0], node.type, node.place
+        if node.opcode in ("++", "--"):
+            target = self.target(inner)
+            old = self.load(target, inner)
+            number = type if type.base != "bool" else Type("int")
+            new = self.assigned(self.operation(node.opcode[0], old, 1, number, place), number, type, place)
+            self.store(target, new, inner)
+            return old if node.data["isPostfix"] else new
+        if node.opcode == "!":
+            return self.bit(node)
+        if node.opcode == "-":
+            return self.operation("-", 0, self.value(inner), type, place)
+        if node.opcode == "~":
+            return self.build.binary("xor", self.value(inner), LOW if type.base == "uint" else -1, place)
+        if node.opcode in ("+", "__extension__"):
+            return self.value(inner)
+        raise Fault(place, WHOLE, BY_INDEX)
+
+    def of_ConditionalOperator(self, node: Node) -> Value:
+        """The value of the arm that is taken, by a variable of its own."""
+        test, *arms = node.inner
+        blocks, out = [self.build.block(hint) for hint in ("yes", "no")], self.build.block("chosen")
+        self.condition(test, *blocks)
+        for block, arm in zip(blocks, arms):
+            self.build.start(block)
+            self.build.write(node.id, self.value(arm), "chosen")
+            self.build.jump(out, node.place)
+        self.build.start(out)
+        return self.build.read(node.id, "chosen")
+
+    def bit(self, node: Node) -> Value:
+        """A condition as a number."""
+        if node.type.base == "bool" and node.bare.kind != "BinaryOperator":
+            return self.value(node)
+        return self.chosen(lambda yes, no: self.condition(node, yes, no), node.place)
+
+    def chosen(self, condition, place: Place) -> Value:
+        yes, no, out = [self.build.block(hint) for hint in ("one", "none", "bit")]
+        condition(yes, no)
+        for block, value in ((yes, 1), (no, 0)):
+            self.build.start(block)
+            self.build.write(out.name, value, "bit")
+            self.build.jump(out, place)
+        self.build.start(out)
+        return self.build.read(out.name, "bit")
+
+    def condition(self, node: Node, yes: Block, no: Block) -> None:
+        """Branches on a condition. (Blocks are started where all that leads to them is there.)"""
+        node = node.bare
+        place, cast = node.place, node.data.get("castKind")
+        if not node.kind:  # (`for (;;)` has none)
+            self.build.jump(yes, place)
+        elif node.kind == "UnaryOperator" and node.opcode == "!":
+            self.condition(node.inner[0], no, yes)
+        elif node.opcode in ("&&", "||"):
+            more = self.build.block("also")
+            self.condition(node.inner[0], *((more, no) if node.opcode == "&&" else (yes, more)))
+            self.build.start(more)
+            self.condition(node.inner[1], yes, no)
+        elif node.opcode == ",":
+            self.value(node.inner[0])
+            self.condition(node.inner[1], yes, no)
+        elif node.opcode in COMPARES:
+            self.compare(node, yes, no)
+        elif cast == "IntegralToBoolean" or (cast == "IntegralCast" and node.inner[0].bare.opcode in COMPARES):
+            self.condition(node.inner[0], yes, no)
+        else:
+            self.build.branch("ne", self.value(node), 0, yes, no, place)
+
+    def compare(self, node: Node, yes: Block, no: Block) -> None:
+        left, right = node.inner
+        if left.type.is_pointer or right.type.is_pointer:
+            raise Fault(node.place, "pointers are not compared", "compare the indices")
+        predicate = COMPARES[node.opcode]
+        if left.type.base == "ulong" and predicate[0] == "s":
+            predicate = "u" + predicate[1:]
+        self.build.branch(predicate, self.value(left), self.value(right), yes, no, node.place)
+
+    def of_CallExpr(self, node: Node) -> Value:
+        name, place = node.callee(), node.place
+        if name.startswith("__tapir_"):
+            return self.marker(name[len("__tapir_") :], node)
+        if name == "memset":
+            self.clear(node)
+            return 0
+        if not name:
+            raise Fault(place, "a call through a pointer is not taken", "name the function")
+        args = [self.whole(x) if x.type.is_pointer else self.value(x) for x in node.inner[1:]]
+        x = Instruction("call", None, args, place, callee="@" + name)
+        if node.type.base != "void":
+            x.result = self.f.fresh(name)
+        self.build.now.body.append(x)
+        self.build.touch()
+        return x.result or 0
+
+    def clear(self, node: Node) -> None:
+        at, value, size = [unconverted(x) for x in node.inner[1:]]
+        if self.value(value) != 0 or self.value(size) != at.type.cells * at.type.bytes:
+            raise Fault(node.place, "memset clears a whole array at once, and sets to nothing else", "write a loop")
+        self.zero(self.address(at).object, node.place)
+
+    def zero(self, object: str, place: Place) -> None:
+        self.build.now.body.append(Instruction("zero", None, [object], place, object=object))
+        self.build.touch()
+
+    def target(self, node: Node) -> Union[Cell, str]:
+        """What is read or set: a cell, or a variable that is none."""
+        node = node.bare
+        node.type.check(node.place)
+        if node.kind == "DeclRefExpr" and node.declared.id not in self.objects:
+            return node.declared.id
+        if node.type.base == "bool":
+            raise Fault(node.place, "char and bool are not taken in memory", "write int64_t or int")
+        return self.address(node)
+
+    def load(self, target: Union[Cell, str], node: Node) -> Value:
+        name = node.bare.declared.name or "t"
+        if isinstance(target, str):
+            return self.build.read(target, name)
+        value = self.build.load(*target, node.place, name)
+        return self.converted(value, Type("long"), node.type, node.place) if node.type.base == "uint" else value
+
+    def store(self, target: Union[Cell, str], value: Value, node: Node) -> Value:
+        if isinstance(target, str):
+            self.build.write(target, value, node.bare.declared.name)
+        else:
+            object, index = target
+            self.build.now.body.append(Instruction("store", None, [value], node.place, object=object, index=index))
+            self.build.touch()
+        return value
+
+    def address(self, node: Node) -> Cell:
+        """What an array, a cell or a pointer names."""
+        node = node.bare
+        if node.kind == "DeclRefExpr" and node.declared.id in self.objects:
+            return self.objects[node.declared.id]
+        if node.kind == "UnaryOperator" and node.opcode in ("*", "&"):
+            return self.address(node.inner[0])
+        if node.data.get("castKind") in SAME and node.inner[0].type.base == node.type.base:
+            return self.address(node.inner[0])
+        is_sum = node.kind == "BinaryOperator" and node.opcode in "+-" and node.inner[0].type.is_pointer
+        if not (node.kind == "ArraySubscriptExpr" or is_sum):
+            raise Fault(node.place, WHOLE, BY_INDEX)
+        (object, index), place = self.address(node.inner[0]), node.place
+        step = self.build.binary("mul", self.value(node.inner[1]), node.type.cells, place, True, "row")
+        return Cell(object, self.build.binary("sub" if node.opcode == "-" else "add", index, step, place, True, "at"))
+
+    def whole(self, node: Node) -> str:
+        object, index = self.address(node)
+        if index != 0:
+            raise Fault(node.place, "a part of an array is passed", "pass the array, and the index where it begins")
+        return object
+
+    def form(self, node: Node) -> Form:
+        """A number of a claim."""
+        node = node.bare
+        if node.is_call_of("__tapir_result"):
+            return Form.of("%.ret")
+        if node.opcode in ("+", "-") and node.kind == "BinaryOperator" and "u" not in node.type.base:
+            return self.form(node.inner[0]).plus(self.form(node.inner[1]), 1 if node.opcode == "+" else -1)
+        if node.opcode == "*" and node.kind == "BinaryOperator" and "u" not in node.type.base:
+            left, right = self.form(node.inner[0]), self.form(node.inner[1])
+            if left.is_constant or right.is_constant:
+                return right * left.constant if left.is_constant else left * right.constant
+        if node.opcode == "-" and node.kind == "UnaryOperator" and "u" not in node.type.base:
+            return -self.form(node.inner[0])
+        if node.data.get("castKind") == "IntegralCast" and node.type.base == "long" and node.inner[0].type.base != "ulong":
+            return self.form(node.inner[0])
+        return Form.of(self.value(node))
+
+    def claim(self, node: Node) -> list[tuple[str, Form]]:
+        """A claim as predicates with forms that are 0 or more."""
+        node = node.bare
+        if node.opcode == "&&":
+            return self.claim(node.inner[0]) + self.claim(node.inner[1])
+        if node.opcode not in COMPARES or node.opcode == "!=":
+            raise Fault(node.place, "a claim is compares joined by &&", "write one for each; ||, != and calls are not taken")
+        if node.inner[0].type.base == "ulong":
+            raise Fault(node.place, "a claim is a signed compare", "write int64_t or int")
+        up = self.form(node.inner[1]) - self.form(node.inner[0])
+        forms = {"<": [up - 1], "<=": [up], ">": [-up - 1], ">=": [-up], "==": [up, -up]}[node.opcode]
+        if any(form.is_constant and form.constant < 0 for form in forms):
+            raise Fault(node.place, "this claim never holds")
+        return [(COMPARES[node.opcode], form) for form in forms]
