@@ -1,10 +1,10 @@
 """Expressions. In: nodes of the tree. Out: instructions over i64, and the values that they give. `int` is computed in 64
 bits, which is the same where C leaves overflow undefined; `unsigned` is cut to its 32 bits, and bool is 0 or 1. The
 tree has all of C's conversions as nodes."""
-from typing import NamedTuple, Optional, Union
+from typing import Callable, NamedTuple, Optional, Union
 
 from .forms import Form, Value
-from .ir import NEGATED, Block, Fault, Function, Instruction, Place
+from .ir import Block, Claim, Fault, Function, Instruction, Place
 from .ssa import Builder
 from .tree import Node, Type
 
@@ -12,6 +12,7 @@ LOW = 0xFFFFFFFF
 OPERATIONS = {"+": "add", "-": "sub", "*": "mul", "/": "sdiv", "%": "srem", "<<": "shl", ">>": "ashr"}
 OPERATIONS |= {"&": "and", "|": "or", "^": "xor"}
 OF_UNSIGNED = {"sdiv": "udiv", "srem": "urem", "ashr": "lshr"}
+SIDES = {"eq": ("sle", "sge"), "ne": ("sgt", "slt")}
 COMPARES = {"<": "slt", "<=": "sle", ">": "sgt", ">=": "sge", "==": "eq", "!=": "ne"}
 SAME = {"LValueToRValue", "NoOp", "ArrayToPointerDecay", "BitCast"}  # casts that leave an address as it is
 WHOLE = "a pointer is an array or a parameter itself, not stored, chosen, moved or returned"
@@ -22,6 +23,12 @@ def unconverted(node: Node) -> Node:
     """What is passed as a pointer to anything."""
     node = node.bare
     return unconverted(node.inner[0]) if node.data.get("castKind") in ("BitCast", "ArrayToPointerDecay") else node
+
+
+def gaps(opcode: str, left: Form, right: Form) -> list[Form]:
+    """What is 0 or more where a compare holds."""
+    up = right - left
+    return {"<": [up - 1], "<=": [up], ">": [-up - 1], ">=": [-up], "==": [up, -up], "!=": [-up - 1]}[opcode]
 
 
 class Cell(NamedTuple):
@@ -35,6 +42,8 @@ class Expressions:
     build: Builder
     f: Function
     objects: dict[str, Cell]
+    counters: dict[str, str]  # of loops -> the compare with an end that they have not reached
+    is_thorough: bool  # whether there are tests that may help, although they always hold
 
     def value(self, node: Node) -> Value:
         node = node.bare
@@ -105,9 +114,64 @@ class Expressions:
         op = OPERATIONS[opcode]
         if "u" in type.base:
             op = OF_UNSIGNED.get(op, op)
-        is_narrow = type.base == "int" and op == "shl" or type.base == "uint" and op in ("add", "sub", "mul", "shl")
+        result = self.with_facts(op, a, b, type, place) if isinstance(a, str) else None
+        if result is not None:
+            return result
         result = self.build.binary(op, a, b, place, op in ("add", "sub", "mul") and "u" not in type.base)
+        is_narrow = op == "shl" and type.base == "int" or op in ("add", "sub", "mul", "shl") and type.base == "uint"
         return self.converted(result, Type("long"), type, place) if is_narrow else result
+
+    def with_facts(self, op: str, a: str, b: Value, type: Type, place: Place) -> Optional[Value]:
+        """Products and quotients in place of shifts, and quotients and rests of which more is known: there are rules for
+        them. Where the two differ, what they rest on is shown first."""
+        build = self.build
+        if op == "shl" and type.base == "long" and b in range(1, 62):
+            return build.binary("mul", a, 1 << b, place, True)
+        if op == "ashr" and b in range(1, 20) and a not in build.strange and self.shown("shift", place, build.form(a)):
+            return build.binary("sdiv", a, 1 << b, place)
+        if op == "sdiv" and b == 2:
+            return self.half(a, place)
+        return self.rest(a, b, place) if op == "srem" and isinstance(b, str) and self.is_thorough else None
+
+    def shown(self, word: str, place: Place, *forms: Form) -> bool:
+        """Has the next instruction show that forms are 0 or more, unless that was refused."""
+        choice = self.build.tries(word, place)
+        self.build.shown += [Claim(form, place, choice) for form in forms if choice]
+        return choice is not None
+
+    def half(self, a: str, place: Place) -> Value:
+        """x / 2. (x + y) / 2 is x + (y - x) / 2, which lies between them. Of 1 + (x - 2) / 2 it is known that it is below
+        x and not 0, and of (x - 1) - (x - 1) / 2 that it is below x."""
+        binary, form, x = self.build.binary, self.build.form(a), self.build.makers.get(a)
+        if x is not None and x.op == "add" and all(isinstance(v, str) for v in x.args):
+            low, high = x.args
+            if self.shown("middle", place, self.build.form(high) - self.build.form(low), form):
+                half = binary("sdiv", binary("sub", high, low, place, True), 2, place)
+                return binary("add", low, half, place, True)
+        if self.is_thorough and self.shown("more", place, form - 2):
+            return binary("add", binary("sdiv", binary("sub", a, 2, place, True), 2, place), 1, place, True)
+        if self.is_thorough and self.shown("less", place, form - 1):
+            less = binary("sub", a, 1, place, True)
+            return binary("sub", less, binary("sdiv", less, 2, place), place, True)
+        return binary("sdiv", a, 2, place)
+
+    def rest(self, a: str, b: str, place: Place) -> Value:
+        """a % b, which is from 0 to b - 1 where a >= 0 and b >= 1: two tests that always hold say so."""
+        build = self.build
+        rest, forms = build.binary("srem", a, b, place), (build.form(a), build.form(b) - 1)
+        for predicate, bound in (("sge", 0), ("slt", b)):
+            if self.shown("rest", place, *forms):
+                value = rest
+                rest = self.chosen(lambda yes, no: build.branch(predicate, value, bound, yes, no, place), place, value)
+                self.guess(build.now, build.form(rest), place)
+        if build.now.keeps:
+            self.guess(build.now, build.form(b) - build.form(rest) - 1, place)
+        return rest
+
+    def guess(self, block: Block, form: Form, place: Place) -> None:
+        """Tries that a form is 0 or more where a block begins."""
+        choice = self.build.tries("guess", place)
+        block.keeps += [Claim(form, place, choice)] if choice else []
 
     def of_CompoundAssignOperator(self, node: Node) -> Value:
         left, right = node.inner
@@ -159,10 +223,11 @@ class Expressions:
             return self.value(node)
         return self.chosen(lambda yes, no: self.condition(node, yes, no), node.place)
 
-    def chosen(self, condition, place: Place) -> Value:
+    def chosen(self, condition: Callable, place: Place, one: Value = 1) -> Value:
+        """A value where a condition holds, and 0 where it does not."""
         yes, no, out = [self.build.block(hint) for hint in ("one", "none", "bit")]
         condition(yes, no)
-        for block, value in ((yes, 1), (no, 0)):
+        for block, value in ((yes, one), (no, 0)):
             self.build.start(block)
             self.build.write(out.name, value, "bit")
             self.build.jump(out, place)
@@ -196,10 +261,16 @@ class Expressions:
         left, right = node.inner
         if left.type.is_pointer or right.type.is_pointer:
             raise Fault(node.place, "pointers are not compared", "compare the indices")
-        predicate = COMPARES[node.opcode]
+        predicate, a, b = COMPARES[node.opcode], self.value(left), self.value(right)
+        up = self.build.form(a) - self.build.form(b)
         if left.type.base == "ulong" and predicate[0] == "s":
             predicate = "u" + predicate[1:]
-        self.build.branch(predicate, self.value(left), self.value(right), yes, no, node.place)
+        elif node.opcode == "!=" and left.inner and left.inner[0].bare.declared.id in self.counters:
+            predicate = self.counters[left.inner[0].bare.declared.id]  # (C's counters do not pass their ends)
+        elif predicate in SIDES and not {a, b} & self.build.strange and not up.is_constant:
+            ways = zip(("up", "down"), (up, -up), SIDES[predicate])  # of <= and >= both outcomes are facts
+            predicate = next((side for word, gap, side in ways if self.shown(word, node.place, gap)), predicate)
+        self.build.branch(predicate, a, b, yes, no, node.place)
 
     def of_CallExpr(self, node: Node) -> Value:
         name, place = node.callee(), node.place
@@ -214,9 +285,10 @@ class Expressions:
         x = Instruction("call", None, args, place, callee="@" + name)
         if node.type.base != "void":
             x.result = self.f.fresh(name)
-        self.build.now.body.append(x)
-        self.build.touch()
-        return x.result or 0
+        if x.callee == self.f.name:
+            for k, (value, own) in enumerate(zip(args, self.f.parameters)):
+                self.f.falls.setdefault(k, []).append(self.build.form(value) - Form.of(own))
+        return self.build.put(x) or 0
 
     def clear(self, node: Node) -> None:
         at, value, size = [unconverted(x) for x in node.inner[1:]]
@@ -225,8 +297,7 @@ class Expressions:
         self.zero(self.address(at).object, node.place)
 
     def zero(self, object: str, place: Place) -> None:
-        self.build.now.body.append(Instruction("zero", None, [object], place, object=object))
-        self.build.touch()
+        self.build.put(Instruction("zero", None, [object], place, object=object))
 
     def target(self, node: Node) -> Union[Cell, str]:
         """What is read or set: a cell, or a variable that is none."""
@@ -250,8 +321,7 @@ class Expressions:
             self.build.write(target, value, node.bare.declared.name)
         else:
             object, index = target
-            self.build.now.body.append(Instruction("store", None, [value], node.place, object=object, index=index))
-            self.build.touch()
+            self.build.put(Instruction("store", None, [value], node.place, object=object, index=index))
         return value
 
     def address(self, node: Node) -> Cell:
@@ -276,34 +346,17 @@ class Expressions:
             raise Fault(node.place, "a part of an array is passed", "pass the array, and the index where it begins")
         return object
 
-    def form(self, node: Node) -> Form:
-        """A number of a claim."""
-        node = node.bare
-        if node.is_call_of("__tapir_result"):
-            return Form.of("%.ret")
-        if node.opcode in ("+", "-") and node.kind == "BinaryOperator" and "u" not in node.type.base:
-            return self.form(node.inner[0]).plus(self.form(node.inner[1]), 1 if node.opcode == "+" else -1)
-        if node.opcode == "*" and node.kind == "BinaryOperator" and "u" not in node.type.base:
-            left, right = self.form(node.inner[0]), self.form(node.inner[1])
-            if left.is_constant or right.is_constant:
-                return right * left.constant if left.is_constant else left * right.constant
-        if node.opcode == "-" and node.kind == "UnaryOperator" and "u" not in node.type.base:
-            return -self.form(node.inner[0])
-        if node.data.get("castKind") == "IntegralCast" and node.type.base == "long" and node.inner[0].type.base != "ulong":
-            return self.form(node.inner[0])
-        return Form.of(self.value(node))
-
-    def claim(self, node: Node) -> list[tuple[str, Form]]:
-        """A claim as predicates with forms that are 0 or more."""
+    def claim(self, node: Node) -> list[Form]:
+        """A claim as forms that are 0 or more."""
         node = node.bare
         if node.opcode == "&&":
             return self.claim(node.inner[0]) + self.claim(node.inner[1])
         if node.opcode not in COMPARES or node.opcode == "!=":
-            raise Fault(node.place, "a claim is compares joined by &&", "write one for each; ||, != and calls are not taken")
+            raise Fault(node.place, "a claim is compares joined by &&", "write one for each; ||, != and ! are not taken")
         if node.inner[0].type.base == "ulong":
             raise Fault(node.place, "a claim is a signed compare", "write int64_t or int")
-        up = self.form(node.inner[1]) - self.form(node.inner[0])
-        forms = {"<": [up - 1], "<=": [up], ">": [-up - 1], ">=": [-up], "==": [up, -up]}[node.opcode]
+        left, right = [self.build.form(self.value(x)) for x in node.inner]
+        forms = gaps(node.opcode, left, right)
         if any(form.is_constant and form.constant < 0 for form in forms):
             raise Fault(node.place, "this claim never holds")
-        return [(COMPARES[node.opcode], form) for form in forms]
+        return forms

@@ -36,15 +36,6 @@ class Form:
     def __neg__(self) -> Form:
         return self * -1
 
-    def __eq__(self, other) -> bool:
-        return isinstance(other, Form) and (self.terms, self.constant) == (other.terms, other.constant)
-
-    def __hash__(self) -> int:
-        return hash((frozenset(self.terms.items()), self.constant))
-
-    def without(self, register: str) -> Form:
-        return Form({**self.terms, register: 0}, self.constant)
-
     def replaced(self, of: Callable[[str], Form]) -> Form:
         """The form with each register replaced by a form."""
         total = Form(constant=self.constant)

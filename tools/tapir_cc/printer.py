@@ -1,10 +1,10 @@
 """Prints a module. In: globals and functions with all that was found. Out: its lines, each with the place in the C and
 what it stands for, by which refusals are mended and told."""
 import re
-from typing import NamedTuple
+from typing import NamedTuple, Optional
 
-from .forms import Value
-from .ir import BINARY, REGISTER, Block, Function, Instruction, Place, Zone, order_of
+from .forms import Form, Value
+from .ir import BINARY, Block, Choice, Claim, Function, Instruction, Place, Zone, order_of
 
 MOST_NAME = 56
 FORMATS = {
@@ -30,15 +30,13 @@ FORMATS = {
 
 
 class Line(NamedTuple):
-    """A line of the module. `kind` says what `of` is: instruction, shows, tried or step (before an instruction), hint
-    (a line of a block), block, function, zone, foot."""
+    """A line of the module, and the instruction that it is of or stands before. `choice` is what an annotation tries."""
 
     text: str
     place: Place = Place()
-    kind: str = ""
-    of: object = None
-    function: object = None
-    note: str = ""
+    function: Optional[Function] = None
+    of: Optional[Instruction] = None
+    choice: Optional[Choice] = None
 
 
 class Printed(list):
@@ -75,17 +73,22 @@ class FunctionPrinter:
             self.taken.add(name)
         return self.f.printed[value]
 
-    def put(self, text: str, place: Place, kind: str = "", of: object = None, note: str = "") -> None:
-        self.out.append(Line(text, place, kind, of, self.f, note))
+    def put(self, text: str, place: Place, of: Optional[Instruction] = None, choice: Optional[Choice] = None) -> None:
+        self.out.append(Line(text, place, self.f, of, choice))
 
-    def note(self, text: str, place: Place, kind: str = "", of: object = None) -> None:
-        """A line of an annotation, in the names that are printed."""
-        printed = re.sub(REGISTER, lambda m: m[0] if m[0] == "%.ret" else self.name(m[0]), text)
-        self.put("  ;! " + printed, place, kind, of, text)
+    def form(self, form: Form) -> Form:
+        """A form in the names that are printed."""
+        return form.replaced(lambda register: Form.of(register if register == "%.ret" else self.name(register)))
 
-    def zone(self, word: str, zone: Zone, place: Place) -> None:
-        text = f"{word}{zone.mode} {zone.object} {zone.low} {zone.high}"
-        self.note(text, place, "foot" if word else "zone", zone.object)
+    def claims(self, word: str, claims: list[Claim], of: Optional[Instruction] = None) -> None:
+        for claim in {str(claim.form): claim for claim in claims}.values():
+            if not claim.form.is_constant or claim.form.constant < 0:
+                self.put(f"  ;! {word} {self.form(claim.form)} >= 0", claim.place, of, claim.choice)
+
+    def zones(self, word: str, zones: list[Zone], place: Place) -> None:
+        for zone in zones:
+            ends = f"{self.form(zone.low)} {self.form(zone.high)}"
+            self.put(f"  ;! {word}{zone.mode} {self.name(zone.object)} {ends}", place)
 
     def passed(self, value: Value) -> str:
         return f"ptr {self.name(value)}" if value in self.f.extents else f"i64 {self.name(value)}"
@@ -95,15 +98,14 @@ class FunctionPrinter:
         types = [f"ptr noalias dereferenceable({8 * f.extents[p]})" if p in f.arrays else "i64" for p in f.parameters]
         parameters = ", ".join(f"{type} {self.name(p)}" for type, p in zip(types, f.parameters))
         self.put("", f.place)
-        self.put(f"define {'i64' if f.returns else 'void'} {f.name}({parameters}) {{", f.place, "function", f)
-        for word, claims in (("requires", f.requires), ("ensures", f.ensures)):
-            for line, place in {line: place for line, place in reversed(claims)}.items():
-                self.note(f"{word} {line}", place)
-        for zone in f.zones:
-            self.zone("", zone, f.place)
-        for word, values in (("measure %s max %s", f.measure), ("budget %s %s", f.budget)):
-            if values:
-                self.note(word % tuple(values), f.place)
+        self.put(f"define {'i64' if f.returns else 'void'} {f.name}({parameters}) {{", f.place)
+        self.claims("requires", f.requires)
+        self.claims("ensures", f.ensures)
+        self.zones("", f.zones, f.place)
+        if f.measure:
+            self.put(f"  ;! measure {self.form(f.measure[0])} max {f.measure[1]}", f.place)
+        if f.budget:
+            self.put(f"  ;! budget {self.form(f.budget[0])} {self.form(f.budget[1])}", f.place)
         for name in order_of(f):
             self.block(f.blocks[name])
         self.put("}", f.place)
@@ -112,18 +114,12 @@ class FunctionPrinter:
     def block(self, block: Block) -> None:
         self.addresses = {}
         first = next((x.place for x in [*block.body, block.end] if x.place.line), self.f.place)
-        self.put(self.name("%" + block.name)[1:] + ":", first, "block", block)
-        for line, place in block.notes:
-            self.note(line, place)
-        for line, place in block.hints + self.f.rests.get(block.name, []):
-            self.note(line, place, "hint", (block.name, line))
-        for zone in self.f.feet.get(block.name, []):
-            self.zone("foot ", zone, first)
+        self.put(self.name("%" + block.name)[1:] + ":", first)
+        self.claims("keeps", block.keeps)
+        self.zones("foot ", block.foot, first)
         for x in block.all():
-            for kind, lines in (("shows", x.shows), ("step", x.steps), ("tried", x.tried)):
-                for line in lines:
-                    self.note(line, x.place, kind, x)
-            self.put("  " + self.instruction(x), x.place, "instruction", x)
+            self.claims("shows", x.shows, x)
+            self.put("  " + self.instruction(x), x.place, x)
 
     def pointer(self, x: Instruction) -> str:
         """What a load, store or addition goes through; its address is taken before it."""
@@ -133,7 +129,7 @@ class FunctionPrinter:
         if key not in self.addresses:
             self.addresses[key] = self.name(self.f.fresh("p"))
             address = f"getelementptr inbounds i64, ptr {self.name(x.object)}, i64 {self.name(x.index)}"
-            self.put(f"  {self.addresses[key]} = {address}", x.place, "instruction", x)
+            self.put(f"  {self.addresses[key]} = {address}", x.place, x)
         return self.addresses[key]
 
     def instruction(self, x: Instruction) -> str:

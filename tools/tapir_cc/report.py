@@ -6,7 +6,7 @@ import pathlib
 import re
 from typing import Optional
 
-from .ir import CUTS, Function, Instruction, Place
+from .ir import Function, Instruction, Place
 from .judge import Judge, Verdict
 
 SIGNS = {"add": "+", "sub": "-", "mul": "*", "sdiv": "/", "udiv": "/", "srem": "%", "urem": "%"}
@@ -49,7 +49,7 @@ class Names:
         self.chosen = {f.c_names.get(x.result) for x in f.instructions() if x.op == "phi"}
 
     def of(self, value, deep: int = 4) -> str:
-        x, variable = self.definitions.get(value, (None,))[0], self.f.c_names.get(value)
+        x, variable = self.definitions.get(value), self.f.c_names.get(value)
         if not isinstance(value, str) or (variable and (x is None or x.op == "phi" or variable not in self.chosen)):
             return str(value) if variable is None else variable
         if x is None or x.op in ("phi", "alloca") or deep == 0:
@@ -63,7 +63,7 @@ class Names:
             return self.cell(x, deep)
         if x.op == "call":
             return f"{x.callee[1:]}(..)"
-        return self.of(x.args[0], deep) if x.op in CUTS else x.result[1:]
+        return self.of(x.args[0], deep) if x.op in ("trunc", "sext") else x.result[1:]
 
     def cell(self, x: Instruction, deep: int = 4) -> str:
         is_single = x.index == 0 and self.f.extents.get(x.object) == 1
@@ -115,13 +115,13 @@ class Report:
     def place(self) -> Place:
         """Where it is refused; of an edge that does not keep an INVARIANT the place of that."""
         asked = [self.printed.line(int(number)) for number in re.findall(r"asked by line (\d+)", self.told)]
-        places = [line.place for line in asked if self.rule == 505 and line.kind == ""] + [self.line.place]
+        places = [line.place for line in asked if self.rule == 505 and not line.of] + [self.line.place]
         places += [self.f.place] if self.f else []
         return next((place for place in places if place.line), Place(1, 1))
 
     def what(self) -> str:
         """What the refused instruction touches or does, as the C writes it."""
-        x = self.line.of if self.line.kind in ("instruction", "shows", "tried") else None
+        x = self.line.of
         if x is not None and x.object:
             return self.names.cell(x)
         if x is not None and x.op == "call":
@@ -149,7 +149,7 @@ class Report:
         return "two SPAWNs that may run at once touch the same cells" + (f" of {object}" if object else "")
 
     def change(self) -> str:
-        if self.rule == 602 and self.line.kind == "instruction" and self.line.of.op == "detach":
+        if self.rule == 602 and self.line.of is not None and self.line.of.op == "detach":
             return OWN_CELLS
         return CHANGES.get(self.rule) or (self.claim_to_add() if self.goals else "")
 
@@ -161,7 +161,7 @@ class Report:
         required = self.requires_by_nearest() or (self.goal if registers <= parameters else "")
         if required:
             return f"add REQUIRES({required}) to {function}"
-        made = [names.definitions[r][0] for r in registers if r in names.definitions]
+        made = [names.definitions[r] for r in registers if r in names.definitions]
         for x in made:
             if x.op in ("add", "sub", "mul") and not x.nsw and isinstance(x.args[0], str):
                 word = "REQUIRES" if x.args[0] in parameters else "INVARIANT or a test"
@@ -170,7 +170,7 @@ class Report:
         if any(x.predicate[:1] == "u" and registers & set(x.args) for x in self.f.instructions()):
             return "write int64_t in place of unsigned: unsigned compares tell nothing"
         for value in [v for x in made for v, _ in x.incoming]:
-            if value in names.definitions and names.definitions[value][0].op == "load":
+            if value in names.definitions and names.definitions[value].op == "load":
                 return f"test {names.of(value)} before the loop: memory may hold anything"
         called = next((x.callee[1:] for x in made if x.op == "call"), None)
         if called:

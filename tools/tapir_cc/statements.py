@@ -1,15 +1,16 @@
 """Statements. In: a function of the tree, or a part of one that is to be a function. Out: its blocks. SPAWN becomes a
 `detach` whose child ends with `reattach`, SYNC a `sync`; a variable that a SPAWN sets and others use lies in memory;
-claims become `claim` and `zone`."""
-from typing import Callable, Optional
+claims go to the blocks, and to the function. Each task syncs its region before it ends, where a child may still run."""
+from typing import Callable, NamedTuple, Optional
 
-from .expressions import Cell, Expressions, unconverted
+from .expressions import Cell, unconverted
 from .forms import Form, Value
-from .ir import Block, Fault, Function, Instruction, Place
-from .ssa import Builder
+from .ir import Block, Choice, Claim, Fault, Function, Instruction, Place, Zone
+from .rounds import Bound, Rounds, counted, set_in
+from .ssa import Builder, Round
 from .tree import Node, Type
 
-SETS = {"CompoundAssignOperator", "UnaryOperator", "BinaryOperator"}
+MARKS = ("requires", "ensures", "keeps", "invariant")
 OUT = "set a variable in the SPAWN, and test it after SYNC"
 
 
@@ -25,12 +26,6 @@ def variables(node: Node) -> dict[str, Node]:
     """The variables that are named."""
     named = [x.declared for x in node.walk() if x.kind == "DeclRefExpr"]
     return {x.id: x for x in named if x.kind in ("VarDecl", "ParmVarDecl")}
-
-
-def set_in(node: Node) -> set[str]:
-    """The variables that are set."""
-    sets = [x for x in node.walk() if x.kind in SETS and x.opcode in ("=", "++", "--") or x.kind == "CompoundAssignOperator"]
-    return {x.inner[0].bare.declared.id for x in sets}
 
 
 def declared_in(node: Node) -> set[str]:
@@ -51,21 +46,67 @@ def kept_in_memory(node: Node) -> set[str]:
     return pointed
 
 
-class Statements(Expressions):
+class Loop(NamedTuple):
+    """A loop or a switch: where break and continue lead, and the SPAWN that it is in. Of a loop its head, the block where
+    a round begins, and the registers that are known before it."""
+
+    out: Block
+    next: Optional[Block]
+    task: "Task"
+    head: Optional[Block] = None
+    inside: Optional[Block] = None
+    known: set[str] = set()
+
+
+class Task:
+    """A function's own body, or a SPAWN."""
+
+    def __init__(self, first: Block):
+        self.first, self.region = first, ""
+        self.is_open = "0x open in " + first.name  # a variable, which is 0 where no child is open
+
+
+class Statements(Rounds):
     def __init__(self, unit, f: Function, body: Node):
-        self.unit, self.f, self.body = unit, f, body
+        self.unit, self.f, self.body, self.is_thorough = unit, f, body, unit.is_thorough
         is_plain = not any(x.kind == "LabelStmt" for x in body.walk())
-        self.build, self.objects = Builder(f, is_plain), dict(unit.objects)
+        self.build, self.objects, self.counters = Builder(f, unit.refused, is_plain), dict(unit.objects), {}
         self.in_memory = kept_in_memory(body)
-        self.loops: list[tuple[Block, Optional[Block], int]] = []  # where break and continue lead, and how deep
-        self.labels: dict[str, tuple[Block, int]] = {}
-        self.depth = 0  # of SPAWNs
+        self.loops: list[Loop] = []
+        self.facts: list[Form] = []  # what is 0 or more, as loops are not over
+        self.is_child = False  # whether it is the body of a SPAWN
+        self.labels: dict[str, tuple[Block, Task]] = {}
+        self.body_task = self.task = Task(f.entry)
         f.extents = dict(unit.extents)
 
     def run(self) -> None:
         self.statement(self.body)
-        self.build.close(Instruction("ret", None, [0] if self.f.returns else [], self.f.place))
+        self.leave_function([0] if self.f.returns else [], self.f.place)
         self.build.finish()
+
+    def leave_function(self, values: list[Value], place: Place) -> None:
+        self.sync(place)
+        self.build.close(Instruction("ret", None, values, place))
+
+    def region(self) -> str:
+        """The region of the task's children, which starts where the task does."""
+        if not self.task.region:
+            self.task.region, body = self.f.fresh("region"), self.task.first.body
+            at = sum(x.op in ("alloca", "zero") for x in body) if self.task.first is self.f.entry else 0
+            body.insert(at, Instruction("region", self.task.region, place=self.f.place))
+        return self.task.region
+
+    def changed_in(self, *nodes: Node) -> set[str]:
+        """The variables that are set, and whether children are open."""
+        return set_in(*nodes) | {self.task.is_open for node in nodes if spawns(node)}
+
+    def sync(self, place: Place) -> None:
+        if self.build.read(self.task.is_open, "open") == 0:
+            return
+        after = self.build.block("synced")
+        self.build.close(Instruction("sync", place=place, targets=[after.name], region=self.region()))
+        self.build.start(after)
+        self.build.write(self.task.is_open, 0, "open")
 
     def parameter(self, id: str, name: str, cells: int = 0) -> str:
         """A parameter of the function; of an array, its cells."""
@@ -84,7 +125,10 @@ class Statements(Expressions):
 
     def local(self, id: str, name: str, cells: int) -> Cell:
         x = self.f.make("alloca", place=self.f.place, hint=name)
-        self.f.entry.body.insert(0, x)
+        unset = Choice(self.f.name, "unset", self.f.place, len(self.f.extents))  # that it is set before it is read
+        zero = Instruction("zero", None, [x.result], self.f.place, object=x.result)
+        self.f.unset[x.result] = unset
+        self.f.entry.body[:0] = [x, zero] if unset in self.unit.refused else [x]
         self.f.extents[x.result], self.objects[id] = cells, Cell(x.result, 0)
         return self.objects[id]
 
@@ -163,69 +207,100 @@ class Statements(Expressions):
         if test.calls_of("__tapir_halves"):
             self.halve(first.inner[0], test.bare.inner[0].bare.inner[1], body.inner[1], node.place)
         else:
-            self.loop(node.place, lambda yes, no: self.condition(test, yes, no), body, lambda: self.value(step))
+            self.tested_loop(node.place, test, body, step)
 
     def do_WhileStmt(self, node: Node) -> None:
-        test, body = node.inner
-        self.loop(node.place, lambda yes, no: self.condition(test, yes, no), body, lambda: None)
+        self.tested_loop(node.place, *node.inner, Node({}, node.tree))
 
-    def loop(self, place: Place, test: Callable, body: Node, step: Callable) -> None:
-        head, inside, next, out = [self.build.block(hint) for hint in ("head", "body", "next", "end")]
+    def tested_loop(self, place: Place, test: Node, body: Node, step: Node) -> None:
+        def own(yes: Block, no: Block) -> None:
+            before, self.counters = self.counters, counted(step, body)
+            self.condition(test, yes, no)
+            self.counters = before
+            self.build.start(yes)
+            self.facts = self.facts + self.known_inside(test, step, body, starts)
+
+        facts, starts = self.facts, {id: self.build.form(self.build.read(id, "t")) for id in counted(step, body)}
+        changed = self.changed_in(test, body, step)
+        self.loop(place, own, body, lambda: self.value(step), changed, self.bound(test, body, step))
+        self.facts = facts
+
+    def known_inside(self, test: Node, step: Node, body: Node, starts: dict[str, Form]) -> list[Form]:
+        """What is 0 or more in a round: a counter has not passed its start, and a test without effects holds."""
+        facts = []
+        for id, way in counted(step, body).items():
+            up = self.build.form(self.build.read(id, "t")) - starts[id]
+            facts.append(up if way == "slt" else -up)
+        own = test.bare.inner[0].bare if test.bare.opcode == "||" and test.calls_of("__tapir_sync") else test.bare
+        return facts + ([self.gap(own)] if own.opcode in ("<", "<=", ">", ">=") and self.is_simple(own) else [])
+
+    def loop(self, place: Place, test: Callable, body: Node, step: Callable, changed: set[str], more: Optional[Bound] = None) -> None:
+        """A loop, and the variables that change in it. Where its rounds have no bound that is seen, `more` says what is
+        tested before its own test."""
+        head, inside, latch, out = [self.build.block(hint) for hint in ("head", "body", "next", "end")]
+        above, known = self.build.now, set(self.f.names)
         self.build.jump(head, place)
-        self.build.start(head, False)
+        self.build.start(head, changed)
+        self.build.loops.append(Round(above, head, inside, known))
+        if more:
+            more.test(head, out)
         test(inside, out)
-        self.build.start(inside)
-        self.in_loop(body, out, next)
-        self.build.jump(next, place)
-        self.build.start(next)
+        if self.build.now is not inside:
+            self.build.start(inside)
+        self.in_loop(body, Loop(out, latch, self.task, head, inside, known))
+        self.build.jump(latch, place)
+        self.build.start(latch)
         step()
+        if more:
+            more.count()
+        self.build.loops.pop()
         self.build.jump(head, place)
         self.build.seal(head)
         self.build.start(out)
 
-    def in_loop(self, body: Node, out: Block, next: Optional[Block]) -> None:
-        self.loops.append((out, next, self.depth))
+    def in_loop(self, body: Node, loop: Loop) -> None:
+        self.loops.append(loop)
         self.statement(body)
         self.loops.pop()
 
     def do_DoStmt(self, node: Node) -> None:
         body, test = node.inner
-        marks = ("requires", "ensures", "keeps", "invariant")
-        kind = next((mark for mark in marks if body.calls_of("__tapir_" + mark)), "")
+        kind = next((mark for mark in MARKS if body.calls_of("__tapir_" + mark)), "")
         if kind and body.inner[0].kind == "IfStmt" and len(body.inner) == 1:
             self.say(kind, body.inner[0].inner[0].inner[0], node.place)
             return
-        head, next_, out = [self.build.block(hint) for hint in ("body", "test", "end")]
+        head, latch, out = [self.build.block(hint) for hint in ("body", "test", "end")]
+        known = set(self.f.names)
         self.build.jump(head, node.place)
-        self.build.start(head, False)
-        self.in_loop(body, out, next_)
-        self.build.jump(next_, node.place)
-        self.build.start(next_)
+        self.build.start(head, self.changed_in(node))
+        self.in_loop(body, Loop(out, latch, self.task, head, head, known))
+        self.build.jump(latch, node.place)
+        self.build.start(latch)
         self.condition(test, head, out)
         self.build.seal(head)
         self.build.start(out)
 
-    def leave(self, node: Node, at: int) -> None:
-        target, depth = next(((x[at], x[2]) for x in reversed(self.loops) if x[at] is not None), (None, -1))
-        if depth != self.depth:
-            raise Fault(node.place, "return, break, continue or goto leads out of a SPAWN", OUT)
-        self.build.jump(target, node.place)
+    def leave(self, task: Optional[Task], block: Block, place: Place) -> None:
+        if task is not self.task:
+            raise Fault(place, "return, break, continue or goto leads out of a SPAWN", OUT)
+        self.build.jump(block, place)
 
     def do_BreakStmt(self, node: Node) -> None:
-        self.leave(node, 0)
+        self.leave(self.loops[-1].task if self.loops else None, self.loops[-1].out, node.place)
 
     def do_ContinueStmt(self, node: Node) -> None:
-        self.leave(node, 1)
+        loop = next(loop for loop in reversed(self.loops) if loop.next)
+        self.leave(loop.task, loop.next, node.place)
 
     def do_ReturnStmt(self, node: Node) -> None:
-        if self.depth:
+        if self.task is not self.body_task or self.is_child:
             raise Fault(node.place, "return, break, continue or goto leads out of a SPAWN", OUT)
         values = [self.value(x) for x in node.inner]
-        self.build.close(Instruction("ret", None, values if self.f.returns else [], node.place))
+        self.leave_function(values if self.f.returns else [], node.place)
 
     def label(self, id: str) -> Block:
         if id not in self.labels:
-            self.labels[id] = (self.build.block("label"), self.depth)
+            self.labels[id] = (self.build.block("label"), self.task)
         return self.labels[id][0]
 
     def do_GotoStmt(self, node: Node) -> None:
@@ -233,13 +308,11 @@ class Statements(Expressions):
 
     def jump_to(self, id: str, place: Place) -> None:
         block = self.label(id)
-        if self.labels[id][1] != self.depth:
-            raise Fault(place, "return, break, continue or goto leads out of a SPAWN", OUT)
-        self.build.jump(block, place)
+        self.leave(self.labels[id][1], block, place)
 
     def do_LabelStmt(self, node: Node) -> None:
         self.jump_to(node.data["declId"], node.place)
-        self.build.start(self.label(node.data["declId"]), False)
+        self.build.start(self.label(node.data["declId"]), self.changed_in(self.body))
         self.statement(node.inner[0])
 
     def do_SwitchStmt(self, node: Node) -> None:
@@ -248,7 +321,7 @@ class Statements(Expressions):
         end = Instruction("switch", None, [value], node.place, targets=[other.name])
         before, self.switch = getattr(self, "switch", None), (end, build.now.name, other)
         build.close(end)
-        self.in_loop(node.inner[-1], out, None)
+        self.in_loop(node.inner[-1], Loop(out, None, self.task))
         build.jump(out, node.place)
         if other.name not in build.sealed:  # (there is no `default:`)
             build.start(other)
@@ -278,61 +351,66 @@ class Statements(Expressions):
         self.statement(node.inner[-1])
 
     def spawn(self, node: Node) -> None:
-        body = node.inner[1]
-        child, after, place = self.build.block("child"), self.build.block("continuation"), node.place
-        self.build.close(Instruction("detach", place=place, targets=[child.name, after.name]))
+        body, place, outer = node.inner[1], node.place, self.task
+        child, after = self.build.block("child"), self.build.block("continuation")
+        targets = [child.name, after.name]
+        self.build.close(Instruction("detach", place=place, targets=targets, region=self.region()))
         self.build.start(child)
-        self.depth += 1
+        self.task = Task(child)
         if self.loops and spawns(body):  # in a function of their own its children are told apart
             self.outline(body, place)
         else:
             self.statement(body)
-        self.depth -= 1
-        self.build.close(Instruction("reattach", place=place, targets=[after.name]), [])
+        self.sync(place)
+        self.task = outer
+        self.build.close(Instruction("reattach", place=place, targets=[after.name], region=self.region()), [])
         self.build.start(after)
+        self.build.write(self.task.is_open, 1, "open")
 
     def say(self, kind: str, node: Node, place: Place) -> None:
         """Takes a claim."""
-        said, f = self.claim(node), self.f
-        if kind in ("invariant", "keeps"):
-            for predicate, form in said:
-                claim = Instruction("claim", None, [], place, predicate, kind=kind, said=[form])
-                self.build.now.body.append(claim)
-            return
-        about = set(f.parameters) | ({"%.ret"} if kind == "ensures" else set())
-        if self.build.now is not f.entry or any(form.terms.keys() - about for _, form in said):
-            what = "parameters and RESULT" if kind == "ensures" else "parameters"
-            text = f"{kind.upper()} stands first in a function, and is about {what}"
-            raise Fault(place, text, "write one claim for each compare, before any if")
-        lines = f.requires if kind == "requires" else f.ensures
-        lines += [(f"{form} >= 0", place) for _, form in said]
-        f.needs += [form for _, form in said] if kind == "requires" else []
+        forms, f, block = self.claim(node), self.f, self.build.now
+        claims = [Claim(form, place) for form in forms]
+        registers = {register for form in forms for register in form.terms}
+        if kind == "keeps":
+            is_made_here = registers & {x.result for x in block.body}
+            (self.build.shown if is_made_here else block.keeps).extend(claims)
+        elif kind == "invariant":
+            heads = [x for x in self.loops if x.head and registers <= x.known | {phi.result for phi in x.head.phis}]
+            if not heads or heads[-1].task is not self.task or (heads[-1] is self.loops[-1] and block is not heads[-1].inside):
+                text = "INVARIANT stands first in a loop, and is about what is known where a round begins"
+                raise Fault(place, text, "write it first in the loop, before any if")
+            heads[-1].head.keeps += claims
+        else:
+            about = set(f.parameters) | ({"%.ret"} if kind == "ensures" else set())
+            if block is not f.entry or registers - about:
+                what = "parameters and RESULT" if kind == "ensures" else "parameters"
+                text = f"{kind.upper()} stands first in a function, and is about {what}"
+                raise Fault(place, text, "write one claim for each compare, before any if")
+            (f.requires if kind == "requires" else f.ensures).extend(claims)
 
     def marker(self, word: str, node: Node) -> Value:
         args, place, f = node.inner[1:], node.place, self.f
         if word == "sync":
-            after = self.build.block("synced")
-            self.build.close(Instruction("sync", place=place, targets=[after.name]))
-            self.build.start(after)
+            self.sync(place)
         elif word == "add":
             at = unconverted(args[0])
             object, index = self.address(at)
             value = self.converted(self.value(args[1]), Type("long"), at.type._replace(is_pointer=False), place)
-            self.build.now.body.append(Instruction("atomic", None, [value], place, object=object, index=index))
-            self.build.touch()
+            self.build.put(Instruction("atomic", None, [value], place, object=object, index=index))
         elif word in ("reads", "writes", "adds"):
-            zone = Instruction("zone", None, [], place, kind=word, object=self.address(unconverted(args[0])).object)
-            zone.said = [self.form(x) for x in args[1:]]
-            self.build.now.body.append(zone)
+            low, high = [self.build.form(self.value(x)) for x in args[1:]]
+            zone = Zone(self.address(unconverted(args[0])).object, word, low, high)
+            (f.zones if self.task is self.body_task else self.task.first.foot).append(zone)
         elif word == "measure":
-            most = self.form(args[1])
-            if not most.is_constant:
+            most = self.value(args[1])
+            if not isinstance(most, int):
                 raise Fault(place, "the most of a MEASURE is a number", "write MEASURE(depth, 20)")
-            f.measure = (self.form(args[0]), most.constant)
+            f.measure = (self.build.form(self.value(args[0])), most)
         elif word == "budget":
-            f.budget = [self.form(x) for x in args]
+            f.budget = [self.build.form(self.value(x)) for x in args]
         elif word == "result":
-            raise Fault(place, "RESULT is what ENSURES is about", "write it there alone")
+            return "%.ret"
         else:
             raise Fault(place, "a claim is compares joined by &&", "write one for each; || is not taken")
         return 0

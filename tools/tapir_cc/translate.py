@@ -1,14 +1,14 @@
-"""From the tree of a C file to functions of our language, step by step. In: the tree, and the function where the run
-begins. Out: the functions that it needs, callees first, and the globals; claims are taken, zones are not there yet."""
-from .claims import Claims
+"""From the tree of a C file to functions of our language. In: the tree, the function where the run begins, and the ways
+that are not to be tried. Out: the functions that it needs, callees first, and the globals. What else `annotate` finds."""
+from typing import Optional
+
 from .clean import clean
 from .expressions import Cell
-from .ir import Fault, Function, Place
-from .parts import Parts, bound_parts
-from .rewrites import middles, rewrite, try_facts
-from .rounds import bound_more
-from .tasks import make_syncs
-from .tree import Node, Tree
+from .forms import Form
+from .ir import Choice, Fault, Function, Place
+from .parts import Parts
+from .tree import Node, Tree, Type
+from .zones import complete
 
 MOST_CELLS = 1048576  # of a module's globals
 ALLOWED = ("__tapir_", "memset")
@@ -17,8 +17,8 @@ ALLOWED = ("__tapir_", "memset")
 class Unit:
     """What is made of a file."""
 
-    def __init__(self, tree: Tree):
-        self.tree = tree
+    def __init__(self, tree: Tree, refused: set[Choice], is_thorough: bool):
+        self.refused, self.is_thorough = refused, is_thorough
         self.globals: dict[str, Place] = {}
         self.objects: dict[str, Cell] = {}  # a global's id -> what it names
         self.extents: dict[str, int] = {}
@@ -79,7 +79,7 @@ class Unit:
         for p in [p for p in node.inner if p.type.is_pointer and p.kind == "ParmVarDecl"]:
             raise Fault(node.place, f"{p.name} is an array, and the host hands over globals alone", "make it a global")
 
-    def returns(self, node: Node):
+    def returns(self, node: Node) -> Type:
         return node.tree.type_of(node.data["type"]["qualType"].split("(")[0])
 
     def lower(self, node: Node) -> None:
@@ -99,29 +99,25 @@ class Unit:
         self.functions.append(f)
 
 
-def translate(tree: Tree, entry: str, is_thorough: bool = False) -> Unit:
-    unit = Unit(tree)
+def translate(tree: Tree, entry: str, refused: set[Choice], is_thorough: bool) -> Unit:
+    unit = Unit(tree, refused, is_thorough)
     for node in unit.callees_first(entry):
         unit.lower(node)
-    for f in reversed(unit.functions):
-        clean(f)
-        bound_parts(f)
     for f in unit.functions:
-        make_syncs(f)
-        for step in (clean, rewrite, clean, try_facts):
-            step(f)
-        Claims(f).apply()
         clean(f)
-        middles(f)
-        if is_thorough:
-            bound_more(f)
-            clean(f)
-        name_entry(f, "@" + entry)
+        complete(f, unit.functions)
+        f.measure = f.measure or falling(f)
+    for f in unit.functions:
+        f.name = "@main" if f.name == "@" + entry else f.name
+        for x in f.instructions():
+            x.callee = "@main" if x.callee == "@" + entry else x.callee
     return unit
 
 
-def name_entry(f: Function, entry: str) -> None:
-    """The function where the run begins is @main."""
-    f.name = "@main" if f.name == entry else f.name
-    for x in f.calls():
-        x.callee = "@main" if x.callee == entry else x.callee
+def falling(f: Function) -> Optional[tuple[Form, int]]:
+    """A parameter that falls in each self call, with its bound."""
+    for k, changes in f.falls.items():
+        most = f.most(Form.of(f.parameters[k]))
+        if most is not None and all(c.is_constant and c.constant < 0 for c in changes):
+            return Form.of(f.parameters[k]), most
+    return None
