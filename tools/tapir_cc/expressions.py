@@ -7,6 +7,7 @@ from .forms import Form, Value
 from .ir import Block, Claim, Fault, Function, Instruction, Place
 from .ssa import Builder
 from .tree import Node, Type
+from .zones import Touch
 
 LOW = 0xFFFFFFFF
 OPERATIONS = {"+": "add", "-": "sub", "*": "mul", "/": "sdiv", "%": "srem", "<<": "shl", ">>": "ashr"}
@@ -255,22 +256,26 @@ class Expressions:
         elif cast == "IntegralToBoolean" or (cast == "IntegralCast" and node.inner[0].bare.opcode in COMPARES):
             self.condition(node.inner[0], yes, no)
         else:
-            self.build.branch("ne", self.value(node), 0, yes, no, place)
+            self.test("ne", self.value(node), 0, yes, no, place)
 
     def compare(self, node: Node, yes: Block, no: Block) -> None:
         left, right = node.inner
         if left.type.is_pointer or right.type.is_pointer:
             raise Fault(node.place, "pointers are not compared", "compare the indices")
         predicate, a, b = COMPARES[node.opcode], self.value(left), self.value(right)
-        up = self.build.form(a) - self.build.form(b)
         if left.type.base == "ulong" and predicate[0] == "s":
             predicate = "u" + predicate[1:]
         elif node.opcode == "!=" and left.inner and left.inner[0].bare.declared.id in self.counters:
             predicate = self.counters[left.inner[0].bare.declared.id]  # (C's counters do not pass their ends)
-        elif predicate in SIDES and not {a, b} & self.build.strange and not up.is_constant:
-            ways = zip(("up", "down"), (up, -up), SIDES[predicate])  # of <= and >= both outcomes are facts
-            predicate = next((side for word, gap, side in ways if self.shown(word, node.place, gap)), predicate)
-        self.build.branch(predicate, a, b, yes, no, node.place)
+        self.test(predicate, a, b, yes, no, node.place)
+
+    def test(self, predicate: str, a: Value, b: Value, yes: Block, no: Block, place: Place) -> None:
+        """Branches on a compare. Of <= and >= both outcomes are facts, so they are tried for == and !=."""
+        up = self.build.form(a) - self.build.form(b)
+        if predicate in SIDES and not {a, b} & self.build.strange and not up.is_constant:
+            ways = zip(("up", "down"), (up, -up), SIDES[predicate])
+            predicate = next((side for word, gap, side in ways if self.shown(word, place, gap)), predicate)
+        self.build.branch(predicate, a, b, yes, no, place)
 
     def of_CallExpr(self, node: Node) -> Value:
         name, place = node.callee(), node.place
@@ -288,7 +293,7 @@ class Expressions:
         if x.callee == self.f.name:
             for k, (value, own) in enumerate(zip(args, self.f.parameters)):
                 self.f.falls.setdefault(k, []).append(self.build.form(value) - Form.of(own))
-        return self.build.put(x) or 0
+        return self.put(x) or 0
 
     def clear(self, node: Node) -> None:
         at, value, size = [unconverted(x) for x in node.inner[1:]]
@@ -297,7 +302,7 @@ class Expressions:
         self.zero(self.address(at).object, node.place)
 
     def zero(self, object: str, place: Place) -> None:
-        self.build.put(Instruction("zero", None, [object], place, object=object))
+        self.put(Instruction("zero", None, [object], place, object=object))
 
     def target(self, node: Node) -> Union[Cell, str]:
         """What is read or set: a cell, or a variable that is none."""
@@ -314,6 +319,7 @@ class Expressions:
         if isinstance(target, str):
             return self.build.read(target, name)
         value = self.build.load(*target, node.place, name)
+        self.touches.append(Touch(self.build.makers[value], self.task.all, self.facts))
         return self.converted(value, Type("long"), node.type, node.place) if node.type.base == "uint" else value
 
     def store(self, target: Union[Cell, str], value: Value, node: Node) -> Value:
@@ -321,7 +327,7 @@ class Expressions:
             self.build.write(target, value, node.bare.declared.name)
         else:
             object, index = target
-            self.build.put(Instruction("store", None, [value], node.place, object=object, index=index))
+            self.put(Instruction("store", None, [value], node.place, object=object, index=index))
         return value
 
     def address(self, node: Node) -> Cell:

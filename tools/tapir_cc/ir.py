@@ -113,6 +113,7 @@ class Function:
     budget: Optional[list[Form]] = None
     falls: dict[int, list[Form]] = field(default_factory=dict)  # a parameter -> what self calls add to it
     unset: dict[str, Choice] = field(default_factory=dict)  # a local -> that it is set before it is read
+    tried: dict[str, Choice] = field(default_factory=dict)  # an object -> that its zones are less than the whole
     parts: int = 0  # functions that are made of its parallel loops
     printed: dict[str, str] = field(default_factory=dict)  # register -> the name that it is printed by
 

@@ -72,6 +72,8 @@ class Judge:
             choices.add(x.nsw)
         elif verdict.rule == 402 and x is not None:
             choices |= {f.unset.get(object) for object in [x.object, *x.args]}
+        elif verdict.rule in (601, 604) and x is not None:
+            choices |= {f.tried.get(x.object)} if x.object else set(f.tried.values())
         elif verdict.rule == 505:
             asked = re.findall(r"asked by line (\d+)", self.program.explained())
             choices |= {self.printed.line(int(number)).choice for number in asked}

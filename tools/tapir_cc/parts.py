@@ -2,8 +2,8 @@
 PARALLEL_FOR_HALVES. Out: a function of that part, and a call of it. What the part takes from outside it is given, and
 it requires what is known of that."""
 from .forms import Form, Value
-from .ir import Claim, Fault, Function, Instruction, Place
-from .statements import Statements, declared_in, variables
+from .ir import Block, Claim, Fault, Function, Instruction, Place
+from .statements import Statements, Task, declared_in, variables
 from .tree import Node
 
 HALVINGS = 6  # a range is halved so often, unless its length is known to be small
@@ -40,7 +40,7 @@ class Parts(Statements):
         if len(args) > MOST_PARAMETERS:
             text = f"a parallel part uses more than {MOST_PARAMETERS} variables"
             raise Fault(place, text, "make a function of it")
-        self.build.put(Instruction("call", None, args, place, callee=part.f.name))
+        self.put(Instruction("call", None, args, place, callee=part.f.name))
 
     def outline(self, body: Node, place: Place) -> None:
         part, args = self.part("child", body, place)
@@ -57,9 +57,11 @@ class Parts(Statements):
         limits = [part.limit(args, end, word) for end, word in zip(ends, ("first", "last"))]
         self.requires(part, args, place)
         lo, hi, depth = [Form.of(part.parameter(word, word)) for word in ("lo", "hi", "depth")]
-        size = self.f.most(self.build.form(ends[1]) - self.build.form(ends[0]))
+        first, last = [self.build.form(end) for end in ends]
+        size, least, most = self.f.most(last - first), self.f.most(-first), self.f.most(last)
         deepest = HALVINGS if size is None else max(1, min(HALVINGS, size.bit_length() - 3))
-        claims = (lo - limits[0], hi - lo, limits[1] - hi, depth, -depth + deepest)
+        claims = [lo - limits[0], hi - lo, limits[1] - hi, depth, -depth + deepest]
+        claims += [form for form, bound in ((lo + (least or 0), least), (-hi + (most or 0), most)) if bound is not None]
         part.f.requires += [Claim(form, place) for form in claims]
         part.f.measure = (depth, deepest)
         part.halves(counter, body, place)
@@ -88,8 +90,11 @@ class Parts(Statements):
         half = build.binary("sdiv", build.binary("sub", high, low, place, True), 2, place)
         middle, less = build.binary("add", low, half, place, True), build.binary("sub", depth, 1, place, True)
         build.close(Instruction("detach", place=place, targets=[left.name, right.name], region=self.region()))
+        self.task = Task(left, set(self.f.names), self.body_task)
+        self.children.append(self.task)
         build.start(left)
         self.call(self, [*passed, low, middle, less], place)
+        self.task = self.body_task
         build.close(Instruction("reattach", place=place, targets=[right.name], region=self.region()), [])
         build.start(right)
         build.write(self.task.is_open, 1, "open")
@@ -105,6 +110,11 @@ class Parts(Statements):
             build.write(counter.id, build.binary("add", number(), 1, place, True), counter.name)
 
         changed = self.changed_in(body) | {counter.id}
-        self.loop(place, lambda yes, no: build.branch("slt", number(), high, yes, no, place), body, step, changed)
+        def test(yes: Block, no: Block) -> None:
+            build.branch("slt", number(), high, yes, no, place)
+            build.start(yes)
+            self.facts = [Form.of(number()) - Form.of(low), Form.of(high) - Form.of(number()) - 1]
+
+        self.loop(place, test, body, step, changed)
         self.leave_function([], place)
-        build.finish()
+        self.finish()

@@ -9,6 +9,7 @@ from .ir import Block, Choice, Claim, Fault, Function, Instruction, Place, Zone
 from .rounds import Bound, Rounds, counted, set_in
 from .ssa import Builder, Round
 from .tree import Node, Type
+from .zones import Touch, Zones
 
 MARKS = ("requires", "ensures", "keeps", "invariant")
 OUT = "set a variable in the SPAWN, and test it after SYNC"
@@ -61,8 +62,10 @@ class Loop(NamedTuple):
 class Task:
     """A function's own body, or a SPAWN."""
 
-    def __init__(self, first: Block):
-        self.first, self.region = first, ""
+    def __init__(self, first: Block, known: set[str], outer: Optional["Task"] = None):
+        self.first, self.known, self.region = first, known, ""
+        self.all = [self, *(outer.all if outer else [])]
+        self.given: list[Zone] = []  # the author's
         self.is_open = "0x open in " + first.name  # a variable, which is 0 where no child is open
 
 
@@ -76,13 +79,28 @@ class Statements(Rounds):
         self.facts: list[Form] = []  # what is 0 or more, as loops are not over
         self.is_child = False  # whether it is the body of a SPAWN
         self.labels: dict[str, tuple[Block, Task]] = {}
-        self.body_task = self.task = Task(f.entry)
+        self.body_task = self.task = Task(f.entry, set())
+        self.touches: list[Touch] = []
+        self.children: list[Task] = []
         f.extents = dict(unit.extents)
 
     def run(self) -> None:
         self.statement(self.body)
         self.leave_function([0] if self.f.returns else [], self.f.place)
-        self.build.finish()
+        self.finish()
+
+    def finish(self) -> None:
+        f, build = self.f, self.build
+        zones, known = Zones(f, self.unit.functions, build.linear, build.makers, self.unit.refused), set(f.parameters) - f.arrays
+        f.zones = zones.of(self.touches, self.body_task.given, known, "")
+        for task in self.children:
+            touches = [touch for touch in self.touches if task in touch.tasks]
+            task.first.foot = zones.of(touches, task.given, task.known, task.first.name)
+        build.finish()
+
+    def put(self, x: Instruction) -> Optional[str]:
+        self.touches.append(Touch(x, self.task.all, self.facts))
+        return self.build.put(x)
 
     def leave_function(self, values: list[Value], place: Place) -> None:
         self.sync(place)
@@ -352,11 +370,13 @@ class Statements(Rounds):
 
     def spawn(self, node: Node) -> None:
         body, place, outer = node.inner[1], node.place, self.task
+        known = set(self.f.names)
         child, after = self.build.block("child"), self.build.block("continuation")
         targets = [child.name, after.name]
         self.build.close(Instruction("detach", place=place, targets=targets, region=self.region()))
         self.build.start(child)
-        self.task = Task(child)
+        self.task = Task(child, known, outer)
+        self.children.append(self.task)
         if self.loops and spawns(body):  # in a function of their own its children are told apart
             self.outline(body, place)
         else:
@@ -381,6 +401,7 @@ class Statements(Rounds):
                 text = "INVARIANT stands first in a loop, and is about what is known where a round begins"
                 raise Fault(place, text, "write it first in the loop, before any if")
             heads[-1].head.keeps += claims
+            self.facts = self.facts + forms
         else:
             about = set(f.parameters) | ({"%.ret"} if kind == "ensures" else set())
             if block is not f.entry or registers - about:
@@ -397,11 +418,11 @@ class Statements(Rounds):
             at = unconverted(args[0])
             object, index = self.address(at)
             value = self.converted(self.value(args[1]), Type("long"), at.type._replace(is_pointer=False), place)
-            self.build.put(Instruction("atomic", None, [value], place, object=object, index=index))
+            self.put(Instruction("atomic", None, [value], place, object=object, index=index))
         elif word in ("reads", "writes", "adds"):
             low, high = [self.build.form(self.value(x)) for x in args[1:]]
             zone = Zone(self.address(unconverted(args[0])).object, word, low, high)
-            (f.zones if self.task is self.body_task else self.task.first.foot).append(zone)
+            self.task.given.append(zone)
         elif word == "measure":
             most = self.value(args[1])
             if not isinstance(most, int):

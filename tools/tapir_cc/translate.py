@@ -8,7 +8,6 @@ from .forms import Form
 from .ir import Choice, Fault, Function, Place
 from .parts import Parts
 from .tree import Node, Tree, Type
-from .zones import complete
 
 MOST_CELLS = 1048576  # of a module's globals
 ALLOWED = ("__tapir_", "memset")
@@ -105,7 +104,6 @@ def translate(tree: Tree, entry: str, refused: set[Choice], is_thorough: bool) -
         unit.lower(node)
     for f in unit.functions:
         clean(f)
-        complete(f, unit.functions)
         f.measure = f.measure or falling(f)
     for f in unit.functions:
         f.name = "@main" if f.name == "@" + entry else f.name

@@ -1,37 +1,115 @@
-"""Zones that the author began. In: a function that names cells of some objects, in READS, WRITES and ADDS. Out: the same,
-which names all the others that it touches as a whole. (Where the author names none, `annotate` finds them.)"""
-from typing import Iterable
+"""Zones and feet. In: what a function touches, in which SPAWNs, and what is known there. Out: the cells that the function
+may touch, over its parameters, and those of each SPAWN, over what is known at its start. What the author says of an
+object takes the place of what is found; where no bounds are found, a zone is the whole array."""
+from typing import NamedTuple, Optional
 
 from .forms import Form
-from .ir import Block, Function, Zone
+from .ir import Choice, Function, Instruction, Zone
 
 MODES = {"load": "reads", "store": "writes", "zero": "writes", "atomic": "adds"}
+MOST_ZONES = 4  # of an object and a mode; more become the whole
+
+Interval = tuple[Form, Form]
 
 
-def touched(f: Function, blocks: Iterable[Block], functions: list[Function]) -> set[tuple[str, str]]:
-    """What blocks do to which objects."""
-    found = set()
-    for x in [x for block in blocks for x in block.body]:
+class Touch(NamedTuple):
+    """An instruction that touches cells, the SPAWNs that it is in, and forms that are 0 or more there."""
+
+    x: Instruction
+    tasks: list
+    facts: list[Form]
+
+
+class Zones:
+    def __init__(self, f: Function, functions: list[Function], linear: dict[str, Form], makers: dict[str, Instruction],
+                 refused: set[Choice]):  # fmt: skip
+        self.f, self.functions, self.linear, self.makers = f, functions, linear, makers
+        self.refused = refused
+
+    def of(self, touches: list[Touch], given: list[Zone], known: set[str], first: str) -> list[Zone]:
+        """The zones of a task whose registers these are."""
+        hidden = {zone.object for zone in given} | {o for o in self.f.unset if not first}
+        found: dict[str, dict[str, list[Interval]]] = {}
+        for touch in touches:
+            for zone in self.touched(touch.x, known, bool(first)):
+                if zone.object in hidden:
+                    continue
+                low, high = self.reach(zone.low, known, touch.facts, -1), self.reach(zone.high, known, touch.facts, 1)
+                choice = Choice(self.f.name, "zone of " + zone.object, self.f.place)
+                self.f.tried.setdefault(zone.object, choice)
+                is_known = low is not None and high is not None and choice not in self.refused
+                interval = (low, high) if is_known else self.whole(zone.object)
+                found.setdefault(zone.object, {}).setdefault(zone.mode, []).append(interval)
+        return given + [zone for object, modes in found.items() for zone in self.merged(object, modes)]
+
+    def whole(self, object: str) -> Interval:
+        return Form(), Form(constant=self.f.extents[object])
+
+    def touched(self, x: Instruction, known: set[str], is_child: bool) -> list[Zone]:
+        """What an instruction touches, by its index or by its callee's zones."""
+        if x.op == "zero":
+            return [Zone(x.object, "writes", *self.whole(x.object))]
         if x.op in MODES:
-            found.add((x.object, MODES[x.op]))
-        for g in [g for g in functions if g.name == x.callee and g is not f]:
-            passed = dict(zip(g.parameters, x.args))
-            found |= {(passed.get(object, object), mode) for object, mode in touched(g, g.blocks.values(), functions)}
-    return found & {(object, mode) for object in f.extents for mode in MODES.values()}
+            return [Zone(x.object, MODES[x.op], self.form(x.index, known), self.form(x.index, known) + 1)]
+        callee = next((g for g in [self.f, *self.functions] if g.name == x.callee), None)
+        if callee is None or (callee is self.f and not is_child):
+            return []
+        passed = dict(zip(callee.parameters, x.args))
+        ends = [[end.replaced(lambda r: self.form(passed[r], known)) for end in (z.low, z.high)] for z in callee.zones]
+        return [Zone(passed.get(z.object, z.object), z.mode, *e) for z, e in zip(callee.zones, ends)]
+
+    def form(self, value, known: set[str]) -> Form:
+        return Form.of(value) if value in known else self.linear.get(value, Form.of(value))
+
+    def reach(self, form: Form, known: set[str], facts: list[Form], sign: int) -> Optional[Form]:
+        """The greatest value of a form (the least where the sign is -1), over what is known."""
+        for _ in range(12):
+            strange = [r for r in form.terms if r not in known]
+            if not strange:
+                return form if len(form.terms) <= 4 else None
+            register = strange[-1]
+            factor = form.terms[register]
+            way = -sign if factor > 0 else sign
+            fact = next((x for x in reversed(facts) if x.terms.get(register) == way), self.masked(register, way))
+            if fact is None:
+                return None
+            form = form.plus(fact, abs(factor) * sign)
+        return None
+
+    def masked(self, register: str, way: int) -> Optional[Form]:
+        x = self.makers.get(register)
+        if x is None or x.op not in ("and", "srem") or not isinstance(x.args[1], int) or x.args[1] < 1:
+            return None
+        return Form({register: way}, 0 if way > 0 else x.args[1] - (x.op == "srem"))
+
+    def merged(self, object: str, modes: dict[str, list[Interval]]) -> list[Zone]:
+        if "adds" in modes and len(modes) > 1:
+            modes.setdefault("writes", []).extend(modes.pop("adds"))
+        out: list[Zone] = []
+        for mode in sorted(modes, reverse=True):  # writes first, as they cover reads
+            intervals: list[Interval] = []
+            for interval in modes[mode]:
+                add_interval(intervals, interval)
+            if len(intervals) > MOST_ZONES:
+                intervals = [self.whole(object)]
+            written = [(zone.low, zone.high) for zone in out if zone.mode == "writes"]
+            out += [Zone(object, mode, *i) for i in intervals if not any(covers(other, i) for other in written)]
+        return out
 
 
-def blocks_of_child(f: Function, first: Block) -> list[Block]:
-    seen = [first]
-    for block in seen:
-        seen += [f.blocks[name] for name in block.successors() if f.blocks[name] not in seen]
-    return seen
+def add_interval(intervals: list[Interval], new: Interval) -> None:
+    """Joins an interval with one that it overlaps or touches by a known number of cells."""
+    low, high = new
+    for k, (low2, high2) in enumerate(intervals):
+        down, up = low - low2, high - high2
+        if down.is_constant and up.is_constant:
+            intervals[k] = (low if down.constant < 0 else low2, high if up.constant > 0 else high2)
+            return
+        if str(low) == str(high2) or str(low2) == str(high):
+            intervals[k] = (low2, high) if str(low) == str(high2) else (low, high2)
+            return
+    intervals.append(new)
 
 
-def complete(f: Function, functions: list[Function]) -> None:
-    own = {x.result for x in f.entry.body if x.op == "alloca"}
-    tasks = [(f.zones, list(f.blocks.values()), own)]
-    tasks += [(block.foot, blocks_of_child(f, block), set()) for block in f.blocks.values()]
-    for zones, blocks, hidden in [task for task in tasks if task[0]]:
-        said = {zone.object for zone in zones} | hidden
-        more = sorted((object, mode) for object, mode in touched(f, blocks, functions) if object not in said)
-        zones += [Zone(object, mode, Form(), Form(constant=f.extents[object])) for object, mode in more]
+def covers(outer: Interval, inner: Interval) -> bool:
+    return all(gap.is_constant and gap.constant >= 0 for gap in (inner[0] - outer[0], outer[1] - inner[1]))
