@@ -147,8 +147,8 @@ class Expressions:
         if x is not None and x.op == "add" and all(isinstance(v, str) for v in x.args):
             low, high = x.args
             if self.shown("middle", place, self.build.form(high) - self.build.form(low), form):
-                half = binary("sdiv", binary("sub", high, low, place, True), 2, place)
-                return binary("add", low, half, place, True)
+                size = binary("sub", high, low, place, True)
+                return binary("add", low, self.half(size, place), place, True)
         if self.is_thorough and self.shown("more", place, form - 2):
             return binary("add", binary("sdiv", binary("sub", a, 2, place, True), 2, place), 1, place, True)
         if self.is_thorough and self.shown("less", place, form - 1):
@@ -319,7 +319,7 @@ class Expressions:
         if isinstance(target, str):
             return self.build.read(target, name)
         value = self.build.load(*target, node.place, name)
-        self.touches.append(Touch(self.build.makers[value], self.task.all, self.facts))
+        self.touches.append(Touch(self.build.makers[value], self.task.all))
         return self.converted(value, Type("long"), node.type, node.place) if node.type.base == "uint" else value
 
     def store(self, target: Union[Cell, str], value: Value, node: Node) -> Value:
@@ -352,8 +352,8 @@ class Expressions:
             raise Fault(node.place, "a part of an array is passed", "pass the array, and the index where it begins")
         return object
 
-    def claim(self, node: Node) -> list[Form]:
-        """A claim as forms that are 0 or more."""
+    def claim(self, node: Node) -> list[tuple[Form, bool]]:
+        """A claim as forms that are 0 or more, and whether they come from <= or >=."""
         node = node.bare
         if node.opcode == "&&":
             return self.claim(node.inner[0]) + self.claim(node.inner[1])
@@ -365,4 +365,4 @@ class Expressions:
         forms = gaps(node.opcode, left, right)
         if any(form.is_constant and form.constant < 0 for form in forms):
             raise Fault(node.place, "this claim never holds")
-        return forms
+        return [(form, node.opcode in ("<=", ">=")) for form in forms]

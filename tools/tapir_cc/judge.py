@@ -48,10 +48,11 @@ class Judge:
         self.program, self.tree, self.entry, self.is_thorough = program, tree, entry, is_thorough
         self.refused: set[Choice] = set()
         self.printed = Printed()
+        self.more: dict[tuple[str, str], list[str]] = {}  # lines for blocks, which `explain` proposes
 
     def write(self) -> None:
         self.unit = translate(self.tree, self.entry, self.refused, self.is_thorough)
-        self.printed = print_module(self.unit.globals, self.unit.extents, self.unit.functions)
+        self.printed = print_module(self.unit, self.more)
         pathlib.Path(self.program.file).write_text(self.printed.text())
 
     def judge(self) -> Verdict:
@@ -59,10 +60,23 @@ class Judge:
             self.write()
             verdict = self.program.verdict()
             tried = self.tried(verdict) - self.refused if verdict.rule else set()
-            if not tried:
+            if not tried and not (verdict.rule == 702 and self.take_proposed()):
                 break
             self.refused |= tried
         return verdict
+
+    def take_proposed(self) -> bool:
+        """Takes what `explain` proposes to be left in blocks: first that it is 0 or more, then that it is left. Whether
+        that is new."""
+        added = False
+        proposed = r"try: ;! (left \S+ (\S+)), (?:after|in place of) line (\d+)"
+        for left, rest, at in re.findall(proposed, self.program.explained()):
+            label = next(line for line in self.printed[int(at) - 1 :: -1] if line.text.endswith(":"))
+            lines = self.more.setdefault((label.function.name, label.text[:-1]), [])
+            new = [text for text in (f"keeps {rest} >= 0", left) if text not in lines and ("%" in rest or text == left)]
+            lines += new[:1]
+            added |= bool(new)
+        return added
 
     def tried(self, verdict: Verdict) -> set[Choice]:
         """The ways on which what is refused rests."""

@@ -113,7 +113,7 @@ class Parts(Statements):
         def test(yes: Block, no: Block) -> None:
             build.branch("slt", number(), high, yes, no, place)
             build.start(yes)
-            self.facts = [Form.of(number()) - Form.of(low), Form.of(high) - Form.of(number()) - 1]
+            self.facts = self.reaches = [Form.of(number()) - Form.of(low), Form.of(high) - Form.of(number()) - 1]
 
         self.loop(place, test, body, step, changed)
         self.leave_function([], place)

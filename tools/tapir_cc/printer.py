@@ -49,16 +49,17 @@ class Printed(list):
         return self[number - 1] if 0 < number <= len(self) else Line("")
 
 
-def print_module(globals: dict[str, Place], extents: dict[str, int], functions: list[Function]) -> Printed:
-    lines = [Line(f"{g} = global [{extents[g]} x i64] zeroinitializer", place) for g, place in globals.items()]
-    for f in functions:
-        lines += FunctionPrinter(f).lines()
+def print_module(unit, more: dict[tuple[str, str], list[str]]) -> Printed:
+    lines = [Line(f"{g} = global [{unit.extents[g]} x i64] zeroinitializer", place) for g, place in unit.globals.items()]
+    for f in unit.functions:
+        lines += FunctionPrinter(f, unit.refused, more).lines()
     return Printed(lines)
 
 
 class FunctionPrinter:
-    def __init__(self, f: Function):
+    def __init__(self, f: Function, refused: set[Choice], more: dict[tuple[str, str], list[str]]):
         self.f, self.out, self.addresses, self.taken = f, [], {}, set()
+        self.refused, self.more = refused, more
         f.printed = {}
 
     def name(self, value: Value) -> str:
@@ -114,7 +115,12 @@ class FunctionPrinter:
     def block(self, block: Block) -> None:
         self.addresses = {}
         first = next((x.place for x in [*block.body, block.end] if x.place.line), self.f.place)
-        self.put(self.name("%" + block.name)[1:] + ":", first)
+        label = self.name("%" + block.name)[1:]
+        self.put(label + ":", first)
+        for text in self.more.get((self.f.name, label), []):
+            choice = Choice(self.f.name, f"{text} in {label}", self.f.place)
+            if choice not in self.refused:
+                self.put(f"  ;! {text}", first, None, choice)
         self.claims("keeps", block.keeps)
         self.zones("foot ", block.foot, first)
         for x in block.all():

@@ -26,7 +26,15 @@ def sets_in(*nodes: Node) -> list[Node]:
 
 def set_in(*nodes: Node) -> set[str]:
     """The variables that are set."""
-    return {x.inner[0].bare.declared.id for x in sets_in(*nodes)}
+    return set(ways_in(*nodes))
+
+
+def ways_in(*nodes: Node) -> dict[str, set[str]]:
+    """How variables are set."""
+    ways: dict[str, set[str]] = {}
+    for x in sets_in(*nodes):
+        ways.setdefault(x.inner[0].bare.declared.id, set()).add(x.opcode)
+    return ways
 
 
 def counted(step: Node, body: Node) -> dict[str, str]:
@@ -42,9 +50,7 @@ class Rounds(Expressions):
             first, last = first.inner[0].bare, last or first.inner[1].bare
         if not self.is_thorough or first.kind == "":
             return None
-        ways: dict[str, set[str]] = {}  # a variable -> how it is set
-        for x in sets_in(body, step):
-            ways.setdefault(x.inner[0].bare.declared.id, set()).add(x.opcode)
+        ways = ways_in(body, step)
         if not self.is_simple(first):
             is_counter = last and self.is_simple(last) and any(x in ways for x in self.named(last))
             return Bound(lambda head, out: self.first(last, out)) if is_counter else None

@@ -6,7 +6,7 @@ from typing import Callable, NamedTuple, Optional
 from .expressions import Cell, unconverted
 from .forms import Form, Value
 from .ir import Block, Choice, Claim, Fault, Function, Instruction, Place, Zone
-from .rounds import Bound, Rounds, counted, set_in
+from .rounds import Bound, Rounds, counted, set_in, ways_in
 from .ssa import Builder, Round
 from .tree import Node, Type
 from .zones import Touch, Zones
@@ -77,6 +77,8 @@ class Statements(Rounds):
         self.in_memory = kept_in_memory(body)
         self.loops: list[Loop] = []
         self.facts: list[Form] = []  # what is 0 or more, as loops are not over
+        self.starts: dict[str, Form] = {}  # what a loop changes, as it is before it
+        self.reaches: list[Form] = []  # what probably is 0 or more, of what loops change
         self.is_child = False  # whether it is the body of a SPAWN
         self.labels: dict[str, tuple[Block, Task]] = {}
         self.body_task = self.task = Task(f.entry, set())
@@ -91,7 +93,7 @@ class Statements(Rounds):
 
     def finish(self) -> None:
         f, build = self.f, self.build
-        zones, known = Zones(f, self.unit.functions, build.linear, build.makers, self.unit.refused), set(f.parameters) - f.arrays
+        zones, known = Zones(f, self.unit, build, self.reaches), set(f.parameters) - f.arrays
         f.zones = zones.of(self.touches, self.body_task.given, known, "")
         for task in self.children:
             touches = [touch for touch in self.touches if task in touch.tasks]
@@ -99,7 +101,7 @@ class Statements(Rounds):
         build.finish()
 
     def put(self, x: Instruction) -> Optional[str]:
-        self.touches.append(Touch(x, self.task.all, self.facts))
+        self.touches.append(Touch(x, self.task.all))
         return self.build.put(x)
 
     def leave_function(self, values: list[Value], place: Place) -> None:
@@ -236,21 +238,28 @@ class Statements(Rounds):
             self.condition(test, yes, no)
             self.counters = before
             self.build.start(yes)
-            self.facts = self.facts + self.known_inside(test, step, body, starts)
+            inside = self.known_inside(test, step, body, starts)
+            self.facts, self.reaches = self.facts + inside, self.reaches + inside
 
-        facts, starts = self.facts, {id: self.build.form(self.build.read(id, "t")) for id in counted(step, body)}
+        own_sets = [id for id in set_in(test, body, step) if id not in self.objects and id not in declared_in(body)]
+        facts, starts = self.facts, {id: self.build.form(self.build.read(id, "t")) for id in own_sets}
+        self.starts = {id: start for id, start in starts.items() if id not in counted(step, body)}
         changed = self.changed_in(test, body, step)
         self.loop(place, own, body, lambda: self.value(step), changed, self.bound(test, body, step))
         self.facts = facts
 
     def known_inside(self, test: Node, step: Node, body: Node, starts: dict[str, Form]) -> list[Form]:
         """What is 0 or more in a round: a counter has not passed its start, and a test without effects holds."""
-        facts = []
-        for id, way in counted(step, body).items():
-            up = self.build.form(self.build.read(id, "t")) - starts[id]
-            facts.append(up if way == "slt" else -up)
+        risen = {id: self.build.form(self.build.read(id, "t")) - start for id, start in starts.items()}
+        facts = [risen[id] if way == "slt" else -risen[id] for id, way in counted(step, body).items()]
+        for id in [id for id in risen if ways_in(body).get(id) == {"++"}]:  # (what is only raised now and then)
+            self.reaches += [risen[id], *[risen[i] - risen[id] for i, way in counted(step, body).items() if way == "slt"]]
         own = test.bare.inner[0].bare if test.bare.opcode == "||" and test.calls_of("__tapir_sync") else test.bare
-        return facts + ([self.gap(own)] if own.opcode in ("<", "<=", ">", ">=") and self.is_simple(own) else [])
+        if own.opcode in ("<", "<=", ">", ">=") and self.is_simple(own):
+            facts.append(self.gap(own))
+            if len(facts[-1].terms) > 2:
+                self.guess(self.build.now, facts[-1], own.place)
+        return facts
 
     def loop(self, place: Place, test: Callable, body: Node, step: Callable, changed: set[str], more: Optional[Bound] = None) -> None:
         """A loop, and the variables that change in it. Where its rounds have no bound that is seen, `more` says what is
@@ -260,6 +269,10 @@ class Statements(Rounds):
         self.build.jump(head, place)
         self.build.start(head, changed)
         self.build.loops.append(Round(above, head, inside, known))
+        for id, start in self.starts.items() if self.is_thorough else ():
+            risen = self.build.form(self.build.read(id, "t")) - start
+            self.guess(head, risen, place)
+            self.guess(head, -risen, place)
         if more:
             more.test(head, out)
         test(inside, out)
@@ -272,9 +285,21 @@ class Statements(Rounds):
         if more:
             more.count()
         self.build.loops.pop()
+        self.carry(head, latch)
         self.build.jump(head, place)
         self.build.seal(head)
         self.build.start(out)
+
+    def carry(self, head: Block, latch: Block) -> None:
+        """What is to hold at a loop's head is tried where a round ends, too."""
+        build, before = self.build, self.build.before[latch.name]
+        variables = {value: variable for (name, variable), value in build.values.items() if name == head.name}
+        for claim in head.keeps:
+            ends = {r: build.form(build.read(variables[r], "t")) for r in claim.form.terms if r in variables}
+            form = claim.form.replaced(lambda r: ends.get(r, Form.of(r)))
+            last = self.f.blocks[before[0]] if len(before) == 1 else latch
+            is_known = not {x.result for x in last.body} & form.terms.keys()
+            self.guess(last if is_known else latch, form, claim.place)
 
     def in_loop(self, body: Node, loop: Loop) -> None:
         self.loops.append(loop)
@@ -389,7 +414,8 @@ class Statements(Rounds):
 
     def say(self, kind: str, node: Node, place: Place) -> None:
         """Takes a claim."""
-        forms, f, block = self.claim(node), self.f, self.build.now
+        said, f, block = self.claim(node), self.f, self.build.now
+        forms = [form for form, _ in said]
         claims = [Claim(form, place) for form in forms]
         registers = {register for form in forms for register in form.terms}
         if kind == "keeps":
@@ -401,7 +427,7 @@ class Statements(Rounds):
                 text = "INVARIANT stands first in a loop, and is about what is known where a round begins"
                 raise Fault(place, text, "write it first in the loop, before any if")
             heads[-1].head.keeps += claims
-            self.facts = self.facts + forms
+            self.reaches += [form - (1 if is_loose and -1 in form.terms.values() else 0) for form, is_loose in said]
         else:
             about = set(f.parameters) | ({"%.ret"} if kind == "ensures" else set())
             if block is not f.entry or registers - about:

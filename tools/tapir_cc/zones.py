@@ -13,18 +13,16 @@ Interval = tuple[Form, Form]
 
 
 class Touch(NamedTuple):
-    """An instruction that touches cells, the SPAWNs that it is in, and forms that are 0 or more there."""
+    """An instruction that touches cells, and the SPAWNs that it is in."""
 
     x: Instruction
     tasks: list
-    facts: list[Form]
 
 
 class Zones:
-    def __init__(self, f: Function, functions: list[Function], linear: dict[str, Form], makers: dict[str, Instruction],
-                 refused: set[Choice]):  # fmt: skip
-        self.f, self.functions, self.linear, self.makers = f, functions, linear, makers
-        self.refused = refused
+    def __init__(self, f: Function, unit, build, facts: list[Form]):
+        self.f, self.functions, self.refused, self.facts = f, unit.functions, unit.refused, facts
+        self.linear, self.makers = build.linear, build.makers
 
     def of(self, touches: list[Touch], given: list[Zone], known: set[str], first: str) -> list[Zone]:
         """The zones of a task whose registers these are."""
@@ -34,7 +32,7 @@ class Zones:
             for zone in self.touched(touch.x, known, bool(first)):
                 if zone.object in hidden:
                     continue
-                low, high = self.reach(zone.low, known, touch.facts, -1), self.reach(zone.high, known, touch.facts, 1)
+                low, high = self.reach(zone.low, known, -1), self.reach(zone.high, known, 1)
                 choice = Choice(self.f.name, "zone of " + zone.object, self.f.place)
                 self.f.tried.setdefault(zone.object, choice)
                 is_known = low is not None and high is not None and choice not in self.refused
@@ -61,7 +59,7 @@ class Zones:
     def form(self, value, known: set[str]) -> Form:
         return Form.of(value) if value in known else self.linear.get(value, Form.of(value))
 
-    def reach(self, form: Form, known: set[str], facts: list[Form], sign: int) -> Optional[Form]:
+    def reach(self, form: Form, known: set[str], sign: int) -> Optional[Form]:
         """The greatest value of a form (the least where the sign is -1), over what is known."""
         for _ in range(12):
             strange = [r for r in form.terms if r not in known]
@@ -70,17 +68,18 @@ class Zones:
             register = strange[-1]
             factor = form.terms[register]
             way = -sign if factor > 0 else sign
-            fact = next((x for x in reversed(facts) if x.terms.get(register) == way), self.masked(register, way))
-            if fact is None:
+            facts = [x for x in self.facts if x.terms.get(register) == way] or self.masked(register, way)
+            if not facts:
                 return None
+            fact = min(facts, key=lambda x: len(x.terms))
             form = form.plus(fact, abs(factor) * sign)
         return None
 
-    def masked(self, register: str, way: int) -> Optional[Form]:
+    def masked(self, register: str, way: int) -> list[Form]:
         x = self.makers.get(register)
         if x is None or x.op not in ("and", "srem") or not isinstance(x.args[1], int) or x.args[1] < 1:
-            return None
-        return Form({register: way}, 0 if way > 0 else x.args[1] - (x.op == "srem"))
+            return []
+        return [Form({register: way}, 0 if way > 0 else x.args[1] - (x.op == "srem"))]
 
     def merged(self, object: str, modes: dict[str, list[Interval]]) -> list[Zone]:
         if "adds" in modes and len(modes) > 1:
