@@ -129,7 +129,7 @@ class Expressions:
         if op == "shl" and type.base == "long" and b in range(1, 62):
             return build.binary("mul", a, 1 << b, place, True)
         if op == "ashr" and b in range(1, 20) and a not in build.strange and self.shown("shift", place, build.form(a)):
-            return build.binary("sdiv", a, 1 << b, place)
+            return self.half(a, place) if b == 1 else build.binary("sdiv", a, 1 << b, place)
         if op == "sdiv" and b == 2:
             return self.half(a, place)
         return self.rest(a, b, place) if op == "srem" and isinstance(b, str) and self.is_thorough else None

@@ -269,7 +269,8 @@ class Statements(Rounds):
         self.build.jump(head, place)
         self.build.start(head, changed)
         self.build.loops.append(Round(above, head, inside, known))
-        for id, start in self.starts.items() if self.is_thorough else ():
+        starts, self.starts = self.starts, {}
+        for id, start in starts.items() if self.is_thorough else ():
             risen = self.build.form(self.build.read(id, "t")) - start
             self.guess(head, risen, place)
             self.guess(head, -risen, place)
@@ -427,7 +428,9 @@ class Statements(Rounds):
                 text = "INVARIANT stands first in a loop, and is about what is known where a round begins"
                 raise Fault(place, text, "write it first in the loop, before any if")
             heads[-1].head.keeps += claims
-            self.reaches += [form - (1 if is_loose and -1 in form.terms.values() else 0) for form, is_loose in said]
+            phis = {phi.result for phi in heads[-1].head.phis}  # (of `i <= n` it is guessed that i is an index below n)
+            ends = [is_loose and any(form.terms[r] < 0 for r in form.terms.keys() & phis) for form, is_loose in said]
+            self.reaches += [form - int(is_end) for form, is_end in zip(forms, ends)]
         else:
             about = set(f.parameters) | ({"%.ret"} if kind == "ensures" else set())
             if block is not f.entry or registers - about:

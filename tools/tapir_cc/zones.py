@@ -71,7 +71,7 @@ class Zones:
             facts = [x for x in self.facts if x.terms.get(register) == way] or self.masked(register, way)
             if not facts:
                 return None
-            fact = min(facts, key=lambda x: len(x.terms))
+            fact = min(reversed(facts), key=lambda x: len(x.terms))
             form = form.plus(fact, abs(factor) * sign)
         return None
 
