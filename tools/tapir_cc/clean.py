@@ -35,7 +35,8 @@ def drop_unused(f: Function) -> bool:
     """What no effect and no claim rests on goes, also what only uses itself round a loop."""
     definitions, blocks = f.definitions(), f.blocks.values()
     work = [x for x in f.instructions() if x.op not in PURE]
-    said = [c.form for b in blocks for c in b.keeps] + [form for b in blocks for z in b.foot for form in (z.low, z.high)]
+    said = [claim.form for block in blocks for claim in block.keeps]
+    said += [form for block in blocks for zone in block.foot for form in (zone.low, zone.high)]
     live = {register for form in said for register in form.terms if register in definitions}
     work += [definitions[register] for register in live]
     while work:

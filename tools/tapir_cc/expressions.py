@@ -1,5 +1,5 @@
-"""Expressions. In: nodes of the tree. Out: instructions over i64, and the values that they give. `int` is computed in 64
-bits, which is the same where C leaves overflow undefined; `unsigned` is cut to its 32 bits, and bool is 0 or 1. The
+"""Expressions. In: nodes of the tree. Out: instructions over i64, and the values that they give. `int` is computed in
+64 bits, which is the same where C leaves overflow undefined; `unsigned` is cut to its 32 bits, and bool is 0 or 1. The
 tree has all of C's conversions as nodes."""
 from typing import Callable, NamedTuple, Optional, Union
 
@@ -123,8 +123,8 @@ class Expressions:
         return self.converted(result, Type("long"), type, place) if is_narrow else result
 
     def with_facts(self, op: str, a: str, b: Value, type: Type, place: Place) -> Optional[Value]:
-        """Products and quotients in place of shifts, and quotients and rests of which more is known: there are rules for
-        them. Where the two differ, what they rest on is shown first."""
+        """Products and quotients in place of shifts, and quotients and rests of which more is known: there are rules
+        for them. Where the two differ, what they rest on is shown first."""
         build = self.build
         if op == "shl" and type.base == "long" and b in range(1, 62):
             return build.binary("mul", a, 1 << b, place, True)
@@ -141,8 +141,8 @@ class Expressions:
         return choice is not None
 
     def half(self, a: str, place: Place) -> Value:
-        """x / 2. (x + y) / 2 is x + (y - x) / 2, which lies between them. Of 1 + (x - 2) / 2 it is known that it is below
-        x and not 0, and of (x - 1) - (x - 1) / 2 that it is below x."""
+        """x / 2. (x + y) / 2 is x + (y - x) / 2, which lies between them. Of 1 + (x - 2) / 2 it is known that it is
+        below x and not 0, and of (x - 1) - (x - 1) / 2 that it is below x."""
         binary, form, x = self.build.binary, self.build.form(a), self.build.makers.get(a)
         if x is not None and x.op == "add" and all(isinstance(v, str) for v in x.args):
             low, high = x.args
@@ -358,7 +358,8 @@ class Expressions:
         if node.opcode == "&&":
             return self.claim(node.inner[0]) + self.claim(node.inner[1])
         if node.opcode not in COMPARES or node.opcode == "!=":
-            raise Fault(node.place, "a claim is compares joined by &&", "write one for each; ||, != and ! are not taken")
+            change = "write one for each; ||, != and ! are not taken"
+            raise Fault(node.place, "a claim is compares joined by &&", change)
         if node.inner[0].type.base == "ulong":
             raise Fault(node.place, "a claim is a signed compare", "write int64_t or int")
         left, right = [self.build.form(self.value(x)) for x in node.inner]

@@ -1,5 +1,5 @@
-"""Has `tapirvm verify --annotate` judge what was printed. In: the tree. Out: the file, and the last verdict. Where a way is
-refused that was only tried, all is translated again without it; none changes what the module does."""
+"""Has `tapirvm verify --annotate` judge what was printed. In: the tree. Out: the file, and the last verdict. Where a
+way is refused that was only tried, all is translated again without it; none changes what the module does."""
 import pathlib
 import re
 import subprocess

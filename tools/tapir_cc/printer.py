@@ -30,7 +30,7 @@ FORMATS = {
 
 
 class Line(NamedTuple):
-    """A line of the module, and the instruction that it is of or stands before. `choice` is what an annotation tries."""
+    """A line of the module, and the instruction that it is of or stands before; what an annotation tries."""
 
     text: str
     place: Place = Place()
@@ -50,7 +50,8 @@ class Printed(list):
 
 
 def print_module(unit, more: dict[tuple[str, str], list[str]]) -> Printed:
-    lines = [Line(f"{g} = global [{unit.extents[g]} x i64] zeroinitializer", place) for g, place in unit.globals.items()]
+    sizes = [(g, unit.extents[g], place) for g, place in unit.globals.items()]
+    lines = [Line(f"{g} = global [{cells} x i64] zeroinitializer", place) for g, cells, place in sizes]
     for f in unit.functions:
         lines += FunctionPrinter(f, unit.refused, more).lines()
     return Printed(lines)

@@ -48,8 +48,8 @@ def kept_in_memory(node: Node) -> set[str]:
 
 
 class Loop(NamedTuple):
-    """A loop or a switch: where break and continue lead, and the SPAWN that it is in. Of a loop its head, the block where
-    a round begins, and the registers that are known before it."""
+    """A loop or a switch: where break and continue lead, and the SPAWN that it is in. Of a loop its head, the block
+    where a round begins, and the registers that are known before it."""
 
     out: Block
     next: Optional[Block]
@@ -251,9 +251,10 @@ class Statements(Rounds):
     def known_inside(self, test: Node, step: Node, body: Node, starts: dict[str, Form]) -> list[Form]:
         """What is 0 or more in a round: a counter has not passed its start, and a test without effects holds."""
         risen = {id: self.build.form(self.build.read(id, "t")) - start for id, start in starts.items()}
-        facts = [risen[id] if way == "slt" else -risen[id] for id, way in counted(step, body).items()]
+        counters = counted(step, body)
+        facts = [risen[id] if way == "slt" else -risen[id] for id, way in counters.items()]
         for id in [id for id in risen if ways_in(body).get(id) == {"++"}]:  # (what is only raised now and then)
-            self.reaches += [risen[id], *[risen[i] - risen[id] for i, way in counted(step, body).items() if way == "slt"]]
+            self.reaches += [risen[id], *[risen[i] - risen[id] for i, way in counters.items() if way == "slt"]]
         own = test.bare.inner[0].bare if test.bare.opcode == "||" and test.calls_of("__tapir_sync") else test.bare
         if own.opcode in ("<", "<=", ">", ">=") and self.is_simple(own):
             facts.append(self.gap(own))
@@ -261,7 +262,9 @@ class Statements(Rounds):
                 self.guess(self.build.now, facts[-1], own.place)
         return facts
 
-    def loop(self, place: Place, test: Callable, body: Node, step: Callable, changed: set[str], more: Optional[Bound] = None) -> None:
+    def loop(
+        self, place: Place, test: Callable, body: Node, step: Callable, changed: set[str], more: Optional[Bound] = None
+    ) -> None:
         """A loop, and the variables that change in it. Where its rounds have no bound that is seen, `more` says what is
         tested before its own test."""
         head, inside, latch, out = [self.build.block(hint) for hint in ("head", "body", "next", "end")]
@@ -424,7 +427,8 @@ class Statements(Rounds):
             (self.build.shown if is_made_here else block.keeps).extend(claims)
         elif kind == "invariant":
             heads = [x for x in self.loops if x.head and registers <= x.known | {phi.result for phi in x.head.phis}]
-            if not heads or heads[-1].task is not self.task or (heads[-1] is self.loops[-1] and block is not heads[-1].inside):
+            is_first = heads and heads[-1].task is self.task and block in (heads[-1].inside, self.loops[-1].inside)
+            if not is_first:
                 text = "INVARIANT stands first in a loop, and is about what is known where a round begins"
                 raise Fault(place, text, "write it first in the loop, before any if")
             heads[-1].head.keeps += claims

@@ -1,5 +1,5 @@
 """From the tree of a C file to functions of our language. In: the tree, the function where the run begins, and the ways
-that are not to be tried. Out: the functions that it needs, callees first, and the globals. What else `annotate` finds."""
+that are not to be tried. Out: the functions that it needs, callees first, and the globals."""
 from typing import Optional
 
 from .clean import clean
@@ -37,7 +37,8 @@ class Unit:
         if node.data.get("storageClass") == "extern":
             raise Fault(place, f"{name} is not in this file", "define it here")
         if any(not self.is_zero(x) for x in node.inner if "init" in node.data):
-            raise Fault(place, f"{name} has an initial value", "fill it in a function, or from the host (--set, --load)")
+            change = "fill it in a function, or from the host (--set, --load)"
+            raise Fault(place, f"{name} has an initial value", change)
         object = "@" + name
         self.globals[object], self.extents[object], self.objects[node.id] = place, plain.cells, Cell(object, 0)
         if sum(self.extents.values()) > MOST_CELLS:
@@ -67,7 +68,8 @@ class Unit:
 
         first = self.bodies.get(entry)
         if first is None:
-            raise Fault(Place(1, 1), f"there is no function {entry}, where the run begins", "name another one by --entry")
+            text = f"there is no function {entry}, where the run begins"
+            raise Fault(Place(1, 1), text, "name another one by --entry")
         visit(first, [])
         self.check_entry(first)
         return out

@@ -1,5 +1,5 @@
-"""The tree that clang makes of a C file. In: the file, and words for clang. Out: nodes, each with its kind, its type and
-its place in the C; the constants of enumerations. What clang itself refuses it tells itself."""
+"""The tree that clang makes of a C file. In: the file, and words for clang. Out: nodes, each with its kind, its type
+and its place in the C; the constants of enumerations. What clang itself refuses it tells itself."""
 import json
 import math
 import re
@@ -146,12 +146,9 @@ class Tree:
             is_signed = min(self.constants.get(x.id, 0) for x in node.inner) < 0 if node.inner else False
             self.types[f"enum {node.name}"] = self.types[node.id] = "int" if is_signed else "unsigned int"
         elif node.kind == "TypedefDecl":
-            owned = [x["ownedTagDecl"]["id"] for x in self.parts(node.data) if "ownedTagDecl" in x]
+            owned = [x["ownedTagDecl"]["id"] for x in node.data.get("inner", []) if "ownedTagDecl" in x]
             is_enum = owned and owned[0] in self.types
             self.types[node.name] = self.types[owned[0]] if is_enum else node.data["type"]["qualType"]
-
-    def parts(self, data: dict) -> list[dict]:
-        return data.get("inner", [])
 
     def type_of(self, text: str) -> Type:
         text = QUALIFIERS.sub("", text).strip()

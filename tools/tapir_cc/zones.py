@@ -1,6 +1,6 @@
-"""Zones and feet. In: what a function touches, in which SPAWNs, and what is known there. Out: the cells that the function
-may touch, over its parameters, and those of each SPAWN, over what is known at its start. What the author says of an
-object takes the place of what is found; where no bounds are found, a zone is the whole array."""
+"""Zones and feet. In: what a function touches, in which SPAWNs, and what its loops show. Out: the cells that it may
+touch, over its parameters, and those of each SPAWN, over what is known at its start. What the author says of an object
+takes the place of what is found; where no bounds are found, a zone is the whole array."""
 from typing import NamedTuple, Optional
 
 from .forms import Form
