@@ -1,4 +1,4 @@
-"""Draws functions of whole numbers in C (int64_t, int, uint64_t, uint32_t, bool; if, switch, loops, && || ! ?:), none of which does what C leaves undefined
+"""Draws functions of whole numbers in C (int64_t, int, uint64_t, uint32_t, bool; if, switch, loops, && || ! ?: += ++), none of which does what C leaves undefined
 but by chance. And makes plain LLVM IR of a module: its serial elision."""
 import random
 import re
@@ -61,12 +61,20 @@ class Draw:
             self.put(deep, f"{TYPES[type]} x{self.count} = ({TYPES[type]})({self.value(3)});")
             self.variables.append((f"x{self.count}", type))
         elif kind < 0.45:
-            name, type = self.chance.choice(self.variables)
-            self.put(deep, f"{name} = ({TYPES[type]})({self.value(3)});")
+            self.put(deep, self.assignment(*self.chance.choice(self.variables)))
         elif kind < 0.6:
             self.put(deep, f"{self.chance.choice('AB')}[{self.value(1)} & 7] = (int)({self.value(2)});")
         elif deep <= 3:
             self.compound(deep, kind)
+
+    def assignment(self, name, type):
+        """Plain, by an operator, or a step. Sums are of unsigned numbers, which wrap."""
+        way = self.chance.random()
+        if way < 0.6 or (way < 0.7 and type not in "uv"):
+            return f"{name} = ({TYPES[type]})({self.value(3)});"
+        if way < 0.7:
+            return self.chance.choice([f"{name}++;", f"--{name};", f"{name} = -{name};"])
+        return f"{name} {self.chance.choice(['&', '|', '^', *('+-*' if type in 'uv' else '')])}= {self.value(2)};"
 
     def compound(self, deep, kind):
         if kind < 0.75:

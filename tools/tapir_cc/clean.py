@@ -58,10 +58,10 @@ def kept_apart(f: Function) -> set[str]:
 
 def join_lines(f: Function) -> bool:
     """A block goes into its only predecessor."""
-    changed, apart = False, kept_apart(f)
+    changed, apart, before = False, kept_apart(f), f.predecessors()
     for block in list(f.blocks.values()):
-        before = f.predecessors()[block.name]
-        above = f.blocks[before[0]] if len(before) == 1 and block.name not in apart else block
+        names = before[block.name]
+        above = f.blocks[names[0]] if len(names) == 1 and block.name not in apart else block
         if above.end.op != "br" or above is block or block.keeps:
             continue
         f.substitute({phi.result: phi.incoming[0][0] for phi in block.phis})
@@ -69,6 +69,7 @@ def join_lines(f: Function) -> bool:
         above.end = block.end
         for target in set(block.successors()):
             f.change_edge(target, block.name, above.name)
+            before[target] = [above.name if name == block.name else name for name in before[target]]
         del f.blocks[block.name]
         changed = True
     return changed
@@ -82,7 +83,7 @@ def skip_empty(f: Function) -> bool:
         is_end = end.op == "ret" and own <= set(end.args) or end.op == "br" and not own
         if block.body or block.keeps or end.shows or block.name in apart or not is_end:
             continue
-        for above in [f.blocks[name] for name in f.predecessors()[block.name]]:
+        for above in [x for x in f.blocks.values() if block.name in x.successors()]:
             changed |= lead_past(f, above, block)
     return changed
 

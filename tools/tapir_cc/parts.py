@@ -3,6 +3,7 @@ PARALLEL_FOR_HALVES. Out: a function of that part, and a call of it. What the pa
 it requires what is known of that."""
 from .forms import Form, Value
 from .ir import Block, Claim, Fault, Function, Instruction, Place
+from .ssa import Loop
 from .statements import Statements, Task, declared_in, variables
 from .tree import Node
 
@@ -106,8 +107,9 @@ class Parts(Statements):
         def number() -> Value:
             return build.read(counter.id, counter.name)
 
-        def step() -> None:
+        def step(loop: Loop) -> None:
             build.write(counter.id, build.binary("add", number(), 1, place, True), counter.name)
+            self.go_on(loop, place)
 
         changed = self.changed_in(body) | {counter.id}
         def test(yes: Block, no: Block) -> None:

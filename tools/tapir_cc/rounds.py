@@ -1,7 +1,7 @@
 """Bounds for loops whose rounds nothing seems to count. In: a loop's test, and what changes in it. Out: a test before
 its own one, which always comes out one way, and what is tried at its head. (These cost instructions, so they are made
 only for what is refused without them.)"""
-from typing import Callable, NamedTuple, Optional
+from typing import Callable, NamedTuple
 
 from .expressions import COMPARES, Expressions, gaps
 from .forms import Form
@@ -14,7 +14,7 @@ MOST_ROUNDS = 1 << 40
 
 
 class Bound(NamedTuple):
-    test: Callable[[Block, Block], None]  # of head and exit: what is tested first
+    test: Callable[[Block, Block], None] = lambda head, out: None  # what is tested first
     count: Callable[[], None] = lambda: None  # at the end of a round
 
 
@@ -44,19 +44,19 @@ def counted(step: Node, body: Node) -> dict[str, str]:
 
 
 class Rounds(Expressions):
-    def bound(self, test: Node, body: Node, step: Node) -> Optional[Bound]:
+    def bound(self, test: Node, body: Node, step: Node) -> Bound:
         first, last = test.bare, None
         while first.opcode == "&&":
             first, last = first.inner[0].bare, last or first.inner[1].bare
         if not self.is_thorough or first.kind == "":
-            return None
+            return Bound()
         ways = ways_in(body, step)
         if not self.is_simple(first):
             is_counter = last and self.is_simple(last) and any(x in ways for x in self.named(last))
-            return Bound(lambda head, out: self.first(last, out)) if is_counter else None
+            return Bound(lambda head, out: self.first(last, out)) if is_counter else Bound()
         changed = [id for id in self.named(first) if id in ways]
         if not changed or (len(changed) == 1 and ways[changed[0]] in ({"++"}, {"--"})):
-            return None
+            return Bound()
         if first.opcode == "<" and len(changed) == 2 and all(ways[id] == {"++"} for id in changed):
             return self.below(first, body)
         return self.counted_by_gap(first)
@@ -79,12 +79,12 @@ class Rounds(Expressions):
             return self.build.form(self.value(test)) - 1
         return gaps(test.opcode, *[self.build.form(self.value(x)) for x in test.inner])[0]
 
-    def counted_by_gap(self, test: Node) -> Optional[Bound]:
+    def counted_by_gap(self, test: Node) -> Bound:
         """Where the gap of a compare falls with each round, there are at most as many rounds as it begins with."""
         build, place, rounds = self.build, test.place, "rounds " + test.id
         most = self.f.most(self.gap(test))
         if most is None or not 0 <= most < MOST_ROUNDS:
-            return None
+            return Bound()
 
         def first(head: Block, out: Block) -> None:
             count, gap = build.read(rounds, "rounds"), self.gap(test)
@@ -101,7 +101,7 @@ class Rounds(Expressions):
         build.write(rounds, 0, "rounds")
         return Bound(first, next)
 
-    def below(self, test: Node, body: Node) -> Optional[Bound]:
+    def below(self, test: Node, body: Node) -> Bound:
         """Of `head < tail`, where tail grows up to 32: `head < 32` is tested first."""
         low, high = [x.inner[0].bare.declared.id for x in test.inner]
         tests = [x for x in body.walk() if x.opcode == "<" and self.named(x.inner[0]) == [high] and self.is_simple(x)]
@@ -117,4 +117,4 @@ class Rounds(Expressions):
                 self.guess(head, -value + most, place)
                 self.guess(head, -end + most, place)
 
-        return Bound(first) if tests else None
+        return Bound(first) if tests else Bound()

@@ -7,7 +7,7 @@ from .expressions import Cell, unconverted
 from .forms import Form, Value
 from .ir import Block, Choice, Claim, Fault, Function, Instruction, Place, Zone
 from .rounds import Bound, Rounds, counted, set_in, ways_in
-from .ssa import Builder, Round
+from .ssa import Builder, Loop
 from .tree import Node, Type
 from .zones import Touch, Zones
 
@@ -47,18 +47,6 @@ def kept_in_memory(node: Node) -> set[str]:
     return pointed
 
 
-class Loop(NamedTuple):
-    """A loop or a switch: where break and continue lead, and the SPAWN that it is in. Of a loop its head, the block
-    where a round begins, and the registers that are known before it."""
-
-    out: Block
-    next: Optional[Block]
-    task: "Task"
-    head: Optional[Block] = None
-    inside: Optional[Block] = None
-    known: set[str] = set()
-
-
 class Task:
     """A function's own body, or a SPAWN."""
 
@@ -75,7 +63,7 @@ class Statements(Rounds):
         is_plain = not any(x.kind == "LabelStmt" for x in body.walk())
         self.build, self.objects, self.counters = Builder(f, unit.refused, is_plain), dict(unit.objects), {}
         self.in_memory = kept_in_memory(body)
-        self.loops: list[Loop] = []
+        self.loops = self.build.loops
         self.facts: list[Form] = []  # what is 0 or more, as loops are not over
         self.starts: dict[str, Form] = {}  # what a loop changes, as it is before it
         self.reaches: list[Form] = []  # what probably is 0 or more, of what loops change
@@ -244,8 +232,11 @@ class Statements(Rounds):
         own_sets = [id for id in set_in(test, body, step) if id not in self.objects and id not in declared_in(body)]
         facts, starts = self.facts, {id: self.build.form(self.build.read(id, "t")) for id in own_sets}
         self.starts = {id: start for id, start in starts.items() if id not in counted(step, body)}
-        changed = self.changed_in(test, body, step)
-        self.loop(place, own, body, lambda: self.value(step), changed, self.bound(test, body, step))
+        def go_on(loop: Loop) -> None:
+            self.value(step)
+            self.go_on(loop, place)
+
+        self.loop(place, own, body, go_on, self.changed_in(test, body, step), self.bound(test, body, step))
         self.facts = facts
 
     def known_inside(self, test: Node, step: Node, body: Node, starts: dict[str, Form]) -> list[Form]:
@@ -262,37 +253,36 @@ class Statements(Rounds):
                 self.guess(self.build.now, facts[-1], own.place)
         return facts
 
-    def loop(
-        self, place: Place, test: Callable, body: Node, step: Callable, changed: set[str], more: Optional[Bound] = None
-    ) -> None:
+    def loop(self, place: Place, test: Callable, body: Node, step: Callable, changed: set[str], more=Bound()) -> None:
         """A loop, and the variables that change in it. Where its rounds have no bound that is seen, `more` says what is
-        tested before its own test."""
-        head, inside, latch, out = [self.build.block(hint) for hint in ("head", "body", "next", "end")]
-        above, known = self.build.now, set(self.f.names)
-        self.build.jump(head, place)
-        self.build.start(head, changed)
-        self.build.loops.append(Round(above, head, inside, known))
+        tested before its own test. The step goes on to the head, or to the exit."""
+        build = self.build
+        head, inside, latch, out = [build.block(hint) for hint in ("head", "body", "next", "end")]
+        loop = Loop(out, latch, self.task, build.now, head, inside, set(self.f.names))
+        build.jump(head, place)
+        build.start(head, changed)
+        self.loops.append(loop)
         starts, self.starts = self.starts, {}
         for id, start in starts.items() if self.is_thorough else ():
-            risen = self.build.form(self.build.read(id, "t")) - start
+            risen = build.form(build.read(id, "t")) - start
             self.guess(head, risen, place)
             self.guess(head, -risen, place)
-        if more:
-            more.test(head, out)
+        more.test(head, out)
         test(inside, out)
-        if self.build.now is not inside:
-            self.build.start(inside)
-        self.in_loop(body, Loop(out, latch, self.task, head, inside, known))
-        self.build.jump(latch, place)
-        self.build.start(latch)
-        step()
-        if more:
-            more.count()
-        self.build.loops.pop()
-        self.carry(head, latch)
-        self.build.jump(head, place)
-        self.build.seal(head)
-        self.build.start(out)
+        if build.now is not inside:
+            build.start(inside)
+        self.statement(body)
+        build.jump(latch, place)
+        build.start(latch)
+        self.loops.remove(loop)
+        more.count()
+        step(loop)
+        build.seal(head)
+        build.start(out)
+
+    def go_on(self, loop: Loop, place: Place) -> None:
+        self.carry(loop.head, loop.latch)
+        self.build.jump(loop.head, place)
 
     def carry(self, head: Block, latch: Block) -> None:
         """What is to hold at a loop's head is tried where a round ends, too."""
@@ -305,27 +295,16 @@ class Statements(Rounds):
             is_known = not {x.result for x in last.body} & form.terms.keys()
             self.guess(last if is_known else latch, form, claim.place)
 
-    def in_loop(self, body: Node, loop: Loop) -> None:
-        self.loops.append(loop)
-        self.statement(body)
-        self.loops.pop()
-
     def do_DoStmt(self, node: Node) -> None:
         body, test = node.inner
         kind = next((mark for mark in MARKS if body.calls_of("__tapir_" + mark)), "")
         if kind and body.inner[0].kind == "IfStmt" and len(body.inner) == 1:
             self.say(kind, body.inner[0].inner[0].inner[0], node.place)
             return
-        head, latch, out = [self.build.block(hint) for hint in ("body", "test", "end")]
-        known = set(self.f.names)
-        self.build.jump(head, node.place)
-        self.build.start(head, self.changed_in(node))
-        self.in_loop(body, Loop(out, latch, self.task, head, head, known))
-        self.build.jump(latch, node.place)
-        self.build.start(latch)
-        self.condition(test, head, out)
-        self.build.seal(head)
-        self.build.start(out)
+        def again(loop: Loop) -> None:
+            self.condition(test, loop.head, loop.out)
+
+        self.loop(node.place, lambda yes, no: self.build.jump(yes, node.place), body, again, self.changed_in(node))
 
     def leave(self, task: Optional[Task], block: Block, place: Place) -> None:
         if task is not self.task:
@@ -336,8 +315,8 @@ class Statements(Rounds):
         self.leave(self.loops[-1].task if self.loops else None, self.loops[-1].out, node.place)
 
     def do_ContinueStmt(self, node: Node) -> None:
-        loop = next(loop for loop in reversed(self.loops) if loop.next)
-        self.leave(loop.task, loop.next, node.place)
+        loop = next(loop for loop in reversed(self.loops) if loop.latch)
+        self.leave(loop.task, loop.latch, node.place)
 
     def do_ReturnStmt(self, node: Node) -> None:
         if self.task is not self.body_task or self.is_child:
@@ -368,7 +347,9 @@ class Statements(Rounds):
         end = Instruction("switch", None, [value], node.place, targets=[other.name])
         before, self.switch = getattr(self, "switch", None), (end, build.now.name, other)
         build.close(end)
-        self.in_loop(node.inner[-1], Loop(out, None, self.task))
+        self.loops.append(Loop(out, None, self.task))
+        self.statement(node.inner[-1])
+        self.loops.pop()
         build.jump(out, node.place)
         if other.name not in build.sealed:  # (there is no `default:`)
             build.start(other)
