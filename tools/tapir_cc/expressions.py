@@ -7,7 +7,6 @@ from .forms import Form, Value
 from .ir import Block, Claim, Fault, Function, Instruction, Place
 from .ssa import Builder
 from .tree import Node, Type
-from .zones import Touch
 
 LOW = 0xFFFFFFFF
 OPERATIONS = {"+": "add", "-": "sub", "*": "mul", "/": "sdiv", "%": "srem", "<<": "shl", ">>": "ashr"}
@@ -162,8 +161,9 @@ class Expressions:
         rest, forms = build.binary("srem", a, b, place), (build.form(a), build.form(b) - 1)
         for predicate, bound in (("sge", 0), ("slt", b)):
             if self.shown("rest", place, *forms):
-                value = rest
-                rest = self.chosen(lambda yes, no: build.branch(predicate, value, bound, yes, no, place), place, value)
+                old = rest
+                test = lambda yes, no: build.branch(predicate, old, bound, yes, no, place)
+                rest = self.chosen(test, place, lambda: old)
                 self.guess(build.now, build.form(rest), place)
         if build.now.keeps:
             self.guess(build.now, build.form(b) - build.form(rest) - 1, place)
@@ -207,16 +207,9 @@ class Expressions:
         raise Fault(place, WHOLE, BY_INDEX)
 
     def of_ConditionalOperator(self, node: Node) -> Value:
-        """The value of the arm that is taken, by a variable of its own."""
-        test, *arms = node.inner
-        blocks, out = [self.build.block(hint) for hint in ("yes", "no")], self.build.block("chosen")
-        self.condition(test, *blocks)
-        for block, arm in zip(blocks, arms):
-            self.build.start(block)
-            self.build.write(node.id, self.value(arm), "chosen")
-            self.build.jump(out, node.place)
-        self.build.start(out)
-        return self.build.read(node.id, "chosen")
+        test, one, other = node.inner
+        arms = (lambda: self.value(one), lambda: self.value(other))
+        return self.chosen(lambda yes, no: self.condition(test, yes, no), node.place, *arms)
 
     def bit(self, node: Node) -> Value:
         """A condition as a number."""
@@ -224,16 +217,16 @@ class Expressions:
             return self.value(node)
         return self.chosen(lambda yes, no: self.condition(node, yes, no), node.place)
 
-    def chosen(self, condition: Callable, place: Place, one: Value = 1) -> Value:
-        """A value where a condition holds, and 0 where it does not."""
-        yes, no, out = [self.build.block(hint) for hint in ("one", "none", "bit")]
+    def chosen(self, condition: Callable, place: Place, one: Callable = lambda: 1, other: Callable = lambda: 0) -> Value:
+        """A value where a condition holds, and another one where it does not."""
+        yes, no, out = [self.build.block(hint) for hint in ("one", "none", "chosen")]
         condition(yes, no)
-        for block, value in ((yes, one), (no, 0)):
+        for block, value in ((yes, one), (no, other)):
             self.build.start(block)
-            self.build.write(out.name, value, "bit")
+            self.build.write(out.name, value(), "chosen")
             self.build.jump(out, place)
         self.build.start(out)
-        return self.build.read(out.name, "bit")
+        return self.build.read(out.name, "chosen")
 
     def condition(self, node: Node, yes: Block, no: Block) -> None:
         """Branches on a condition. (Blocks are started where all that leads to them is there.)"""
@@ -319,7 +312,7 @@ class Expressions:
         if isinstance(target, str):
             return self.build.read(target, name)
         value = self.build.load(*target, node.place, name)
-        self.touches.append(Touch(self.build.makers[value], self.task.all))
+        self.touches.append((self.build.makers[value], self.task.all))
         return self.converted(value, Type("long"), node.type, node.place) if node.type.base == "uint" else value
 
     def store(self, target: Union[Cell, str], value: Value, node: Node) -> Value:

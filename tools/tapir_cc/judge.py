@@ -39,9 +39,6 @@ class Program:
     def explained(self) -> str:
         return self.ask("explain", "--annotate").stdout
 
-    def annotated(self) -> str:
-        return self.ask("annotate").stdout
-
 
 class Judge:
     def __init__(self, program: Program, tree: Tree, entry: str, is_thorough: bool = False):

@@ -9,7 +9,7 @@ from .ir import Block, Choice, Claim, Fault, Function, Instruction, Place, Zone
 from .rounds import Bound, Rounds, counted, set_in, ways_in
 from .ssa import Builder, Loop
 from .tree import Node, Type
-from .zones import Touch, Zones
+from .zones import Zones
 
 MARKS = ("requires", "ensures", "keeps", "invariant")
 OUT = "set a variable in the SPAWN, and test it after SYNC"
@@ -69,8 +69,9 @@ class Statements(Rounds):
         self.reaches: list[Form] = []  # what probably is 0 or more, of what loops change
         self.is_child = False  # whether it is the body of a SPAWN
         self.labels: dict[str, tuple[Block, Task]] = {}
+        self.switch: Optional[tuple[Instruction, str, Block]] = None  # its end, where it is, and where its default leads
         self.body_task = self.task = Task(f.entry, set())
-        self.touches: list[Touch] = []
+        self.touches: list[tuple[Instruction, list[Task]]] = []  # what touches cells, and the SPAWNs that it is in
         self.children: list[Task] = []
         f.extents = dict(unit.extents)
 
@@ -82,14 +83,13 @@ class Statements(Rounds):
     def finish(self) -> None:
         f, build = self.f, self.build
         zones, known = Zones(f, self.unit, build, self.reaches), set(f.parameters) - f.arrays
-        f.zones = zones.of(self.touches, self.body_task.given, known, "")
+        f.zones = zones.of([x for x, _ in self.touches], self.body_task.given, known, False)
         for task in self.children:
-            touches = [touch for touch in self.touches if task in touch.tasks]
-            task.first.foot = zones.of(touches, task.given, task.known, task.first.name)
+            task.first.foot = zones.of([x for x, tasks in self.touches if task in tasks], task.given, task.known, True)
         build.finish()
 
     def put(self, x: Instruction) -> Optional[str]:
-        self.touches.append(Touch(x, self.task.all))
+        self.touches.append((x, self.task.all))
         return self.build.put(x)
 
     def leave_function(self, values: list[Value], place: Place) -> None:
@@ -229,7 +229,7 @@ class Statements(Rounds):
             inside = self.known_inside(test, step, body, starts)
             self.facts, self.reaches = self.facts + inside, self.reaches + inside
 
-        own_sets = [id for id in set_in(test, body, step) if id not in self.objects and id not in declared_in(body)]
+        own_sets = [id for id in ways_in(test, body, step) if id not in self.objects and id not in declared_in(body)]
         facts, starts = self.facts, {id: self.build.form(self.build.read(id, "t")) for id in own_sets}
         self.starts = {id: start for id, start in starts.items() if id not in counted(step, body)}
         def go_on(loop: Loop) -> None:
@@ -324,28 +324,22 @@ class Statements(Rounds):
         values = [self.value(x) for x in node.inner]
         self.leave_function(values if self.f.returns else [], node.place)
 
-    def label(self, id: str) -> Block:
-        if id not in self.labels:
-            self.labels[id] = (self.build.block("label"), self.task)
-        return self.labels[id][0]
-
-    def do_GotoStmt(self, node: Node) -> None:
-        self.jump_to(node.data["targetLabelDeclId"], node.place)
-
-    def jump_to(self, id: str, place: Place) -> None:
-        block = self.label(id)
-        self.leave(self.labels[id][1], block, place)
+    def do_GotoStmt(self, node: Node, word: str = "targetLabelDeclId") -> Block:
+        if node.data[word] not in self.labels:
+            self.labels[node.data[word]] = (self.build.block("label"), self.task)
+        block, task = self.labels[node.data[word]]
+        self.leave(task, block, node.place)
+        return block
 
     def do_LabelStmt(self, node: Node) -> None:
-        self.jump_to(node.data["declId"], node.place)
-        self.build.start(self.label(node.data["declId"]), self.changed_in(self.body))
+        self.build.start(self.do_GotoStmt(node, "declId"), self.changed_in(self.body))
         self.statement(node.inner[0])
 
     def do_SwitchStmt(self, node: Node) -> None:
         value, out, build = self.value(node.inner[0]), self.build.block("end"), self.build
         other = build.block("default")
         end = Instruction("switch", None, [value], node.place, targets=[other.name])
-        before, self.switch = getattr(self, "switch", None), (end, build.now.name, other)
+        before, self.switch = self.switch, (end, build.now.name, other)
         build.close(end)
         self.loops.append(Loop(out, None, self.task))
         self.statement(node.inner[-1])
@@ -358,25 +352,21 @@ class Statements(Rounds):
         build.start(out)
 
     def do_CaseStmt(self, node: Node) -> None:
-        end, above, _ = self.switch
+        """A case is reached from the switch and from what stands before it."""
+        end, above, block = self.switch
         if node.data.get("isGNURange"):
             raise Fault(node.place, "a range of cases is not taken", "write a case for each")
-        block = self.build.block("case")
-        end.numbers.append(self.value(node.inner[0]))
-        end.targets.append(block.name)
-        self.enter(block, above, node)
-
-    def do_DefaultStmt(self, node: Node) -> None:
-        _, above, block = self.switch
-        self.enter(block, above, node)
-
-    def enter(self, block: Block, above: str, node: Node) -> None:
-        """A case, which is reached from the switch and from what stands before it."""
+        if node.kind == "CaseStmt":
+            block = self.build.block("case")
+            end.numbers.append(self.value(node.inner[0]))
+            end.targets.append(block.name)
         self.build.above[block.name] = above if self.build.is_plain else None
         self.build.before[block.name] = [above]
         self.build.jump(block, node.place)
         self.build.start(block)
         self.statement(node.inner[-1])
+
+    do_DefaultStmt = do_CaseStmt
 
     def spawn(self, node: Node) -> None:
         body, place, outer = node.inner[1], node.place, self.task

@@ -1,7 +1,7 @@
 """Zones and feet. In: what a function touches, in which SPAWNs, and what its loops show. Out: the cells that it may
 touch, over its parameters, and those of each SPAWN, over what is known at its start. What the author says of an object
 takes the place of what is found; where no bounds are found, a zone is the whole array."""
-from typing import NamedTuple, Optional
+from typing import Optional
 
 from .forms import Form
 from .ir import Choice, Function, Instruction, Zone
@@ -12,32 +12,21 @@ MOST_ZONES = 4  # of an object and a mode; more become the whole
 Interval = tuple[Form, Form]
 
 
-class Touch(NamedTuple):
-    """An instruction that touches cells, and the SPAWNs that it is in."""
-
-    x: Instruction
-    tasks: list
-
-
 class Zones:
     def __init__(self, f: Function, unit, build, facts: list[Form]):
         self.f, self.functions, self.refused, self.facts = f, unit.functions, unit.refused, facts
         self.linear, self.makers = build.linear, build.makers
 
-    def of(self, touches: list[Touch], given: list[Zone], known: set[str], first: str) -> list[Zone]:
-        """The zones of a task whose registers these are."""
-        hidden = {zone.object for zone in given} | {o for o in self.f.unset if not first}
+    def of(self, touches: list[Instruction], given: list[Zone], known: set[str], is_child: bool) -> list[Zone]:
+        """The zones of a task, over registers that are known."""
+        hidden = {zone.object for zone in given} | {o for o in self.f.unset if not is_child}
         found: dict[str, dict[str, list[Interval]]] = {}
-        for touch in touches:
-            for zone in self.touched(touch.x, known, bool(first)):
-                if zone.object in hidden:
-                    continue
-                low, high = self.reach(zone.low, known, -1), self.reach(zone.high, known, 1)
-                choice = Choice(self.f.name, "zone of " + zone.object, self.f.place)
-                self.f.tried.setdefault(zone.object, choice)
-                is_known = low is not None and high is not None and choice not in self.refused
-                interval = (low, high) if is_known else self.whole(zone.object)
-                found.setdefault(zone.object, {}).setdefault(zone.mode, []).append(interval)
+        zones = [zone for x in touches for zone in self.touched(x, known, is_child) if zone.object not in hidden]
+        for object, mode, least, most in zones:
+            low, high = self.reach(least, known, -1), self.reach(most, known, 1)
+            choice = self.f.tried.setdefault(object, Choice(self.f.name, "zone of " + object, self.f.place))
+            is_known = low is not None and high is not None and choice not in self.refused
+            found.setdefault(object, {}).setdefault(mode, []).append((low, high) if is_known else self.whole(object))
         return given + [zone for object, modes in found.items() for zone in self.merged(object, modes)]
 
     def whole(self, object: str) -> Interval:
