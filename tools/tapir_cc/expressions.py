@@ -217,7 +217,7 @@ class Expressions:
             return self.value(node)
         return self.chosen(lambda yes, no: self.condition(node, yes, no), node.place)
 
-    def chosen(self, condition: Callable, place: Place, one: Callable = lambda: 1, other: Callable = lambda: 0) -> Value:
+    def chosen(self, condition: Callable, place: Place, one=lambda: 1, other=lambda: 0) -> Value:
         """A value where a condition holds, and another one where it does not."""
         yes, no, out = [self.build.block(hint) for hint in ("one", "none", "chosen")]
         condition(yes, no)

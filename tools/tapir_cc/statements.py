@@ -69,7 +69,7 @@ class Statements(Rounds):
         self.reaches: list[Form] = []  # what probably is 0 or more, of what loops change
         self.is_child = False  # whether it is the body of a SPAWN
         self.labels: dict[str, tuple[Block, Task]] = {}
-        self.switch: Optional[tuple[Instruction, str, Block]] = None  # its end, where it is, and where its default leads
+        self.switch: Optional[tuple[Instruction, str, Block]] = None  # its end, where that is, its default
         self.body_task = self.task = Task(f.entry, set())
         self.touches: list[tuple[Instruction, list[Task]]] = []  # what touches cells, and the SPAWNs that it is in
         self.children: list[Task] = []
