@@ -320,7 +320,8 @@ class Expressions:
             self.build.write(target, value, node.bare.declared.name)
         else:
             object, index = target
-            self.put(Instruction("store", None, [value], node.place, object=object, index=index))
+            kept = self.build.cut(value, node.place) if node.type.base == "uint" else value  # (as hosts see `int`)
+            self.put(Instruction("store", None, [kept], node.place, object=object, index=index))
         return value
 
     def address(self, node: Node) -> Cell:
