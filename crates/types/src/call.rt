@@ -127,15 +127,21 @@ fn resolve_argument(
     match argument {
         syntax::Argument::Number(value) => {
             let value = resolve_operand(scope, line, Width::Bits64, value)?;
-            unless(takes_number(parameter), type_mismatch(line))?;
-            Ok(Argument::Number(value))
+            if takes_number(parameter) {
+                Ok(Argument::Number(value))
+            } else {
+                Err(type_mismatch(line))
+            }
         }
         syntax::Argument::Pointer(address) => {
             let object = resolve_object(items, scope, line, address);
             let takes = unless(takes_object(parameter), type_mismatch(line));
             let (object, ()) = both(object, takes)?;
-            unless(fits_extent(object.cells, parameter), pointer_misuse(line))?;
-            Ok(Argument::Object(object.name))
+            if fits_extent(object.cells, parameter) {
+                Ok(Argument::Object(object.name))
+            } else {
+                Err(pointer_misuse(line))
+            }
         }
     }
 }
@@ -279,11 +285,13 @@ fn pass(
 ) -> Result<ResolvedCall, TypeFault>
     ensures { result ≡ spec.passed_call named.now caller line callee arguments }
 {
-    unless(are_distinct(arguments.as_slice()), pointer_misuse(line))?;
-    let is_clear = !is_any_named(named, callee, arguments.as_slice());
-    unless(is_clear, pointer_misuse(line))?;
-    unless(callee.0 <= caller, downward_call(line))?;
-    Ok(ResolvedCall { callee, arguments })
+    if !are_distinct(arguments.as_slice()) || is_any_named(named, callee, arguments.as_slice()) {
+        Err(pointer_misuse(line))
+    } else if callee.0 <= caller {
+        Ok(ResolvedCall { callee, arguments })
+    } else {
+        Err(downward_call(line))
+    }
 }
 
 /// A call of a known function from the one at `caller`.

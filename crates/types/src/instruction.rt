@@ -9,7 +9,7 @@ use crate::call::{CallText, World, resolve_call};
 use crate::names::{
     AnnotationPlace, Holding, Refused, Scope, TypeFault, both, both_answers, joined,
     pointer_misuse, resolve_address, resolve_inequalities, resolve_label, resolve_object,
-    resolve_operand, resolve_register, told, type_mismatch, unless,
+    resolve_operand, resolve_register, told, type_mismatch,
 };
 use lists::{Name, Seq};
 use program::{
@@ -189,8 +189,11 @@ fn resolve_alloca(scope: &Scope, spot: Spot, register: &Name) -> Result<Instruct
     let id = resolve_alloca_id(scope, line, register);
     let register = defined_register(scope, line, register);
     let (register, alloca) = both(register, id)?;
-    unless(spot.block == 0, pointer_misuse(line))?;
-    Ok(Instruction::Alloca { register, alloca })
+    if spot.block == 0 {
+        Ok(Instruction::Alloca { register, alloca })
+    } else {
+        Err(pointer_misuse(line))
+    }
 }
 
 fn resolve_element_pointer(
@@ -273,11 +276,14 @@ fn resolve_zeros(
     ensures { result ≡ spec.store_zeros_of world.now.items.now scope.now line cells address.now }
 {
     let object = resolve_object(world.items, scope, line, address)?;
-    unless(object.cells == cells, pointer_misuse(line))?;
-    Ok(Instruction::StoreZeros {
-        cells,
-        object: object.name,
-    })
+    if object.cells == cells {
+        Ok(Instruction::StoreZeros {
+            cells,
+            object: object.name,
+        })
+    } else {
+        Err(pointer_misuse(line))
+    }
 }
 
 /// The register of a call that has one.

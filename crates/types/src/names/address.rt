@@ -5,7 +5,7 @@ ghost use Rattle.types.specs.names.Address as spec;
 ghost use Rattle.types.specs.names.Table.{look_up};
 
 use crate::names::TypeFault;
-use crate::names::fault::{pointer_misuse, type_mismatch, unknown_name, unless};
+use crate::names::fault::{pointer_misuse, type_mismatch, unknown_name};
 use crate::names::item::{Item, Items};
 use crate::names::operand::resolve_register;
 use crate::names::scope::{Holding, Register, Scope, is_step_of};
@@ -67,8 +67,11 @@ fn held_address(block: usize, line: u32, register: Register) -> Result<Address, 
     match register.holding {
         Holding::Object { name, .. } => Ok(Address::First(name)),
         Holding::Element => {
-            unless(is_step_of(block, register.origin), pointer_misuse(line))?;
-            Ok(Address::Element(register.id))
+            if is_step_of(block, register.origin) {
+                Ok(Address::Element(register.id))
+            } else {
+                Err(pointer_misuse(line))
+            }
         }
         Holding::Number(_) | Holding::Truth | Holding::Region => Err(type_mismatch(line)),
     }

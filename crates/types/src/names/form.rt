@@ -41,8 +41,11 @@ pub fn resolve_parameter(scope: &Scope, line: u32, name: &Name) -> Result<Regist
         None => Err(unknown_name(line)),
         Some(Named::Label(_)) => Err(unknown_name(line)),
         Some(Named::Register(register)) => {
-            unless(is_parameter(register.origin), unknown_name(line))?;
-            Ok(register)
+            if is_parameter(register.origin) {
+                Ok(register)
+            } else {
+                Err(unknown_name(line))
+            }
         }
     }
 }
@@ -51,9 +54,11 @@ fn parameter_term(scope: &Scope, line: u32, name: &Name) -> Result<RegisterId, T
     ensures { result ≡ spec.parameter_term_of scope.now line name.now }
 {
     let register = resolve_parameter(scope, line, name)?;
-    let is_number = is_number_of(Width::Bits64, register.holding);
-    unless(is_number, type_mismatch(line))?;
-    Ok(register.id)
+    if is_number_of(Width::Bits64, register.holding) {
+        Ok(register.id)
+    } else {
+        Err(type_mismatch(line))
+    }
 }
 
 fn guarantee_term(
@@ -78,8 +83,11 @@ fn number_register(scope: &Scope, line: u32, name: &Name) -> Result<Register, Ty
     ensures { result ≡ spec.number_of scope.now line name.now }
 {
     let register = resolve_register(scope, line, name)?;
-    unless(is_number(register.holding), type_mismatch(line))?;
-    Ok(register)
+    if is_number(register.holding) {
+        Ok(register)
+    } else {
+        Err(type_mismatch(line))
+    }
 }
 
 /// The register was not made by an instruction of this block.
@@ -316,8 +324,11 @@ fn limited_inequality(
         right.terms.as_slice(),
         item.right.constant,
     );
-    unless(within, form_limit(item.line))?;
-    Ok(inequality_between(item.line, item.relation, left, right))
+    if within {
+        Ok(inequality_between(item.line, item.relation, left, right))
+    } else {
+        Err(form_limit(item.line))
+    }
 }
 
 /// `F R F`

@@ -5,7 +5,7 @@ ghost use Rattle.types.specs.names.Operand as spec;
 ghost use Rattle.types.specs.names.Scope.{is_number_of as number_of};
 
 use crate::names::TypeFault;
-use crate::names::fault::{type_mismatch, unknown_name, unless};
+use crate::names::fault::{type_mismatch, unknown_name};
 use crate::names::scope::{Named, Register, Scope, is_number_of, is_region, is_truth};
 use lists::Name;
 use program::{BlockId, Operand, RegisterId, Width};
@@ -37,8 +37,11 @@ pub fn resolve_condition(scope: &Scope, line: u32, name: &Name) -> Result<Regist
     ensures { result ≡ spec.condition_of scope.now line name.now }
 {
     let register = resolve_register(scope, line, name)?;
-    unless(is_truth(register.holding), type_mismatch(line))?;
-    Ok(register.id)
+    if is_truth(register.holding) {
+        Ok(register.id)
+    } else {
+        Err(type_mismatch(line))
+    }
 }
 
 /// `%s` of a detach, a reattach, a sync or a `pending` line.
@@ -46,8 +49,11 @@ pub fn resolve_region(scope: &Scope, line: u32, name: &Name) -> Result<RegisterI
     ensures { result ≡ spec.region_of scope.now line name.now }
 {
     let register = resolve_register(scope, line, name)?;
-    unless(is_region(register.holding), type_mismatch(line))?;
-    Ok(register.id)
+    if is_region(register.holding) {
+        Ok(register.id)
+    } else {
+        Err(type_mismatch(line))
+    }
 }
 
 fn resolve_number(
@@ -59,8 +65,11 @@ fn resolve_number(
     ensures { result ≡ spec.register_passing (number_of width) scope.now line name.now }
 {
     let register = resolve_register(scope, line, name)?;
-    unless(is_number_of(width, register.holding), type_mismatch(line))?;
-    Ok(register.id)
+    if is_number_of(width, register.holding) {
+        Ok(register.id)
+    } else {
+        Err(type_mismatch(line))
+    }
 }
 
 /// The number is one of the width, read as signed.
@@ -84,8 +93,11 @@ pub fn resolve_operand(
 {
     match operand {
         syntax::Operand::Number(number) => {
-            unless(fits_width(width, *number), type_mismatch(line))?;
-            Ok(Operand::Number(*number))
+            if fits_width(width, *number) {
+                Ok(Operand::Number(*number))
+            } else {
+                Err(type_mismatch(line))
+            }
         }
         syntax::Operand::Register(name) => {
             let register = resolve_number(scope, line, width, name)?;
