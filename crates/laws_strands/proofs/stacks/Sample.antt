@@ -1,39 +1,15 @@
 -- The sample's deep strand, instruction by instruction.
-use Rattle.std.proofs.Common.{◌≡◌, List, [], ◌∷◌, Option, true, refl, ℤ, is_some, sym, ◌∙◌, subst}
+use Rattle.std.proofs.Common.{◌≡◌, ℕ, List, [], ◌∷◌, Some, None, cond, true, refl, ℤ, pos, is_some, sym, ◌∙◌, subst, slice_get}
+use Rattle.semantics.specs.Paths.{Path}
 use Rattle.semantics.specs.Cells.{Cell, same_cell}
-use Rattle.semantics.specs.Frames.{Wait, Free, OnRegion, OnCall, Halted}
-use Rattle.semantics.specs.Effect.{Effect, Action, Plain, Detach, Reattach, Sync, Call, Return, goes_on}
-use Rattle.semantics.specs.State.{continued, detached, waiting, called, root_frame}
+use Rattle.semantics.specs.Arithmetic.{cell_sum}
+use Rattle.semantics.specs.Frames.{Word, Region, Registers, Wait, Free, OnRegion, OnCall, Role, Child, Body, Frame, set_register}
+use Rattle.semantics.specs.Effect.{Effect, Action, Plain, Detach, Reattach, Sync, Call, Return, no_writes, no_adds, goes_on}
+use Rattle.semantics.specs.State.{clears, root_frame}
 use Rattle.semantics.proofs.SameCells.{same_cell_is}
-use Rattle.laws_strands.specs.stacks.Footprint.{held}
-use Rattle.laws_strands.specs.stacks.Deep.{Placed, DeepStrand, Holds, next_action, loaded, filled, advanced, past_sync, entered, reattached, returned, IsDeep, is_loaded, is_filled, is_advanced, is_past_sync, is_detached, is_called, is_reattached, is_returned}
-use Rattle.laws_strands.specs.stacks.Sample.{sample, global_cell, own_cell, SampleGoesDeep}
-
--- the strand with its next action done
-abbrev gives : DeepStrand → Option ℤ → Placed → List Placed → Wait → DeepStrand
-gives d v g rest (OnCall k o) = returned d g rest o v
-gives d v g rest Free = d
-gives d v g rest (OnRegion r) = d
-gives d v g rest Halted = d
-
-abbrev back : DeepStrand → Option ℤ → List Placed → DeepStrand
-back d v [] = d
-back d v (g ∷ rest) = gives d v g rest g.frame.waits
-
-abbrev joins : DeepStrand → List Placed → DeepStrand
-joins d [] = d
-joins d (g ∷ rest) = reattached d g rest
-
-abbrev does : DeepStrand → Action → DeepStrand
-does d (Plain e) = advanced d e
-does d (Detach r b n) = entered d (continued d.top.frame n) (detached d.top.frame r b n)
-does d (Sync r b rs) = past_sync d r b rs
-does d (Call o g vs) = entered d (waiting d.top.frame o) (called d.top.path d.top.frame g vs)
-does d (Reattach r) = joins d d.below
-does d (Return v) = back d v d.below
-
-abbrev next : DeepStrand → DeepStrand
-next d = does d (next_action sample d)
+use Rattle.laws_strands.specs.stacks.Footprint.{Footprint, untouched, held, with_read, with_writes}
+use Rattle.laws_strands.specs.stacks.Deep.{Placed, DeepStrand, Holds, at, next_action, loaded, filled, IsDeep, is_loaded, is_filled, is_advanced, is_past_sync, is_detached, is_called, is_reattached, is_returned}
+use Rattle.laws_strands.specs.stacks.Sample.{sample, register, global_cell, own_cell, SampleGoesDeep}
 
 -- the effect that it has, if it is a plain one
 abbrev effect_of : DeepStrand → Action → Effect
@@ -54,75 +30,124 @@ holds_one d e c reads there x h = subst_held (same_cell_is c x (sym (reads x) �
     subst_held : c ≡ x → is_some (held d.footprint x) ≡ true
     subst_held same = subst (λ y. is_some (held d.footprint y) ≡ true) same there
 
-module _ (v : ℤ) where
-  abbrev d0 : DeepStrand
-  d0 = loaded [] (root_frame sample [])
+-- Each strand on the way is written out, so that none is computed from those before it.
+abbrev strand : Placed → List Placed → ℕ → ℕ → Footprint → List ℕ → DeepStrand
+strand top below done deepest f synced =
+    record { base = at [] (root_frame sample []); top = top; below = below; done = done; deepest = deepest; footprint = f; synced = synced }
 
-  abbrev d1 : DeepStrand
-  d1 = next d0
+abbrev frame : ℕ → ℕ → ℕ → Registers → ℕ → Wait → Role → Path → Frame
+frame function block index registers made waits role home =
+    record { function = function; block = block; index = index; registers = registers; made = made; waits = waits; role = role; home = home }
 
-  abbrev d2 : DeepStrand
-  d2 = next d1
+-- the registers of the root's function, once its region is started, and none
+abbrev started : Registers
+started = set_register (slice_get []) (register 0) (Region [])
 
-  abbrev d3 : DeepStrand
-  d3 = next d2
+abbrev no_registers : Registers
+no_registers = slice_get []
 
-  abbrev d4 : DeepStrand
-  d4 = next d3
+-- the paths of the root's child, and of the frame that it called
+abbrev child_path : Path
+child_path = 0 ∷ []
 
-  abbrev d5 : DeepStrand
-  d5 = next d4
+abbrev callee_path : Path
+callee_path = 0 ∷ child_path
 
-  abbrev d6 : DeepStrand
-  d6 = next d5
+-- the root waits behind its detach, and the child behind its call
+abbrev root_behind : Placed
+root_behind = at [] (frame 0 2 0 started 1 Free Body [])
 
-  abbrev d7 : DeepStrand
-  d7 = next d6
+abbrev child_behind : Placed
+child_behind = at child_path (frame 0 1 1 started 1 (OnCall 0 (Some (register 1))) (Child 0 2) [])
 
-  abbrev d8 : DeepStrand
-  d8 = next d7
+-- what is read and written after the child's add, its store, and its end
+abbrev with_add : Footprint
+with_add = with_writes untouched no_writes (λ x. cond (same_cell global_cell x) (Some (pos 5)) None)
 
-  abbrev d9 : DeepStrand
-  d9 = next d8
+abbrev with_store : Footprint
+with_store = with_writes with_add (λ x. cond (same_cell own_cell x) (Some (Some (pos 7))) None) no_adds
 
-  abbrev filled9 : DeepStrand
-  filled9 = filled d9 global_cell v
+abbrev with_end : Footprint
+with_end = with_writes with_store (clears callee_path) no_adds
 
-  abbrev d10 : DeepStrand
-  d10 = next filled9
+abbrev d0 : DeepStrand
+d0 = loaded [] (root_frame sample [])
 
-  is1 : IsDeep sample d1
-  is1 = is_advanced d0 _ (is_loaded [] (root_frame sample [])) refl refl (λ x h. absurd (cc))
+abbrev d1 : DeepStrand
+d1 = strand (at [] (frame 0 0 1 started 0 Free Body [])) [] 1 0 untouched []
 
-  is2 : IsDeep sample d2
-  is2 = is_detached d1 _ _ _ is1 refl
+abbrev d2 : DeepStrand
+d2 = strand (at child_path (frame 0 1 0 started 0 Free (Child 0 2) [])) (root_behind ∷ []) 2 2 untouched []
 
-  is3 : IsDeep sample d3
-  is3 = is_called d2 _ _ _ is2 refl
+abbrev d3 : DeepStrand
+d3 = strand (at callee_path (frame 1 0 0 no_registers 0 Free Body callee_path)) (child_behind ∷ root_behind ∷ []) 3 3 untouched []
 
-  is4 : IsDeep sample d4
-  is4 = is_advanced d3 _ is3 refl refl (λ x h. absurd (cc))
+abbrev d4 : DeepStrand
+d4 = strand (at callee_path (frame 1 0 1 no_registers 0 Free Body callee_path)) (child_behind ∷ root_behind ∷ []) 4 3 with_add []
 
-  is5 : IsDeep sample d5
-  is5 = is_advanced d4 _ is4 refl refl (λ x h. absurd (cc))
+abbrev d5 : DeepStrand
+d5 = strand (at callee_path (frame 1 0 2 no_registers 0 Free Body callee_path)) (child_behind ∷ root_behind ∷ []) 5 3 with_store []
 
-  is6 : IsDeep sample d6
-  is6 = is_advanced d5 _ is5 refl refl (holds_one d5 (effect d5) own_cell (λ x. refl) refl)
+abbrev d6 : DeepStrand
+d6 =
+    strand (at callee_path (frame 1 0 3 (set_register no_registers (register 0) (Word (pos 7))) 0 Free Body callee_path)) (child_behind ∷ root_behind ∷ []) 6 3
+    with_store []
 
-  is7 : IsDeep sample d7
-  is7 = is_returned d6 _ _ _ _ _ is6 refl refl refl
+abbrev returned_to : Registers
+returned_to = set_register started (register 1) (Word (pos 7))
 
-  is8 : IsDeep sample d8
-  is8 = is_reattached d7 _ _ _ is7 refl refl refl
+abbrev d7 : DeepStrand
+d7 = strand (at child_path (frame 0 1 1 returned_to 1 Free (Child 0 2) [])) (root_behind ∷ []) 7 3 with_end []
 
-  is9 : IsDeep sample d9
-  is9 = is_past_sync d8 _ _ _ is8 refl
+abbrev d8 : DeepStrand
+d8 = strand root_behind [] 8 3 with_end []
 
-  is_filled9 : IsDeep sample filled9
-  is_filled9 = is_filled d9 global_cell v (effect d9) is9 refl refl refl refl refl
+abbrev d9 : DeepStrand
+d9 = strand (at [] (frame 0 3 0 started 1 (OnRegion 0) Body [])) [] 9 3 with_end (0 ∷ [])
 
-  is10 : IsDeep sample d10
-  is10 = is_advanced filled9 _ is_filled9 refl refl (holds_one filled9 (effect filled9) global_cell (λ x. refl) refl)
+is1 : IsDeep sample d1
+is1 = is_advanced d0 (effect d0) (is_loaded [] (root_frame sample [])) refl refl (λ x h. absurd (cc))
+
+is2 : IsDeep sample d2
+is2 = is_detached d1 0 1 2 is1 refl
+
+is3 : IsDeep sample d3
+is3 = is_called d2 (Some (register 1)) 1 [] is2 refl
+
+is4 : IsDeep sample d4
+is4 = is_advanced d3 (effect d3) is3 refl refl (λ x h. absurd (cc))
+
+is5 : IsDeep sample d5
+is5 = is_advanced d4 (effect d4) is4 refl refl (λ x h. absurd (cc))
+
+is6 : IsDeep sample d6
+is6 = is_advanced d5 (effect d5) is5 refl refl (holds_one d5 (effect d5) own_cell (λ x. refl) refl)
+
+is7 : IsDeep sample d7
+is7 = is_returned d6 (Some (pos 7)) child_behind (root_behind ∷ []) 0 (Some (register 1)) is6 refl refl refl
+
+is8 : IsDeep sample d8
+is8 = is_reattached d7 0 root_behind [] is7 refl refl refl
+
+is9 : IsDeep sample d9
+is9 = is_past_sync d8 0 3 started is8 refl
+
+abbrev filled9 : ℤ → DeepStrand
+filled9 v = filled d9 global_cell v
+
+is_filled9 : (v : ℤ) → IsDeep sample (filled9 v)
+is_filled9 v = is_filled d9 global_cell v (effect d9) is9 refl refl refl refl refl
+
+-- with the cell's number and what was added to it
+abbrev with_sum : ℤ → Registers
+with_sum v = set_register started (register 1) (Word (cell_sum v (pos 5)))
+
+abbrev d10 : ℤ → DeepStrand
+d10 v = strand (at [] (frame 0 3 1 (with_sum v) 1 Free Body [])) [] 10 3 (with_read with_end global_cell v) (0 ∷ [])
+
+is10 : (v : ℤ) → IsDeep sample (d10 v)
+is10 v =
+    is_advanced (filled9 v) (effect (filled9 v)) (is_filled9 v) refl refl (holds_one (filled9 v) (effect (filled9 v)) global_cell (λ x. refl) refl)
 
 pub sample_goes_deep : SampleGoesDeep
 sample_goes_deep v =
