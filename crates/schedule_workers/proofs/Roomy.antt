@@ -1,9 +1,10 @@
 -- Room for a frame's allocas: a run with more cells shows what it showed, and a new block lies beside all others.
 use Rattle.std.proofs.Common.{◌≡◌, ◌≢◌, ℕ, zero, suc, ◌+◌, ◌<◌, ◌≤◌, List, [], ◌∷◌, ◌++◌, length, replicate, Some, true, inl, inr, ◌⊎◌, sym, ap, ◌∙◌, subst, arith, ℤ, pos, negsuc, Vec, Global}
-use Rattle.std.specs.Prelude.{IsTrue, nat_lt, map, sum, slice_get}
+use Rattle.std.specs.Prelude.{IsTrue, nat_lt, map, sum, slice_get, slice_set}
 use Rattle.std.proofs.lemmas.Bool.Decides.{nat_tests}
-use Rattle.std.proofs.lemmas.List.{length-append}
+use Rattle.std.proofs.lemmas.List.{length-append, length-replicate}
 use Rattle.std.proofs.lemmas.Option.{same_Some}
+use Rattle.frame.proofs.Changes.{get_set, get_other}
 use Rattle.semantics.specs.Events.{Machine}
 use Rattle.program.specs.declared.function.Global.{Global as Shared}
 use Rattle.program.specs.declared.function.Program.{Program}
@@ -14,6 +15,7 @@ use Rattle.schedule_workers.specs.declared.run.Block.{Block}
 use Rattle.schedule_workers.specs.declared.run.Run.{Run}
 use Rattle.schedule_workers.specs.Layouts.{layout_of}
 use Rattle.schedule_workers.specs.Rooms.{IsRoom, IsRoomier, empty_at}
+use Rattle.schedule_workers.specs.Roots.{HasBlock}
 use Rattle.schedule_workers.specs.Shown.{AreBeside, BlocksStand, IsPlaced, IsShown}
 
 -- ---- more items at the end of a list
@@ -27,6 +29,16 @@ get_replicate : {X : Type 0} (k : ℕ) (y : X) (n : ℕ) (x : X) → slice_get (
 get_replicate zero y n x e = absurd cc
 get_replicate (suc k) y zero x e = sym (same_Some y x e)
 get_replicate (suc k) y (suc n) x e = get_replicate k y n x e
+
+-- a block among empty ones
+pub one_block : (n slot : ℕ) (block : Block) → slot < n → HasBlock (slice_set (replicate n (empty_at block.start)) slot block) slot block
+one_block n slot block low =
+    let empty = empty_at block.start in
+    let long : length (replicate n empty) ≡ n = length-replicate n empty in
+    record {
+      own = get_set (replicate n empty) slot block (omega (arith, long));
+      others = λ other b e apart. get_replicate n empty other b (sym (get_other (replicate n empty) slot other block apart) ∙ e);
+    }
 
 -- an item is one of before, or what was added
 pub get_either : {X : Type 0} (xs : List X) (k : ℕ) (y : X) (n : ℕ) (x : X) → slice_get (xs ++ replicate k y) n ≡ Some x → (slice_get xs n ≡ Some x) ⊎ (x ≡ y)
