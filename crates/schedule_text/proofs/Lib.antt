@@ -1,5 +1,6 @@
 pub mod Children
 pub mod Cuts
+pub mod Faults
 pub mod Numerals
 pub mod OneText
 pub mod Parts

@@ -36,7 +36,7 @@ one_spelling text other events is same = same_texts (length events) text other [
 
 -- ---- one reading
 
-no_beginning : (b : ℕ) (front rest : List ℕ) → front ++ b ∷ rest ≡ [] → ⊥
+pub no_beginning : (b : ℕ) (front rest : List ℕ) → front ++ b ∷ rest ≡ [] → ⊥
 no_beginning b front rest e = let len = ap length e in let sum = length-append front (b ∷ rest) in omega (arith, len, sum)
 
 same_children : (text numbers others : List ℕ) → AreChildren text numbers → AreChildren text others → numbers ≡ others
@@ -50,7 +50,7 @@ same_children text (j ∷ numbers) (k ∷ others) h i =
 same_task : (task other : Path) → task.numbers ≡ other.numbers → task ≡ other
 same_task task other e = ap (λ (ns : List ℕ). record { numbers = ns }) e
 
-one_line : (line : List ℕ) (l m : Line) → IsSpelled line l → IsSpelled line m → l ≡ m
+pub one_line : (line : List ℕ) (l m : Line) → IsSpelled line l → IsSpelled line m → l ≡ m
 one_line line (Steps v j) (Steps w n) is other =
     let words : is.first ++ 32 ∷ is.second ≡ other.first ++ 32 ∷ other.second = append_cancel_left (codes "step ") (is.first ++ 32 ∷ is.second) (other.first ++ 32 ∷ other.second) (sym is.is_spelled ∙ other.is_spelled) in
     let cut = same_cut 32 is.first other.first is.second other.second (numeral_lacks 32 is.first v (omega arith) is.is_worker) (numeral_lacks 32 other.first w (omega arith) other.is_worker) words in

@@ -1,6 +1,6 @@
 //! From events to text.
 
-ghost use Rattle.std.specs.Prelude.{◌≡◌, ◌≢◌, ◌++◌, ◌≤◌, ◌<◌, [], ℕ, List, length, flat_map, take, IfOk, IfSome, IsTrue, OnOk, string_bytes};
+ghost use Rattle.std.specs.Prelude.{◌≡◌, ◌≢◌, ◌++◌, ◌≤◌, ◌<◌, ◌↔◌, [], ℕ, List, length, flat_map, take, IfOk, IfNone, IfSome, IsTrue, OnOk, string_bytes};
 ghost use Rattle.std.specs.List.{prefix_len};
 ghost use Rattle.schedule_text.specs.ScheduleText.{IsSchedule};
 ghost use Rattle.schedule_text.specs.Printing.{is_step_of, child_text, steps_text, steal_text, first_count, first_text};
@@ -111,7 +111,7 @@ pub fn print_schedule(alloc: Global, events: &[Event]) -> Result<String, OutOfMe
 
 /// Whether both are the same event.
 fn is_same(a: &Event, b: &Event) -> bool
-    ensures { IsTrue result → a.now ≡ b.now }
+    ensures { IsTrue result ↔ (a.now ≡ b.now) }
 {
     match (a, b) {
         (Event::Step(a), Event::Step(b)) => a == b,
@@ -122,7 +122,7 @@ fn is_same(a: &Event, b: &Event) -> bool
 
 /// Whether both are the same events.
 fn are_same(a: &[Event], b: &[Event]) -> bool
-    ensures { IsTrue result → a.now ≡ b.now }
+    ensures { IsTrue result ↔ (a.now ≡ b.now) }
 {
     if a.len() != b.len() {
         return false;
@@ -135,18 +135,32 @@ fn are_same(a: &[Event], b: &[Event]) -> bool
     true
 }
 
-/// The text that spells the events, where it is within the limits: it is read again to tell.
+/// Whether the text spells the events.
+fn spells(alloc: Global, text: &[u8], events: &[Event]) -> Result<bool, OutOfMemory>
+    ensures { IfOk result (λ does. IsTrue does ↔ IsSchedule text.now events.now) }
+{
+    match read_schedule(alloc, text) {
+        Ok(read) => Ok(are_same(read.as_slice(), events)),
+        Err(ScheduleFault::BadLine(_)) => Ok(false),
+        Err(ScheduleFault::TooLong(_)) => Ok(false),
+        Err(ScheduleFault::Memory) => Err(OutOfMemory),
+    }
+}
+
+/// The text that spells the events; none where there is none within the limits: it is read again to tell.
 ///
 /// # Errors
 ///
 /// Memory was refused.
+#[tactic(auto, using(crate::proofs::Faults::no_other))]
 pub fn spell_schedule(alloc: Global, events: &[Event]) -> Result<Option<String>, OutOfMemory>
-    ensures { IfOk result (λ found. IfSome found (λ text. IsSchedule (string_bytes text) events.now)) }
+    ensures spelled { IfOk result (λ found. IfSome found (λ text. IsSchedule (string_bytes text) events.now)) }
+    ensures none { IfOk result (λ found. IfNone found ((text : List ℕ) → IsSchedule text events.now → ⊥)) }
 {
     let text = printed(alloc, events)?;
-    match read_schedule(alloc, text.as_bytes()) {
-        Ok(read) if are_same(read.as_slice(), events) => Ok(Some(text)),
-        Err(ScheduleFault::Memory) => Err(OutOfMemory),
-        _ => Ok(None),
+    if spells(alloc, text.as_bytes(), events)? {
+        Ok(Some(text))
+    } else {
+        Ok(None)
     }
 }
