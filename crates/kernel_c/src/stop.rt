@@ -1,6 +1,6 @@
 //! What a host holds to stop runs, and the calls that set it.
 
-ghost use Rattle.std.specs.Prelude.{◌≡◌, ◌≢◌, IfSome, None, Some, is_some};
+ghost use Rattle.std.specs.Prelude.{◌≡◌, ◌≢◌, IfSome, None, Some, is_some, false};
 ghost use Rattle.kernel_c.specs.Told.{done};
 ghost use Rattle.kernel_c.specs.Held.{IsShareStatus, closed};
 ghost use Rattle.kernel_c.specs.Boards.{IsMadeStatus, IsSetStatus};
@@ -164,6 +164,7 @@ pub extern "C" fn tapirvm_stop_share(
 fn set(alloc: Global, handle: StopHandle, is_set: bool) -> (u32, StopHandle)
     ensures same { result.1.stop.kept ≡ handle.stop.kept }
     ensures closed { result.0 ≡ closed → handle.stop.kept ≡ None }
+    ensures held { handle.stop.kept ≡ None → result.0 ≡ closed }
     ensures statuses { IsSetStatus result.0 }
 {
     match handle.taken() {
@@ -180,6 +181,7 @@ fn set(alloc: Global, handle: StopHandle, is_set: bool) -> (u32, StopHandle)
 pub extern "C" fn tapirvm_stop_set(alloc: Global, stop: &mut StopHandle) -> u32
     ensures same { stop.new.stop.kept ≡ stop.old.stop.kept }
     ensures closed { result ≡ closed → stop.old.stop.kept ≡ None }
+    ensures held { stop.old.stop.kept ≡ None → result ≡ closed }
     ensures statuses { IsSetStatus result }
 {
     let (status, back) = set(alloc, replace(stop, StopHandle::closed(alloc)), true);
@@ -192,6 +194,7 @@ pub extern "C" fn tapirvm_stop_set(alloc: Global, stop: &mut StopHandle) -> u32
 pub extern "C" fn tapirvm_stop_clear(alloc: Global, stop: &mut StopHandle) -> u32
     ensures same { stop.new.stop.kept ≡ stop.old.stop.kept }
     ensures closed { result ≡ closed → stop.old.stop.kept ≡ None }
+    ensures held { stop.old.stop.kept ≡ None → result ≡ closed }
     ensures statuses { IsSetStatus result }
 {
     let (status, back) = set(alloc, replace(stop, StopHandle::closed(alloc)), false);
@@ -202,7 +205,8 @@ pub extern "C" fn tapirvm_stop_clear(alloc: Global, stop: &mut StopHandle) -> u3
 /// Whether the stop is set.
 #[unsafe(no_mangle)]
 pub extern "C" fn tapirvm_stop_is_set(alloc: Global, stop: &mut StopHandle) -> bool
-    ensures { stop.new.stop.kept ≡ stop.old.stop.kept }
+    ensures same { stop.new.stop.kept ≡ stop.old.stop.kept }
+    ensures closed { stop.old.stop.kept ≡ None → result ≡ false }
 {
     let Some(block) = replace(stop, StopHandle::closed(alloc)).taken() else {
         return false;
