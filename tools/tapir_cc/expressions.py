@@ -1,11 +1,12 @@
 """Expressions. In: nodes of the tree. Out: instructions over i64, and the values that they give. `int` is computed in
 64 bits, which is the same where C leaves overflow undefined; `unsigned` is cut to its 32 bits, and bool is 0 or 1. The
 tree has all of C's conversions as nodes."""
-from typing import Callable, NamedTuple, Optional, Union
+from contextlib import contextmanager
+from functools import partial
+from typing import Callable, Iterator, NamedTuple, Union
 
-from .forms import Form, Value
-from .ir import Block, Claim, Fault, Function, Instruction, Place
-from .ssa import Builder
+from .ir import Block, Claim, Form, Function, Value
+from .ssa import Builder, wrapped
 from .tree import Node, Type
 
 LOW = 0xFFFFFFFF
@@ -15,14 +16,9 @@ OF_UNSIGNED = {"sdiv": "udiv", "srem": "urem", "ashr": "lshr"}
 SIDES = {"eq": ("sle", "sge"), "ne": ("sgt", "slt")}
 COMPARES = {"<": "slt", "<=": "sle", ">": "sgt", ">=": "sge", "==": "eq", "!=": "ne"}
 SAME = {"LValueToRValue", "NoOp", "ArrayToPointerDecay", "BitCast"}  # casts that leave an address as it is
-WHOLE = "a pointer is an array or a parameter itself, not stored, chosen, moved or returned"
-BY_INDEX = "keep the index in a variable, not the pointer"
-
-
-def unconverted(node: Node) -> Node:
-    """What is passed as a pointer to anything."""
-    node = node.bare
-    return unconverted(node.inner[0]) if node.data.get("castKind") in ("BitCast", "ArrayToPointerDecay") else node
+POINTER = "a pointer is an array or a parameter itself, not stored, chosen, moved or returned"
+NO_POINTER = (POINTER, "keep the index in a variable, not the pointer")
+NO_BYTES = ("char and bool are not taken in memory", "write int64_t or int")
 
 
 def gaps(opcode: str, left: Form, right: Form) -> list[Form]:
@@ -37,28 +33,37 @@ class Cell(NamedTuple):
 
 
 class Expressions:
-    """What a function's expressions come to. `self.objects` are the variables that lie in memory."""
+    """What a function's expressions come to. `self.objects` are the variables that lie in memory. What is made has the
+    place of the node that is visited."""
 
     build: Builder
     f: Function
     objects: dict[str, Cell]
-    counters: dict[str, str]  # of loops -> the compare with an end that they have not reached
     is_thorough: bool  # whether there are tests that may help, although they always hold
 
+    @contextmanager
+    def at(self, node: Node) -> Iterator[None]:
+        """What the header has stands where it is used."""
+        before = self.build.place
+        self.build.place = before if node.place.file.endswith("tapir.h") else node.place
+        yield
+        self.build.place = before
+
     def value(self, node: Node) -> Value:
+        """What an expression comes to. (A statement comes to nothing.)"""
         node = node.bare
         if not node.kind:
             return 0
-        found = getattr(self, "of_" + node.kind, None)
-        if node.type.base != "void" or node.type.is_pointer:
+        visit = getattr(self, "of_" + node.kind, None)
+        if not node.kind.endswith("Decl") and (node.type.base != "void" or node.type.is_pointer):
             node.type.check(node.place)
-        if found is None:
-            raise Fault(node.place, f"{node.kind} is not taken", "write it with numbers, arrays, and calls")
-        return found(node)
+        change = "if, for and while" if node.kind.endswith("Stmt") else "numbers, arrays, and calls"
+        node.place.refuse(visit is None, f"{node.kind} is not taken", f"write it with {change}")
+        with self.at(node):
+            return visit(node)
 
     def of_IntegerLiteral(self, node: Node) -> Value:
-        number = int(node.data["value"])
-        return number - (1 << 64) if number >> 63 else number
+        return wrapped(int(node.data["value"]))
 
     of_CharacterLiteral = of_IntegerLiteral
 
@@ -68,234 +73,209 @@ class Expressions:
         return type.bytes * type.cells
 
     def of_DeclRefExpr(self, node: Node) -> Value:
-        if node.declared.id in node.tree.constants:
-            return node.tree.constants[node.declared.id]
-        raise Fault(node.place, WHOLE, BY_INDEX)
+        node.place.refuse(node.declared.id not in node.tree.constants, *NO_POINTER)
+        return node.tree.constants[node.declared.id]
 
     def of_ImplicitCastExpr(self, node: Node) -> Value:
         kind, inner = node.data["castKind"], node.inner[0]
-        if node.type.is_pointer:
-            raise Fault(node.place, WHOLE, BY_INDEX)
+        node.place.refuse(node.type.is_pointer, *NO_POINTER)
         if kind == "LValueToRValue":
             return self.load(self.target(inner), inner)
         if kind == "ToVoid":
             return self.value(inner)
         if kind == "IntegralToBoolean":
             return self.bit(inner)
-        if kind not in ("IntegralCast", "NoOp"):
-            inner.type.check(inner.place)
-            raise Fault(node.place, "a pointer is no number", "keep the index, not the pointer")
-        return self.converted(self.value(inner), inner.type, node.type, node.place)
+        inner.type.check(inner.place)
+        is_number = kind in ("IntegralCast", "NoOp")
+        node.place.refuse(not is_number, "a pointer is no number", "keep the index, not the pointer")
+        return self.converted(self.value(inner), inner.type, node.type)
 
     of_CStyleCastExpr = of_ImplicitCastExpr
 
-    def converted(self, value: Value, old: Type, new: Type, place: Place) -> Value:
-        new.check(place)
+    def converted(self, value: Value, old: Type, new: Type) -> Value:
+        new.check(self.build.place)
         if new.base == "int" and old.base in ("long", "ulong", "uint"):
-            return self.build.cut(value, place)
+            return self.build.cut(value)
         if new.base == "uint" and old.base in ("long", "ulong", "int"):
-            return self.build.binary("and", value, LOW, place, hint="low")
+            return self.build.binary("and", value, LOW, hint="low")
         return value
 
     def of_BinaryOperator(self, node: Node) -> Value:
         left, right = node.inner
         if node.opcode == "=":
-            target = self.target(left)
-            return self.store(target, self.value(right), left)
+            return self.store(self.target(left), self.value(right), left)
         if node.opcode == ",":
             self.value(left)
             return self.value(right)
         if node.opcode in ("&&", "||") or node.opcode in COMPARES:
             return self.bit(node)
-        return self.operation(node.opcode, self.value(left), self.value(right), node.type, node.place)
+        return self.operation(node.opcode, self.value(left), self.value(right), node.type)
 
-    def operation(self, opcode: str, a: Value, b: Value, type: Type, place: Place) -> Value:
-        type.check(place)
-        op = OPERATIONS[opcode]
-        if "u" in type.base:
-            op = OF_UNSIGNED.get(op, op)
-        result = self.with_facts(op, a, b, type, place) if isinstance(a, str) else None
-        if result is not None:
-            return result
-        result = self.build.binary(op, a, b, place, op in ("add", "sub", "mul") and "u" not in type.base)
-        is_narrow = op == "shl" and type.base == "int" or op in ("add", "sub", "mul", "shl") and type.base == "uint"
-        return self.converted(result, Type("long"), type, place) if is_narrow else result
-
-    def with_facts(self, op: str, a: str, b: Value, type: Type, place: Place) -> Optional[Value]:
+    def operation(self, opcode: str, a: Value, b: Value, type: Type) -> Value:
         """Products and quotients in place of shifts, and quotients and rests of which more is known: there are rules
         for them. Where the two differ, what they rest on is shown first."""
-        build = self.build
-        if op == "shl" and type.base == "long" and b in range(1, 62):
-            return build.binary("mul", a, 1 << b, place, True)
-        if op == "ashr" and b in range(1, 20) and a not in build.strange and self.shown("shift", place, build.form(a)):
-            return self.half(a, place) if b == 1 else build.binary("sdiv", a, 1 << b, place)
-        if op == "sdiv" and b == 2:
-            return self.half(a, place)
-        return self.rest(a, b, place) if op == "srem" and isinstance(b, str) and self.is_thorough else None
+        type.check(self.build.place)
+        op, build = OPERATIONS[opcode], self.build
+        if "u" in type.base:
+            op = OF_UNSIGNED.get(op, op)
+        if op == "srem" and isinstance(a, str) and isinstance(b, str) and self.is_thorough:
+            return self.rest(a, b)
+        if isinstance(a, str) and isinstance(b, int):
+            if op == "shl" and type.base == "long" and 0 < b < 62:
+                op, b = "mul", 1 << b
+            elif op == "ashr" and 0 < b < 20 and a not in build.strange and self.shown("shift", build.form(a)):
+                op, b = "sdiv", 1 << b
+            if op == "sdiv" and b == 2:
+                return self.half(a)
+        result = build.binary(op, a, b, op in ("add", "sub", "mul") and "u" not in type.base)
+        is_narrow = op == "shl" and type.base == "int" or op in ("add", "sub", "mul", "shl") and type.base == "uint"
+        return self.converted(result, Type("long"), type) if is_narrow else result
 
-    def shown(self, word: str, place: Place, *forms: Form) -> bool:
+    def shown(self, word: str, *forms: Form) -> bool:
         """Has the next instruction show that forms are 0 or more, unless that was refused."""
-        choice = self.build.tries(word, place)
-        self.build.shown += [Claim(form, place, choice) for form in forms if choice]
+        choice = self.build.tries(word)
+        self.build.shown += [Claim(form, self.build.place, choice) for form in forms if choice]
         return choice is not None
 
-    def half(self, a: str, place: Place) -> Value:
+    def half(self, a: str) -> Value:
         """x / 2. (x + y) / 2 is x + (y - x) / 2, which lies between them. Of 1 + (x - 2) / 2 it is known that it is
         below x and not 0, and of (x - 1) - (x - 1) / 2 that it is below x."""
         binary, form, x = self.build.binary, self.build.form(a), self.build.makers.get(a)
         if x is not None and x.op == "add" and all(isinstance(v, str) for v in x.args):
             low, high = x.args
-            if self.shown("middle", place, self.build.form(high) - self.build.form(low), form):
-                size = binary("sub", high, low, place, True)
-                return binary("add", low, self.half(size, place), place, True)
-        if self.is_thorough and self.shown("more", place, form - 2):
-            return binary("add", binary("sdiv", binary("sub", a, 2, place, True), 2, place), 1, place, True)
-        if self.is_thorough and self.shown("less", place, form - 1):
-            less = binary("sub", a, 1, place, True)
-            return binary("sub", less, binary("sdiv", less, 2, place), place, True)
-        return binary("sdiv", a, 2, place)
+            if self.shown("middle", self.build.form(high) - self.build.form(low), form):
+                return binary("add", low, self.half(binary("sub", high, low, True)), True)
+        if self.is_thorough and self.shown("more", form - 2):
+            return binary("add", binary("sdiv", binary("sub", a, 2, True), 2), 1, True)
+        if self.is_thorough and self.shown("less", form - 1):
+            less = binary("sub", a, 1, True)
+            return binary("sub", less, binary("sdiv", less, 2), True)
+        return binary("sdiv", a, 2)
 
-    def rest(self, a: str, b: str, place: Place) -> Value:
+    def rest(self, a: str, b: str) -> Value:
         """a % b, which is from 0 to b - 1 where a >= 0 and b >= 1: two tests that always hold say so."""
         build = self.build
-        rest, forms = build.binary("srem", a, b, place), (build.form(a), build.form(b) - 1)
+        rest, forms = build.binary("srem", a, b), (build.form(a), build.form(b) - 1)
         for predicate, bound in (("sge", 0), ("slt", b)):
-            if self.shown("rest", place, *forms):
+            if self.shown("rest", *forms):
                 old = rest
-                test = lambda yes, no: build.branch(predicate, old, bound, yes, no, place)
-                rest = self.chosen(test, place, lambda: old)
-                self.guess(build.now, build.form(rest), place)
-        if build.now.keeps:
-            self.guess(build.now, build.form(b) - build.form(rest) - 1, place)
+                rest = self.chosen(partial(build.branch, predicate, old, bound), lambda: old)
         return rest
 
-    def guess(self, block: Block, form: Form, place: Place) -> None:
-        """Tries that a form is 0 or more where a block begins."""
-        choice = self.build.tries("guess", place)
-        block.keeps += [Claim(form, place, choice)] if choice else []
+    def guess(self, block: Block, *forms: Form) -> None:
+        """Tries that forms are 0 or more where a block begins."""
+        claims = [Claim(form, self.build.place, self.build.tries("guess")) for form in forms]
+        block.keeps += [claim for claim in claims if claim.choice]
 
     def of_CompoundAssignOperator(self, node: Node) -> Value:
-        left, right = node.inner
-        target, type = self.target(left), node.type_at("computeLHSType")
-        old = self.converted(self.load(target, left), left.type, type, node.place)
-        new = self.operation(node.opcode[:-1], old, self.value(right), node.type_at("computeResultType"), node.place)
-        return self.store(target, self.assigned(new, type, left.type, node.place), left)
-
-    def assigned(self, value: Value, old: Type, new: Type, place: Place) -> Value:
-        """A value that becomes a bool is 1 where it is not 0."""
-        if new.base == "bool" and old.base != "bool":
-            return self.chosen(lambda yes, no: self.build.branch("ne", value, 0, yes, no, place), place)
-        return self.converted(value, old, new, place)
+        """Also ++ and --, which add 1, and of a bool are computed as those of an int."""
+        left, *rest = node.inner
+        own = Type("int") if node.type.base == "bool" else node.type
+        target, type = self.target(left), node.type_at("computeLHSType") if rest else own
+        old = self.load(target, left)
+        value = self.converted(old, left.type, type)
+        new = self.operation(node.opcode[:-1], value, self.value(rest[0]) if rest else 1, type)
+        if left.type.base == "bool":  # (it is 1 where that is not 0)
+            new = self.chosen(partial(self.build.branch, "ne", new, 0))
+        new = self.store(target, self.converted(new, type, left.type), left)
+        return old if node.data.get("isPostfix") else new
 
     def of_UnaryOperator(self, node: Node) -> Value:
-        inner, type, place = node.inner[0], node.type, node.place
+        inner, type = node.inner[0], node.type
         if node.opcode in ("++", "--"):
-            target = self.target(inner)
-            old = self.load(target, inner)
-            number = type if type.base != "bool" else Type("int")
-            new = self.assigned(self.operation(node.opcode[0], old, 1, number, place), number, type, place)
-            self.store(target, new, inner)
-            return old if node.data["isPostfix"] else new
+            return self.of_CompoundAssignOperator(node)
         if node.opcode == "!":
             return self.bit(node)
         if node.opcode == "-":
-            return self.operation("-", 0, self.value(inner), type, place)
+            return self.operation("-", 0, self.value(inner), type)
         if node.opcode == "~":
-            return self.build.binary("xor", self.value(inner), LOW if type.base == "uint" else -1, place)
-        if node.opcode in ("+", "__extension__"):
-            return self.value(inner)
-        raise Fault(place, WHOLE, BY_INDEX)
+            return self.build.binary("xor", self.value(inner), LOW if type.base == "uint" else -1)
+        node.place.refuse(node.opcode not in ("+", "__extension__"), *NO_POINTER)
+        return self.value(inner)
 
     def of_ConditionalOperator(self, node: Node) -> Value:
-        test, one, other = node.inner
-        arms = (lambda: self.value(one), lambda: self.value(other))
-        return self.chosen(lambda yes, no: self.condition(test, yes, no), node.place, *arms)
+        test, *arms = node.inner
+        return self.chosen(partial(self.condition, test), *[partial(self.value, arm) for arm in arms])
 
     def bit(self, node: Node) -> Value:
         """A condition as a number."""
         if node.type.base == "bool" and node.bare.kind != "BinaryOperator":
             return self.value(node)
-        return self.chosen(lambda yes, no: self.condition(node, yes, no), node.place)
+        return self.chosen(partial(self.condition, node))
 
-    def chosen(self, condition: Callable, place: Place, one=lambda: 1, other=lambda: 0) -> Value:
+    def chosen(self, condition: Callable, one: Callable = lambda: 1, other: Callable = lambda: 0) -> Value:
         """A value where a condition holds, and another one where it does not."""
         yes, no, out = [self.build.block(hint) for hint in ("one", "none", "chosen")]
         condition(yes, no)
         for block, value in ((yes, one), (no, other)):
             self.build.start(block)
             self.build.write(out.name, value(), "chosen")
-            self.build.jump(out, place)
+            self.build.jump(out)
         self.build.start(out)
-        return self.build.read(out.name, "chosen")
+        return self.build.read(out.name)
 
     def condition(self, node: Node, yes: Block, no: Block) -> None:
         """Branches on a condition. (Blocks are started where all that leads to them is there.)"""
         node = node.bare
-        place, cast = node.place, node.data.get("castKind")
-        if not node.kind:  # (`for (;;)` has none)
-            self.build.jump(yes, place)
-        elif node.kind == "UnaryOperator" and node.opcode == "!":
-            self.condition(node.inner[0], no, yes)
-        elif node.opcode in ("&&", "||"):
-            more = self.build.block("also")
-            self.condition(node.inner[0], *((more, no) if node.opcode == "&&" else (yes, more)))
-            self.build.start(more)
-            self.condition(node.inner[1], yes, no)
-        elif node.opcode == ",":
-            self.value(node.inner[0])
-            self.condition(node.inner[1], yes, no)
-        elif node.opcode in COMPARES:
-            self.compare(node, yes, no)
-        elif cast == "IntegralToBoolean" or (cast == "IntegralCast" and node.inner[0].bare.opcode in COMPARES):
-            self.condition(node.inner[0], yes, no)
-        else:
-            self.test("ne", self.value(node), 0, yes, no, place)
+        cast = node.data.get("castKind")
+        with self.at(node):
+            if not node.kind:  # (`for (;;)` has none)
+                self.build.jump(yes)
+            elif node.kind == "UnaryOperator" and node.opcode == "!":
+                self.condition(node.inner[0], no, yes)
+            elif node.opcode in ("&&", "||"):
+                more = self.build.block("also")
+                self.condition(node.inner[0], *((more, no) if node.opcode == "&&" else (yes, more)))
+                self.build.start(more)
+                self.condition(node.inner[1], yes, no)
+            elif node.opcode == ",":
+                self.value(node.inner[0])
+                self.condition(node.inner[1], yes, no)
+            elif node.opcode in COMPARES:
+                self.compare(node, yes, no)
+            elif cast == "IntegralToBoolean" or (cast == "IntegralCast" and node.inner[0].bare.opcode in COMPARES):
+                self.condition(node.inner[0], yes, no)
+            else:
+                self.test("ne", self.value(node), 0, yes, no)
 
     def compare(self, node: Node, yes: Block, no: Block) -> None:
         left, right = node.inner
-        if left.type.is_pointer or right.type.is_pointer:
-            raise Fault(node.place, "pointers are not compared", "compare the indices")
+        is_of_pointers = left.type.is_pointer or right.type.is_pointer
+        node.place.refuse(is_of_pointers, "pointers are not compared", "compare the indices")
         predicate, a, b = COMPARES[node.opcode], self.value(left), self.value(right)
         if left.type.base == "ulong" and predicate[0] == "s":
             predicate = "u" + predicate[1:]
-        elif node.opcode == "!=" and left.inner and left.inner[0].bare.declared.id in self.counters:
-            predicate = self.counters[left.inner[0].bare.declared.id]  # (C's counters do not pass their ends)
-        self.test(predicate, a, b, yes, no, node.place)
+        self.test(predicate, a, b, yes, no)
 
-    def test(self, predicate: str, a: Value, b: Value, yes: Block, no: Block, place: Place) -> None:
+    def test(self, predicate: str, a: Value, b: Value, yes: Block, no: Block) -> None:
         """Branches on a compare. Of <= and >= both outcomes are facts, so they are tried for == and !=."""
         up = self.build.form(a) - self.build.form(b)
-        if predicate in SIDES and not {a, b} & self.build.strange and not up.is_constant:
+        if predicate in SIDES and not {a, b} & self.build.strange and up.terms:
             ways = zip(("up", "down"), (up, -up), SIDES[predicate])
-            predicate = next((side for word, gap, side in ways if self.shown(word, place, gap)), predicate)
-        self.build.branch(predicate, a, b, yes, no, place)
+            predicate = next((side for word, gap, side in ways if self.shown(word, gap)), predicate)
+        self.build.branch(predicate, a, b, yes, no)
 
     def of_CallExpr(self, node: Node) -> Value:
-        name, place = node.callee(), node.place
+        name = node.callee()
         if name.startswith("__tapir_"):
             return self.marker(name[len("__tapir_") :], node)
         if name == "memset":
-            self.clear(node)
-            return 0
-        if not name:
-            raise Fault(place, "a call through a pointer is not taken", "name the function")
+            return self.clear(node)
+        node.place.refuse(not name, "a call through a pointer is not taken", "name the function")
         args = [self.whole(x) if x.type.is_pointer else self.value(x) for x in node.inner[1:]]
-        x = Instruction("call", None, args, place, callee="@" + name)
-        if node.type.base != "void":
-            x.result = self.f.fresh(name)
-        if x.callee == self.f.name:
+        if "@" + name == self.f.name:
             for k, (value, own) in enumerate(zip(args, self.f.parameters)):
                 self.f.falls.setdefault(k, []).append(self.build.form(value) - Form.of(own))
-        return self.put(x) or 0
+        return self.build.put("call", *args, callee="@" + name, hint=name if node.type.base != "void" else "") or 0
 
-    def clear(self, node: Node) -> None:
-        at, value, size = [unconverted(x) for x in node.inner[1:]]
-        if self.value(value) != 0 or self.value(size) != at.type.cells * at.type.bytes:
-            raise Fault(node.place, "memset clears a whole array at once, and sets to nothing else", "write a loop")
-        self.zero(self.address(at).object, node.place)
+    def clear(self, node: Node) -> Value:
+        at, value, size = [x.unconverted for x in node.inner[1:]]
+        is_whole = self.value(value) == 0 and self.value(size) == at.type.cells * at.type.bytes
+        node.place.refuse(not is_whole, "memset clears a whole array at once, and sets to nothing else", "write a loop")
+        return self.zero(self.address(at).object)
 
-    def zero(self, object: str, place: Place) -> None:
-        self.put(Instruction("zero", None, [object], place, object=object))
+    def zero(self, object: str) -> Value:
+        return self.build.put("zero", object, object=object) or 0
 
     def target(self, node: Node) -> Union[Cell, str]:
         """What is read or set: a cell, or a variable that is none."""
@@ -303,25 +283,21 @@ class Expressions:
         node.type.check(node.place)
         if node.kind == "DeclRefExpr" and node.declared.id not in self.objects:
             return node.declared.id
-        if node.type.base == "bool":
-            raise Fault(node.place, "char and bool are not taken in memory", "write int64_t or int")
+        node.place.refuse(node.type.base == "bool", *NO_BYTES)
         return self.address(node)
 
     def load(self, target: Union[Cell, str], node: Node) -> Value:
-        name = node.bare.declared.name or "t"
         if isinstance(target, str):
-            return self.build.read(target, name)
-        value = self.build.load(*target, node.place, name)
-        self.touches.append((self.build.makers[value], self.task.all))
-        return self.converted(value, Type("long"), node.type, node.place) if node.type.base == "uint" else value
+            return self.build.read(target)
+        value = self.build.load(*target, node.bare.declared.name or "t")
+        return self.converted(value, Type("long"), node.type) if node.type.base == "uint" else value
 
     def store(self, target: Union[Cell, str], value: Value, node: Node) -> Value:
         if isinstance(target, str):
-            self.build.write(target, value, node.bare.declared.name)
+            self.build.write(target, value, node.bare.declared.name or node.name)
         else:
-            object, index = target
-            kept = self.build.cut(value, node.place) if node.type.base == "uint" else value  # (as hosts see `int`)
-            self.put(Instruction("store", None, [kept], node.place, object=object, index=index))
+            kept = self.build.cut(value) if node.type.base == "uint" else value  # (as hosts see `int`)
+            self.build.put("store", kept, object=target.object, index=target.index)
         return value
 
     def address(self, node: Node) -> Cell:
@@ -329,21 +305,19 @@ class Expressions:
         node = node.bare
         if node.kind == "DeclRefExpr" and node.declared.id in self.objects:
             return self.objects[node.declared.id]
-        if node.kind == "UnaryOperator" and node.opcode in ("*", "&"):
-            return self.address(node.inner[0])
-        if node.data.get("castKind") in SAME and node.inner[0].type.base == node.type.base:
+        is_same = node.data.get("castKind") in SAME and node.inner[0].type.base == node.type.base
+        if is_same or node.kind == "UnaryOperator" and node.opcode in ("*", "&"):
             return self.address(node.inner[0])
         is_sum = node.kind == "BinaryOperator" and node.opcode in "+-" and node.inner[0].type.is_pointer
-        if not (node.kind == "ArraySubscriptExpr" or is_sum):
-            raise Fault(node.place, WHOLE, BY_INDEX)
-        (object, index), place = self.address(node.inner[0]), node.place
-        step = self.build.binary("mul", self.value(node.inner[1]), node.type.cells, place, True, "row")
-        return Cell(object, self.build.binary("sub" if node.opcode == "-" else "add", index, step, place, True, "at"))
+        node.place.refuse(node.kind != "ArraySubscriptExpr" and not is_sum, *NO_POINTER)
+        with self.at(node):
+            object, index = self.address(node.inner[0])
+            step = self.build.binary("mul", self.value(node.inner[1]), node.type.cells, True, "row")
+            return Cell(object, self.build.binary("sub" if node.opcode == "-" else "add", index, step, True, "at"))
 
     def whole(self, node: Node) -> str:
         object, index = self.address(node)
-        if index != 0:
-            raise Fault(node.place, "a part of an array is passed", "pass the array, and the index where it begins")
+        node.place.refuse(index != 0, "a part of an array is passed", "pass the array, and the index where it begins")
         return object
 
     def claim(self, node: Node) -> list[tuple[Form, bool]]:
@@ -351,13 +325,10 @@ class Expressions:
         node = node.bare
         if node.opcode == "&&":
             return self.claim(node.inner[0]) + self.claim(node.inner[1])
-        if node.opcode not in COMPARES or node.opcode == "!=":
-            change = "write one for each; ||, != and ! are not taken"
-            raise Fault(node.place, "a claim is compares joined by &&", change)
-        if node.inner[0].type.base == "ulong":
-            raise Fault(node.place, "a claim is a signed compare", "write int64_t or int")
-        left, right = [self.build.form(self.value(x)) for x in node.inner]
-        forms = gaps(node.opcode, left, right)
-        if any(form.is_constant and form.constant < 0 for form in forms):
-            raise Fault(node.place, "this claim never holds")
+        is_compare = node.opcode in COMPARES and node.opcode != "!="
+        change = "write one for each; ||, != and ! are not taken"
+        node.place.refuse(not is_compare, "a claim is compares joined by &&", change)
+        node.place.refuse(node.inner[0].type.base == "ulong", "a claim is a signed compare", "write int64_t or int")
+        forms = gaps(node.opcode, *[self.build.form(self.value(x)) for x in node.inner])
+        node.place.refuse(any(not form.terms and form.constant < 0 for form in forms), "this claim never holds")
         return [(form, node.opcode in ("<=", ">=")) for form in forms]

@@ -1,14 +1,54 @@
-"""Functions of blocks of instructions over i64, between the C's tree and our text."""
+"""Functions of blocks of instructions over i64, and linear forms over their registers: what stands between the C's tree
+and our text."""
 from __future__ import annotations
 
 import itertools
+import re
 from dataclasses import dataclass, field
-from typing import NamedTuple, Optional
-
-from .forms import Form, Value
+from typing import Callable, NamedTuple, Optional, Sequence, Union
 
 BINARY = {"add", "sub", "mul", "sdiv", "udiv", "srem", "urem", "shl", "lshr", "ashr", "and", "or", "xor"}
-PURE = BINARY | {"trunc", "sext", "icmp", "phi", "load", "alloca"}
+PURE = BINARY | {"trunc", "sext", "icmp", "phi", "load", "alloca", "region"}
+MOST_NAME = 56  # letters of a name, before its number
+
+Value = Union[int, str]  # a number, or the name of a register (`%x`) or a global (`@a`)
+
+
+@dataclass(frozen=True)
+class Form:
+    """A sum of registers with factors, none of which is 0, and a constant, as annotations have it: `3*%n-%i+2`."""
+
+    terms: dict[str, int] = field(default_factory=dict)
+    constant: int = 0
+
+    @staticmethod
+    def of(value: Value) -> Form:
+        return Form({value: 1}) if isinstance(value, str) else Form(constant=value)
+
+    def plus(self, other: Union[Form, int], times: int = 1) -> Form:
+        other = other if isinstance(other, Form) else Form(constant=other)
+        terms = {r: self.terms.get(r, 0) + times * other.terms.get(r, 0) for r in self.terms | other.terms}
+        return Form({r: factor for r, factor in terms.items() if factor}, self.constant + times * other.constant)
+
+    __add__ = plus
+
+    def __sub__(self, other: Union[Form, int]) -> Form:
+        return self.plus(other, -1)
+
+    def __mul__(self, factor: int) -> Form:
+        return Form().plus(self, factor)
+
+    def __neg__(self) -> Form:
+        return self * -1
+
+    def replaced(self, of: Callable[[str], Form]) -> Form:
+        """The form with each register replaced by a form."""
+        return sum((of(register) * factor for register, factor in self.terms.items()), Form(constant=self.constant))
+
+    def __str__(self) -> str:
+        parts = [f"{factor:+d}*{register}" for register, factor in sorted(self.terms.items())]
+        text = "".join(parts).replace("+1*", "+").replace("-1*", "-").lstrip("+")
+        return text + f"{self.constant:+d}" if text and self.constant else text or str(self.constant)
 
 
 class Place(NamedTuple):
@@ -18,13 +58,14 @@ class Place(NamedTuple):
     column: int = 0
     file: str = ""
 
+    def refuse(self, is_refused: object, text: str, change: str = "") -> None:
+        """Tells C that is not taken: why, and what to write in its place."""
+        if is_refused:
+            raise Fault(self, text, change)
+
 
 class Fault(Exception):
-    """C that is not taken: where, why, and what to write in its place."""
-
-    def __init__(self, place: Place, text: str, change: str = ""):
-        super().__init__(text)
-        self.place, self.text, self.change = place, text, change
+    """C that is not taken; its words are those of `Source.told`."""
 
 
 class Choice(NamedTuple):
@@ -73,9 +114,10 @@ class Instruction:
     index: Optional[Value] = None
     region: Optional[str] = None
     shows: list[Claim] = field(default_factory=list)  # what is shown before it
+    tasks: Sequence = ()  # the SPAWNs that it is in, and the function's own body
 
-    def uses(self) -> list[Value]:
-        own = [value for value, _ in self.incoming] + self.args + ([] if self.index is None else [self.index])
+    def uses(self) -> list[Optional[Value]]:
+        own = [value for value, _ in self.incoming] + self.args + [self.index, self.object, self.region]
         return own + [register for claim in self.shows for register in claim.form.terms]
 
 
@@ -91,9 +133,6 @@ class Block:
     def all(self) -> list[Instruction]:
         return [*self.phis, *self.body, self.end]
 
-    def successors(self) -> list[str]:
-        return self.end.targets if self.end.op != "reattach" else []
-
 
 @dataclass(eq=False)
 class Function:
@@ -101,7 +140,6 @@ class Function:
     place: Place
     returns: bool = False
     parameters: list[str] = field(default_factory=list)
-    arrays: set[str] = field(default_factory=set)  # the parameters that are arrays
     blocks: dict[str, Block] = field(default_factory=dict)
     names: set[str] = field(default_factory=set)
     c_names: dict[str, str] = field(default_factory=dict)  # register -> variable
@@ -109,31 +147,23 @@ class Function:
     requires: list[Claim] = field(default_factory=list)
     ensures: list[Claim] = field(default_factory=list)
     zones: list[Zone] = field(default_factory=list)  # the author's
-    measure: Optional[tuple[Form, int]] = None
-    budget: Optional[list[Form]] = None
+    notes: dict[str, str] = field(default_factory=dict)  # measure and budget
     falls: dict[int, list[Form]] = field(default_factory=dict)  # a parameter -> what self calls add to it
     unset: dict[str, Choice] = field(default_factory=dict)  # a local -> that it is set before it is read
     tried: dict[str, Choice] = field(default_factory=dict)  # an object -> that its zones are less than the whole
     parts: int = 0  # functions that are made of its parallel loops
-    printed: dict[str, str] = field(default_factory=dict)  # register -> the name that it is printed by
 
     @property
     def entry(self) -> Block:
         return next(iter(self.blocks.values()))
 
-    def fresh(self, hint: str) -> str:
-        name = next(name for k in itertools.count(1) if (name := f"%{hint}.{k}") not in self.names)
+    def fresh(self, hint: str, is_plain: bool = False) -> str:
+        """A new name, as our language takes it; without a number where it may be."""
+        stem = "%" + re.sub(r"\W", "_", hint, flags=re.ASCII)[:MOST_NAME]
+        ends = itertools.chain([""] * is_plain, (f".{k}" for k in itertools.count(1)))
+        name = next(stem + end for end in ends if stem + end not in self.names)
         self.names.add(name)
         return name
-
-    def make(self, op: str, *args: Value, place: Place, hint: str = "t", **fields) -> Instruction:
-        """An instruction with a fresh result."""
-        return Instruction(op, self.fresh(hint), list(args), place, **fields)
-
-    def new_block(self, hint: str) -> Block:
-        block = Block(self.fresh(hint)[1:])
-        self.blocks[block.name] = block
-        return block
 
     def instructions(self) -> list[Instruction]:
         return [x for block in self.blocks.values() for x in block.all()]
@@ -151,50 +181,3 @@ class Function:
                 return None
             total += min(ends)
         return total
-
-    def substitute(self, by: dict[str, Value]) -> None:
-        """Puts values in place of registers."""
-
-        def final(value: Value) -> Value:
-            while value in by:
-                value = by[value]
-            return value
-
-        def said(claims: list[Claim]) -> list[Claim]:
-            return [c._replace(form=c.form.replaced(lambda register: Form.of(final(register)))) for c in claims]
-
-        for x in self.instructions() if by else []:
-            x.incoming = [(final(value), label) for value, label in x.incoming]
-            x.args, x.index, x.shows = [final(value) for value in x.args], final(x.index), said(x.shows)
-        for block in self.blocks.values() if by else []:
-            block.keeps = said(block.keeps)
-            ends = [said([Claim(zone.low, self.place), Claim(zone.high, self.place)]) for zone in block.foot]
-            block.foot = [zone._replace(low=a.form, high=b.form) for zone, (a, b) in zip(block.foot, ends)]
-
-    def predecessors(self) -> dict[str, list[str]]:
-        before = {name: [] for name in self.blocks}
-        for block in self.blocks.values():
-            for target in block.successors():
-                before[target].append(block.name)
-        return before
-
-    def change_edge(self, block: str, old: str, *new: str) -> None:
-        """What the phis of a block take from `old` they take from the new ones."""
-        for phi in self.blocks[block].phis:
-            same = [(value, name) for value, label in phi.incoming if label == old for name in new]
-            phi.incoming = [entry for entry in phi.incoming if entry[1] != old] + same
-
-
-def order_of(function: Function) -> list[str]:
-    """The blocks in reverse postorder, the bodies of loops before their exits."""
-    out, seen = [], {function.entry.name}
-    stack = [(function.entry.name, function.entry.successors()[:])]
-    while stack:
-        name, rest = stack[-1]
-        if not rest:
-            out.append(name)
-            stack.pop()
-        elif (target := rest.pop()) not in seen:
-            seen.add(target)
-            stack.append((target, function.blocks[target].successors()[:]))
-    return out[::-1]

@@ -3,7 +3,7 @@ way is refused that was only tried, all is translated again without it; none cha
 import pathlib
 import re
 import subprocess
-from typing import NamedTuple
+from typing import NamedTuple, Optional
 
 from .ir import Choice
 from .printer import Printed, print_module
@@ -11,6 +11,7 @@ from .translate import translate
 from .tree import Tree
 
 MOST_TRIES = 200
+UNJUDGED = -1  # a rule's number, where there is no program
 
 
 class Verdict(NamedTuple):
@@ -20,81 +21,50 @@ class Verdict(NamedTuple):
     at: int = 0  # the line of the module
 
 
-class Program:
-    """The program `tapirvm`, asked about a file."""
+class Judge:
+    """One way to translate a file, which may put in more tests. Without a program nothing that was tried stays."""
 
-    def __init__(self, path: str, file: str):
-        self.path, self.file = path, file
+    def __init__(self, program: Optional[str], file: str, tree: Tree, entry: str, is_thorough: bool = False):
+        self.program, self.file, self.tree, self.entry, self.is_thorough = program, file, tree, entry, is_thorough
+        self.refused: set[Choice] = set()
 
     def ask(self, *words: str) -> subprocess.CompletedProcess:
-        return subprocess.run([self.path, *words, self.file], capture_output=True, text=True)
-
-    def verdict(self) -> Verdict:
-        done = self.ask("verify", "--annotate")
-        found = re.search(r"refused (\d+) line (\d+)", done.stdout)
-        if found:
-            return Verdict(done.stdout, done.returncode, int(found[1]), int(found[2]))
-        return Verdict(done.stdout + done.stderr, done.returncode)
+        return subprocess.run([self.program, *words, self.file], capture_output=True, text=True)
 
     def explained(self) -> str:
         return self.ask("explain", "--annotate").stdout
 
-
-class Judge:
-    def __init__(self, program: Program, tree: Tree, entry: str, is_thorough: bool = False):
-        self.program, self.tree, self.entry, self.is_thorough = program, tree, entry, is_thorough
-        self.refused: set[Choice] = set()
-        self.printed = Printed()
-        self.more: dict[tuple[str, str], list[str]] = {}  # lines for blocks, which `explain` proposes
-
-    def write(self) -> None:
+    def verdict(self) -> Verdict:
         self.unit = translate(self.tree, self.entry, self.refused, self.is_thorough)
-        self.printed = print_module(self.unit, self.more)
-        pathlib.Path(self.program.file).write_text(self.printed.text())
+        self.printed: Printed = print_module(self.unit)
+        pathlib.Path(self.file).write_text("".join(line.text + "\n" for line in self.printed))
+        if self.program is None:
+            return Verdict("", 0, UNJUDGED)
+        done = self.ask("verify", "--annotate")
+        found = re.search(r"refused (\d+) line (\d+)", done.stdout)
+        told = done.stdout if found else done.stdout + done.stderr
+        return Verdict(told, done.returncode, *map(int, found.groups() if found else ()))
 
     def judge(self) -> Verdict:
         for _ in range(MOST_TRIES):
-            self.write()
-            verdict = self.program.verdict()
+            verdict = self.verdict()
             tried = self.tried(verdict) - self.refused if verdict.rule else set()
-            if not tried and not (verdict.rule == 702 and self.take_proposed()):
+            if not tried:
                 break
             self.refused |= tried
         return verdict
-
-    def take_proposed(self) -> bool:
-        """Takes what `explain` proposes to be left in blocks: first that it is 0 or more, then that it is left. Whether
-        that is new."""
-        added = False
-        proposed = r"try: ;! (left \S+ (\S+)), (?:after|in place of) line (\d+)"
-        for left, rest, at in re.findall(proposed, self.program.explained()):
-            label = next(line for line in self.printed[int(at) - 1 :: -1] if line.text.endswith(":"))
-            lines = self.more.setdefault((label.function.name, label.text[:-1]), [])
-            new = [text for text in (f"keeps {rest} >= 0", left) if text not in lines and ("%" in rest or text == left)]
-            lines += new[:1]
-            added |= bool(new)
-        return added
 
     def tried(self, verdict: Verdict) -> set[Choice]:
         """The ways on which what is refused rests."""
         line = self.printed.line(verdict.at)
         f, x, choices = line.function, line.of, {line.choice}
-        if verdict.rule == 503 and x is not None:
-            choices.add(x.nsw)
-        elif verdict.rule == 402 and x is not None:
-            choices |= {f.unset.get(object) for object in [x.object, *x.args]}
-        elif verdict.rule in (601, 604) and x is not None:
+        if verdict.rule == UNJUDGED:
+            choices = {line.choice for line in self.printed} | {line.of.nsw for line in self.printed if line.of}
+        elif verdict.rule in (402, 503) and x:
+            choices |= {x.nsw, *[f.unset.get(object) for object in [x.object, *x.args] if verdict.rule == 402]}
+        elif verdict.rule in (601, 604) and x:
             choices |= {f.tried.get(x.object)} if x.object else set(f.tried.values())
         elif verdict.rule == 505:
-            asked = re.findall(r"asked by line (\d+)", self.program.explained())
+            asked = re.findall(r"asked by line (\d+)", self.explained())
             choices |= {self.printed.line(int(number)).choice for number in asked}
         return choices - {None}
-
-    def take_fallbacks(self) -> None:
-        """Without a verdict nothing that was tried stays."""
-        before = -1
-        while len(self.refused) > before:
-            before = len(self.refused)
-            self.write()
-            self.refused |= {line.choice for line in self.printed if line.choice}
-            self.refused |= {x.nsw for f in self.unit.functions for x in f.instructions() if x.nsw}

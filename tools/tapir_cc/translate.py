@@ -1,11 +1,7 @@
 """From the tree of a C file to functions of our language. In: the tree, the function where the run begins, and the ways
 that are not to be tried. Out: the functions that it needs, callees first, and the globals."""
-from typing import Optional
-
-from .clean import clean
 from .expressions import Cell
-from .forms import Form
-from .ir import Choice, Fault, Function, Place
+from .ir import PURE, Choice, Form, Function, Place
 from .parts import Parts
 from .tree import Node, Tree, Type
 
@@ -16,8 +12,8 @@ ALLOWED = ("__tapir_", "memset")
 class Unit:
     """What is made of a file."""
 
-    def __init__(self, tree: Tree, refused: set[Choice], is_thorough: bool):
-        self.refused, self.is_thorough = refused, is_thorough
+    def __init__(self, tree: Tree, entry: str, refused: set[Choice], is_thorough: bool):
+        self.entry, self.refused, self.is_thorough = entry, refused, is_thorough
         self.globals: dict[str, Place] = {}
         self.objects: dict[str, Cell] = {}  # a global's id -> what it names
         self.extents: dict[str, int] = {}
@@ -31,54 +27,46 @@ class Unit:
         type, place = node.type, node.place
         plain = node.tree.type_of(node.data["type"]["qualType"].replace("volatile ", ""))
         (plain if plain.is_number or plain.lengths else type).check(place)
-        if type.is_pointer or plain.bytes < 4:
-            kind = "a pointer" if type.is_pointer else plain.base
-            raise Fault(place, f"{name} is of {kind}, which memory does not hold", "write int64_t or int")
-        if node.data.get("storageClass") == "extern":
-            raise Fault(place, f"{name} is not in this file", "define it here")
-        if any(not self.is_zero(x) for x in node.inner if "init" in node.data):
-            change = "fill it in a function, or from the host (--set, --load)"
-            raise Fault(place, f"{name} has an initial value", change)
+        is_kept, kind = plain.bytes >= 4 and not type.is_pointer, "a pointer" if type.is_pointer else plain.base
+        place.refuse(not is_kept, f"{name} is of {kind}, which memory does not hold", "write int64_t or int")
+        place.refuse(node.data.get("storageClass") == "extern", f"{name} is not in this file", "define it here")
+        is_set = "init" in node.data and not all(map(self.is_zero, node.inner))
+        change = "fill it in a function, or from the host (--set, --load)"
+        place.refuse(is_set, f"{name} has an initial value", change)
         object = "@" + name
         self.globals[object], self.extents[object], self.objects[node.id] = place, plain.cells, Cell(object, 0)
-        if sum(self.extents.values()) > MOST_CELLS:
-            text = f"with {name} the globals have {sum(self.extents.values())} cells"
-            raise Fault(place, text, f"a module has at most {MOST_CELLS}")
+        cells = sum(self.extents.values())
+        text = f"with {name} the globals have {cells} cells"
+        place.refuse(cells > MOST_CELLS, text, f"a module has at most {MOST_CELLS}")
 
     def is_zero(self, node: Node) -> bool:
         parts = node.inner + [Node(x, node.tree) for x in node.data.get("array_filler", [])]
         return node.data.get("value", "0") == "0" and all(map(self.is_zero, parts))
 
-    def callees_first(self, entry: str) -> list[Node]:
+    def callees_first(self) -> list[Node]:
         """The functions that a run may call."""
         out: list[Node] = []
 
         def visit(body: Node, above: list[str]) -> None:
-            for x in [x for x in body.walk() if x.callee()] if body not in out else ():
+            for x in [x for x in body.walk() if x.callee()]:
                 name, callee = x.callee(), self.bodies.get(x.callee())
-                if callee is None and not name.startswith(ALLOWED):
-                    raise Fault(x.place, f"{name} is not in this file", "put its code here")
-                if name in above:
-                    change = "make one function of them, with a parameter that says which"
-                    raise Fault(x.place, f"{body.name} and {name} call each other", change)
-                if callee is not None and callee is not body:
-                    visit(callee, above + [body.name])
-            if body not in out:
-                out.append(body)
+                is_there, change = callee or name.startswith(ALLOWED), "with a parameter that says which"
+                x.place.refuse(not is_there, f"{name} is not in this file", "put its code here")
+                text = f"{body.name} and {name} call each other"
+                x.place.refuse(name in above, text, f"make one function of them, {change}")
+                if callee not in (None, body, *out):
+                    visit(callee, [*above, body.name])
+            out.append(body)
 
-        first = self.bodies.get(entry)
-        if first is None:
-            text = f"there is no function {entry}, where the run begins"
-            raise Fault(Place(1, 1), text, "name another one by --entry")
+        first, text = self.bodies.get(self.entry), f"there is no function {self.entry}, where the run begins"
+        Place(1, 1).refuse(first is None, text, "name another one by --entry")
         visit(first, [])
-        self.check_entry(first)
+        change = f"write int64_t {first.name}(..)"
+        first.place.refuse(not self.returns(first).is_number, f"{first.name} returns no number", change)
+        for p in [p for p in first.inner if p.kind == "ParmVarDecl"]:
+            text = f"{p.name} is an array, and the host hands over globals alone"
+            first.place.refuse(p.type.is_pointer, text, "make it a global")
         return out
-
-    def check_entry(self, node: Node) -> None:
-        if not self.returns(node).is_number:
-            raise Fault(node.place, f"{node.name} returns no number", f"write int64_t {node.name}(..)")
-        for p in [p for p in node.inner if p.type.is_pointer and p.kind == "ParmVarDecl"]:
-            raise Fault(node.place, f"{p.name} is an array, and the host hands over globals alone", "make it a global")
 
     def returns(self, node: Node) -> Type:
         return node.tree.type_of(node.data["type"]["qualType"].split("(")[0])
@@ -86,38 +74,53 @@ class Unit:
     def lower(self, node: Node) -> None:
         """A function's blocks."""
         f, type = Function("@" + node.name, node.place), self.returns(node)
-        if type.is_pointer or not (type.is_number or type.base == "void"):
-            raise Fault(f.place, f"what {node.name} returns is not taken", "a result is int64_t, int, bool or void")
         f.returns = type.is_number
+        is_taken, change = f.returns or type == Type("void"), "a result is int64_t, int, bool or void"
+        f.place.refuse(not is_taken, f"what {node.name} returns is not taken", change)
         made = Parts(self, f, node.inner[-1])
         for p in [p for p in node.inner if p.kind == "ParmVarDecl"]:
             p.type.check(f.place)
             rows = node.tree.length(node.name, p.name) if p.type.is_pointer else 0
-            if p.type.is_pointer and not rows:
-                raise Fault(f.place, f"the size of {p.name} is not said", f"write int64_t {p.name}[static N]")
+            change = f"write int64_t {p.name}[static N]"
+            f.place.refuse(p.type.is_pointer and not rows, f"the size of {p.name} is not said", change)
             made.parameter(p.id, p.name, rows * p.type.cells)
         made.run()
         self.functions.append(f)
 
 
 def translate(tree: Tree, entry: str, refused: set[Choice], is_thorough: bool) -> Unit:
-    unit = Unit(tree, refused, is_thorough)
-    for node in unit.callees_first(entry):
-        unit.lower(node)
+    before = None
+    while refused != before:  # (until no variable changes in a loop that seems to)
+        before, unit = set(refused), Unit(tree, entry, refused, is_thorough)
+        for node in unit.callees_first():
+            unit.lower(node)
     for f in unit.functions:
-        clean(f)
-        f.measure = f.measure or falling(f)
-    for f in unit.functions:
-        f.name = "@main" if f.name == "@" + entry else f.name
-        for x in f.instructions():
-            x.callee = "@main" if x.callee == "@" + entry else x.callee
+        drop_unused(f)
+        f.notes = falling(f) | f.notes
     return unit
 
 
-def falling(f: Function) -> Optional[tuple[Form, int]]:
-    """A parameter that falls in each self call, with its bound."""
+def falling(f: Function) -> dict[str, str]:
+    """Of a parameter that falls in each self call, its bound."""
     for k, changes in f.falls.items():
         most = f.most(Form.of(f.parameters[k]))
-        if most is not None and all(c.is_constant and c.constant < 0 for c in changes):
-            return Form.of(f.parameters[k]), most
-    return None
+        if most is not None and all(not change.terms and change.constant < 0 for change in changes):
+            return {"measure": f"{f.parameters[k]} max {most}"}
+    return {}
+
+
+def drop_unused(f: Function) -> None:
+    """Takes out what no effect and no claim rests on, also what only uses itself round a loop."""
+    definitions, blocks, live = f.definitions(), f.blocks.values(), set()
+    said = [claim.form for block in blocks for claim in block.keeps]
+    said += [form for block in blocks for zone in block.foot for form in (zone.low, zone.high)]
+    work = [register for form in said for register in form.terms]
+    work += [value for x in f.instructions() if x.op not in PURE for value in x.uses()]
+    while work:
+        value = work.pop()
+        if value in definitions and value not in live:
+            live.add(value)
+            work += definitions[value].uses()
+    for block in blocks:
+        block.phis = [x for x in block.phis if x.result in live]
+        block.body = [x for x in block.body if x.op not in PURE or x.result in live]

@@ -9,9 +9,11 @@ import sys
 from functools import cached_property
 from typing import Iterator, NamedTuple
 
-from .ir import Fault, Place
+from .ir import Place
 
 FLAGS = ["-w", "-fsyntax-only", "-DTAPIR_CC"]
+SETS = {"CompoundAssignOperator", "UnaryOperator", "BinaryOperator"}
+VARIABLES = {"VarDecl", "ParmVarDecl"}
 QUALIFIERS = re.compile(r"\b(?:const|restrict|__restrict|register)\b ?")
 TYPE = re.compile(r"(\w[\w ]*?) ?(\*|\(\*\))? ?((?:\[\d+\])*)")
 WORDS = {"long": "long", "long long": "long", "unsigned long": "ulong", "unsigned long long": "ulong", "int": "int"}
@@ -25,10 +27,6 @@ NOT_TAKEN = [  # where a type has it: what is told, and what to write
     (r"struct|union", "a struct is not taken", "make an array for each field"),
     ("", "{} is not taken", "write int64_t, int or bool"),
 ]  # fmt: skip
-
-
-class Missing(Exception):
-    """A program that is not there."""
 
 
 class Type(NamedTuple):
@@ -53,9 +51,8 @@ class Type(NamedTuple):
 
     def check(self, place: Place) -> None:
         """Tells a type that is not taken."""
-        if self.base not in WORDS.values():
-            text, change = next((text, change) for word, text, change in NOT_TAKEN if re.search(word, self.base))
-            raise Fault(place, text.format(self.base), change)
+        for word, text, change in NOT_TAKEN if self.base not in WORDS.values() else ():
+            place.refuse(re.search(word, self.base), text.format(self.base), change)
 
 
 class Node:
@@ -90,7 +87,13 @@ class Node:
 
     @cached_property
     def bare(self) -> "Node":
-        return self.inner[0].bare if self.kind in ("ParenExpr", "ConstantExpr", "AttributedStmt") else self
+        return self.inner[-1].bare if self.kind in ("ParenExpr", "ConstantExpr", "AttributedStmt") else self
+
+    @property
+    def unconverted(self) -> "Node":
+        """What is passed as a pointer to anything."""
+        is_cast = self.bare.data.get("castKind") in ("BitCast", "ArrayToPointerDecay")
+        return self.bare.inner[0].unconverted if is_cast else self.bare
 
     def walk(self) -> Iterator["Node"]:
         yield self
@@ -100,20 +103,41 @@ class Node:
     def callee(self) -> str:
         """The function that a call names; none where it is no call, or one through a pointer."""
         parts = self.inner[0].walk() if self.kind == "CallExpr" else ()
-        named = next((x.declared for x in parts if x.kind == "DeclRefExpr"), self)
-        return named.name if named.kind == "FunctionDecl" else ""
-
-    def is_call_of(self, name: str) -> bool:
-        return self.callee() == name
+        named = next((x.declared for x in parts if x.kind == "DeclRefExpr"), None)
+        return named.name if named and named.kind == "FunctionDecl" else ""
 
     def calls_of(self, name: str) -> list["Node"]:
-        return [x for x in self.walk() if x.is_call_of(name)]
+        return [x for x in self.walk() if x.callee() == name]
+
+    def is_spawn(self) -> bool:
+        return self.kind == "IfStmt" and self.inner[0].callee() == "__tapir_detach"
+
+    def spawns(self) -> list["Node"]:
+        return [x for x in self.walk() if x.is_spawn()]
+
+    def own(self) -> set[str]:
+        """The variables that are declared in it."""
+        return {x.id for x in self.walk() if x.kind in VARIABLES}
+
+    def named(self) -> list[tuple[str, str]]:
+        """The variables that it names, as often as it does: id and name."""
+        named = [x.declared for x in self.walk() if x.kind == "DeclRefExpr"]
+        return [(x.id, x.name) for x in named if x.kind in VARIABLES]
+
+    def ways(self, *others: "Node") -> dict[str, set[str]]:
+        """The variables that it sets, or others do, and how."""
+        ways: dict[str, set[str]] = {}
+        for x in [x for node in (self, *others) for x in node.walk() if x.kind in SETS]:
+            if x.opcode in ("=", "++", "--") or x.kind == "CompoundAssignOperator":
+                ways.setdefault(x.inner[0].bare.declared.id, set()).add(x.opcode)
+        return ways
 
 
 class Tree:
     def __init__(self, clang: str, words: list[str]):
         if not shutil.which(clang):
-            raise Missing(f"{clang} is not there: install it (Debian: apt-get install clang), or name it by --clang")
+            change = "install it (Debian: apt-get install clang), or name it by --clang"
+            sys.exit(f"tapir-cc: {clang} is not there: {change}")
         self.command = [clang, *FLAGS, *words, "-Xclang"]
         self.types: dict[str, str] = {}  # a typedef or an enumeration -> what it stands for
         self.constants: dict[str, int] = {}  # an enumerator's id -> its value

@@ -100,17 +100,6 @@ pub fn greatest<'a>(facts: &[Sum<'a>], sum: &Sum<'a>) -> Option<u64> {
     }
 }
 
-/// How many registers a sum has.
-fn size_of(sum: &Sum<'_>) -> usize {
-    let mut size = 0usize;
-    for (_name, coefficient) in &sum.terms {
-        if *coefficient != 0 {
-            size = size.saturating_add(1);
-        }
-    }
-    size
-}
-
 /// Whether a fact that takes a register out of a sum has a factor then by which it may show that.
 fn may_show(sum: &Sum<'_>, fact: &Sum<'_>) -> bool {
     for (name, coefficient) in &fact.terms {
@@ -124,13 +113,13 @@ fn may_show(sum: &Sum<'_>, fact: &Sum<'_>) -> bool {
 
 /// The greatest number that a sum may come to, as two facts show it; none where they show none.
 pub fn greatest_shown<'a>(facts: &[Sum<'a>], sum: &Sum<'a>) -> Option<u64> {
-    let mut most = if size_of(sum) <= 2 {
+    let mut most = if sum.size() <= 2 {
         greatest_apart(facts, sum)
     } else {
         None
     };
     for fact in facts {
-        if size_of(fact) == 2 && may_show(sum, fact) {
+        if fact.size() == 2 && may_show(sum, fact) {
             most = bound_among(most, greatest_by(facts, sum, fact), true);
         }
     }

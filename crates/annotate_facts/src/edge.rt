@@ -224,9 +224,14 @@ pub fn is_phi(phis: &[Phi], name: &str) -> bool {
     phi_of(phis, name).is_some()
 }
 
+/// Whether the block's instructions make the register.
+pub fn makes(block: &Block, name: &str) -> bool {
+    definition_among(block.steps.as_slice(), name).is_some()
+}
+
 /// Whether the block defines the register.
 pub fn defines(block: &Block, name: &str) -> bool {
-    definition_among(block.steps.as_slice(), name).is_some() || is_phi(block.phis.as_slice(), name)
+    makes(block, name) || is_phi(block.phis.as_slice(), name)
 }
 
 /// Whether one of these phis takes the register where the run comes from a block of this label.

@@ -1,8 +1,8 @@
 //! What is known wherever a block begins, because all ways to it bring it along.
 
-use crate::bound::{bound_among, greatest_number};
+use crate::bound::bound_among;
 use crate::definition::{moved, sum_before};
-use crate::edge::{Edge, Way, block_at, defines, edges_of, is_phi};
+use crate::edge::{Edge, Way, block_at, defines, edges_of, makes};
 use crate::fact::Facts;
 use crate::guess::{Place, dominators_of};
 use crate::heap::Heap;
@@ -150,6 +150,16 @@ impl<'a> Known<'a> {
         }
     }
 
+    /// Takes what was stated last as what may be so where a block begins, or from its end on.
+    fn suppose(&mut self, block: usize, is_at_head: bool) {
+        let stated = self.facts.take();
+        if is_at_head {
+            extend(self.heap, &mut self.guessed, block, stated.as_slice())
+        } else {
+            extend(self.heap, &mut self.made, block, stated.as_slice())
+        }
+    }
+
     /// The last of the blocks before this one whose instructions make a register of one sum that another one has not.
     fn maker_of(&self, end: usize, sum: &Sum<'a>, other: &Sum<'a>) -> Option<usize> {
         let mut maker = None;
@@ -166,12 +176,10 @@ impl<'a> Known<'a> {
     fn guess_moved(&mut self, edge: Edge<'a>, from: &'a Block, sum: &Sum<'a>, before: Sum<'a>) {
         if names_phis(from, &before) {
             self.facts.add(before);
-            let stated = self.facts.take();
-            extend(self.heap, &mut self.guessed, edge.from, stated.as_slice());
+            self.suppose(edge.from, true);
         } else if let Some(maker) = self.maker_of(edge.from, &before, sum) {
             self.facts.add(before);
-            let stated = self.facts.take();
-            extend(self.heap, &mut self.made, maker, stated.as_slice());
+            self.suppose(maker, false);
         }
     }
 
@@ -219,8 +227,7 @@ impl<'a> Known<'a> {
         };
         self.guess_before(block, guesses.as_slice());
         self.facts.add_all(guesses);
-        let stated = self.facts.take();
-        extend(self.heap, &mut self.guessed, block, stated.as_slice());
+        self.suppose(block, true)
     }
 
     /// The same of all blocks.
@@ -240,12 +247,7 @@ impl<'a> Known<'a> {
     /// States a fact that may be so.
     fn add_extra(&mut self, extra: &Extra<'a>) {
         self.facts.add(extra.fact.copy());
-        let stated = self.facts.take();
-        if extra.is_at_head {
-            extend(self.heap, &mut self.guessed, extra.block, stated.as_slice());
-        } else {
-            extend(self.heap, &mut self.made, extra.block, stated.as_slice());
-        }
+        self.suppose(extra.block, extra.is_at_head)
     }
 
     /// States what may be so at the heads of loops, unless the function has many blocks; then what may be so if that is.
@@ -381,26 +383,6 @@ impl<'a> Known<'a> {
         }
     }
 
-    /// How much more than one sum another one may be, in numbers.
-    fn over(&self, block: usize, one: &Sum<'a>, other: &Sum<'a>) -> Option<i128> {
-        let facts = self.facts_at(block);
-        let difference = other.with(one, -1);
-        match greatest_number(facts.as_slice(), &difference) {
-            Some(most) => Some(most.max(0)),
-            None => None,
-        }
-    }
-
-    /// One of two sums with as much as the other may be more, or their sum where nothing is known of that.
-    fn no_less(&self, block: usize, one: &Sum<'a>, other: &Sum<'a>) -> Sum<'a> {
-        match (self.over(block, one, other), self.over(block, other, one)) {
-            (Some(first), Some(second)) if second < first => other.raised(second),
-            (Some(first), _) => one.raised(first),
-            (None, Some(second)) => other.raised(second),
-            (None, None) => one.with(other, 1),
-        }
-    }
-
     /// The greater of two sums, or one with what it may lack, or their sum where nothing is known of that.
     pub fn greater(&self, block: usize, one: &Sum<'a>, other: &Sum<'a>) -> Sum<'a> {
         match (
@@ -410,7 +392,7 @@ impl<'a> Known<'a> {
             (Some(first), Some(second)) if second < first => other.raised(second),
             (Some(first), _) => one.raised(first),
             (None, Some(second)) => other.raised(second),
-            (None, None) => self.no_less(block, one, other),
+            (None, None) => one.with(other, 1),
         }
     }
 
@@ -534,15 +516,11 @@ fn rest_of<'a>(sum: &Sum<'a>, fact: &Sum<'a>) -> Option<Sum<'a>> {
 
 /// How much a sum lacks to be at least 0 if a fact is, where it is a multiple of that and a number.
 fn lack_by<'a>(sum: &Sum<'a>, fact: &Sum<'a>) -> Option<i128> {
-    let Some((name, coefficient)) = fact.first() else {
-        return None;
-    };
-    let times = sum.coefficient(name).checked_div(coefficient).unwrap_or(0);
-    if times <= 0 {
-        return None;
-    }
-    match sum.number_with(fact, 0i128.saturating_sub(times)) {
-        Some(number) => Some(number.saturating_neg().max(0)),
+    match rest_of(sum, fact) {
+        Some(rest) => match rest.as_number() {
+            Some(number) => Some(number.saturating_neg().max(0)),
+            None => None,
+        },
         None => None,
     }
 }
@@ -550,11 +528,7 @@ fn lack_by<'a>(sum: &Sum<'a>, fact: &Sum<'a>) -> Option<i128> {
 /// Whether a sum names a register that the block's instructions make, and that another sum has not.
 fn makes_more(block: &Block, sum: &Sum<'_>, other: &Sum<'_>) -> bool {
     for (name, coefficient) in &sum.terms {
-        if *coefficient != 0
-            && !other.has(name)
-            && defines(block, name)
-            && !is_phi(block.phis.as_slice(), name)
-        {
+        if *coefficient != 0 && !other.has(name) && makes(block, name) {
             return true;
         }
     }
@@ -570,6 +544,16 @@ fn names_phis(block: &Block, sum: &Sum<'_>) -> bool {
         }
     }
     count >= 2
+}
+
+/// Whether a sum names a register that the block's instructions make.
+pub fn names_made(block: &Block, sum: &Sum<'_>) -> bool {
+    for (name, coefficient) in &sum.terms {
+        if *coefficient != 0 && makes(block, name) {
+            return true;
+        }
+    }
+    false
 }
 
 /// Whether a sum names a register that the block defines.

@@ -1,10 +1,10 @@
 //! What instructions make known of the registers that they define.
 
 use crate::definition::{Equation, definition_of, is_exact};
-use crate::edge::{definition_in, register_of};
+use crate::edge::register_of;
 use crate::heap::Heap;
 use crate::sum::Sum;
-use syntax::{BinaryOperator, Conversion, Function, Instruction, Operand, Step};
+use syntax::{BinaryOperator, Conversion, Instruction, Operand, Step};
 
 /// The greatest number by which a quotient is known.
 const MOST_DIVISOR: i128 = 1_000_000;
@@ -101,7 +101,7 @@ pub fn facts_of<'a>(heap: &'a Heap, name: &'a str, instruction: &'a Instruction)
 }
 
 /// Whether a sum names a register that these steps of a block define.
-fn names_made(sum: &Sum<'_>, steps: &[Step]) -> bool {
+fn is_made_by(sum: &Sum<'_>, steps: &[Step]) -> bool {
     for step in steps {
         if let Some(name) = register_of(&step.instruction) {
             if sum.has(name) {
@@ -120,7 +120,7 @@ fn most_by<'a>(facts: &[Sum<'a>], sum: &Sum<'a>, name: &str, steps: &[Step]) -> 
         let times = 0i128.saturating_sub(times);
         if times > 0 {
             let rest = sum.with(fact, times);
-            if !rest.has(name) && !names_made(&rest, steps) {
+            if !rest.has(name) && !is_made_by(&rest, steps) {
                 return Some(rest);
             }
         }
@@ -168,31 +168,4 @@ pub fn most_before<'a>(
         }
     }
     Some(most)
-}
-
-/// Whether an instruction makes a register of which nothing is known by it.
-fn is_opaque<'a>(heap: &'a Heap, name: &'a str, instruction: &'a Instruction) -> bool {
-    definition_of(heap, instruction).is_none() && facts_of(heap, name, instruction).is_empty()
-}
-
-/// No less than a sum, without those of its registers of which their instructions make nothing known, as far as one of some facts bounds them.
-pub fn most_along<'a>(
-    heap: &'a Heap,
-    function: &'a Function,
-    sum: &Sum<'a>,
-    facts: &[Sum<'a>],
-) -> Sum<'a> {
-    let mut most = sum.copy();
-    for (name, coefficient) in &sum.terms {
-        if *coefficient != 0 {
-            if let Some(instruction) = definition_in(function, name) {
-                if is_opaque(heap, name, instruction) {
-                    if let Some(rest) = most_by(facts, &most, name, &[]) {
-                        most = rest;
-                    }
-                }
-            }
-        }
-    }
-    most
 }

@@ -27,8 +27,8 @@ pub use edge::{
 pub use fact::{Facts, has_many_instructions};
 pub use guess::{Place, Rise, dominators_of, is_above, rise_of};
 pub use heap::Heap;
-pub use keep::{Extra, Known, MOST_BLOCKS, known_of, names_own};
-pub use learned::{facts_of, most_along, most_before};
+pub use keep::{Extra, Known, MOST_BLOCKS, known_of, names_made, names_own};
+pub use learned::{facts_of, most_before};
 pub use live::Lives;
 pub use search::{lines_between, times_for};
 pub use sum::Sum;

@@ -3,22 +3,51 @@
 use crate::heap::Heap;
 use crate::sum::Sum;
 
-/// The most sums that a search looks at.
+/// The most sums that a search keeps.
 const MOST_RESTS: usize = 128;
 
 /// What is left to be shown once a fact is taken out of another rest.
 #[derive(Drop)]
 struct Rest<'a> {
     sum: Sum<'a>,
+    /// How many facts were taken out until then, and how many show the whole at least: one more for each register that is left.
+    steps: usize,
+    facts: usize,
     /// All its coefficients together, by which most others are seen to have other registers.
     total: i128,
     /// The number of that rest; of the first one its own.
     of: usize,
     fact: usize,
     times: i128,
+    /// Whether facts were taken out of it.
+    is_followed: bool,
 }
 
-/// The rests in the order in which they were found; the first one is what is to be shown.
+impl<'a> Rest<'a> {
+    fn new(sum: Sum<'a>, steps: usize, of: usize, fact: usize, times: i128) -> Rest<'a> {
+        let facts = steps.saturating_add(sum.size());
+        let total = sum.total();
+        Rest {
+            sum,
+            steps,
+            facts,
+            total,
+            of,
+            fact,
+            times,
+            is_followed: false,
+        }
+    }
+
+    /// Whether it is to be followed before another one: fewer facts may do, or as many and it has a greater number, of which they may take more.
+    fn promises_more(&self, other: &Rest<'a>) -> bool {
+        self.facts < other.facts
+            || self.facts == other.facts && self.sum.constant > other.sum.constant
+    }
+}
+
+/// The rests in the order in which they were found; the first one is what is to be shown. Of those with the same registers that are not followed yet only the
+/// one with the greatest number is kept.
 #[derive(Drop)]
 struct Search<'w, 'a> {
     heap: &'a Heap,
@@ -76,18 +105,37 @@ impl<'a> Search<'_, 'a> {
         if least == 0 { None } else { found }
     }
 
-    /// Whether a rest with the same registers and no less a number was found.
-    fn is_found(&self, sum: &Sum<'a>) -> bool {
-        let total = sum.total();
-        for rest in &self.rests {
-            if rest.total == total
-                && rest.sum.constant >= sum.constant
-                && rest.sum.apart_from(sum).is_some()
-            {
-                return true;
+    /// Where a rest is to stand: in place of one with the same registers and a lesser number that is not followed yet, else behind all. None where one with the
+    /// same registers has no less a number.
+    fn place_for(&self, next: &Rest<'a>) -> Option<usize> {
+        let mut place = self.rests.len();
+        for (number, rest) in self.rests.iter().enumerate() {
+            if rest.total == next.total {
+                if let Some(over) = rest.sum.apart_from(&next.sum) {
+                    if over >= 0 {
+                        return None;
+                    }
+                    if !rest.is_followed {
+                        place = number;
+                    }
+                }
             }
         }
-        false
+        Some(place)
+    }
+
+    /// Keeps a rest, if it may stand in a line and says more than those that are there, and there is room.
+    fn keep(&mut self, rest: Rest<'a>) {
+        if !rest.sum.has_form_terms() {
+            return;
+        }
+        if let Some(place) = self.place_for(&rest) {
+            if place < self.rests.len() {
+                self.rests[place] = rest;
+            } else if place < MOST_RESTS {
+                self.heap.push(&mut self.rests, rest);
+            }
+        }
     }
 
     /// Adds what is left of a rest without so many times a fact. Its number, where that shows the rest: it is a number, and not below 0.
@@ -95,71 +143,86 @@ impl<'a> Search<'_, 'a> {
         let (Some(rest), Some(taken)) = (self.rests.get(of), self.facts.get(fact)) else {
             return None;
         };
-        let sum = rest.sum.with(taken, 0i128.saturating_sub(times));
+        let sum = rest.sum.with(taken, times.saturating_neg());
+        let next = Rest::new(sum, rest.steps.saturating_add(1), of, fact, times);
         let number = self.rests.len();
-        let is_shown = matches!(sum.as_number(), Some(left) if left >= 0);
         self.compared = self.compared.saturating_add(number);
-        if is_shown || number < MOST_RESTS && sum.has_form_terms() && !self.is_found(&sum) {
-            let total = sum.total();
-            let rest = Rest {
-                sum,
-                total,
-                of,
-                fact,
-                times,
-            };
-            self.heap.push(&mut self.rests, rest);
+        match next.sum.as_number() {
+            Some(left) if left < 0 => None,
+            Some(_) => {
+                self.heap.push(&mut self.rests, next);
+                Some(number)
+            }
+            None => {
+                self.keep(next);
+                None
+            }
         }
-        if is_shown { Some(number) } else { None }
     }
 
-    /// Takes each fact out of a rest that has a register as the rest has it. The number of a rest that is shown, as soon as there is one.
-    fn take_out(&mut self, of: usize, name: &'a str, coefficient: i128) -> Option<usize> {
+    /// Takes each fact out of a rest that has a register as the rest has it. The lines that show a rest, as soon as there are some.
+    fn take_out(&mut self, of: usize, name: &'a str, coefficient: i128) -> Option<Vec<Sum<'a>>> {
         let facts = self.facts;
         for (number, fact) in facts.iter().enumerate() {
             if let Some(times) = times_for(coefficient, fact.coefficient(name)) {
-                let shown = self.push(of, number, times);
-                if shown.is_some() {
-                    return shown;
+                if let Some(last) = self.push(of, number, times) {
+                    let lines = self.lines_to(last);
+                    if lines.is_some() {
+                        return lines;
+                    }
                 }
             }
         }
         None
     }
 
-    /// Takes facts out of the rest of this number.
-    fn follow(&mut self, of: usize) -> Option<usize> {
-        let found = match self.rests.get(of) {
-            Some(rest) => self.register_of(&rest.sum),
+    /// Takes facts out of the rest of this number. What is looked at is taken off the effort: each fact, by each of its registers, and the rests compared.
+    fn follow(&mut self, of: usize, effort: &mut usize) -> Option<Vec<Sum<'a>>> {
+        if of >= self.rests.len() {
+            return None;
+        }
+        self.rests[of].is_followed = true;
+        let looks = self.rests[of].sum.terms.len().saturating_add(1);
+        let lines = match self.register_of(&self.rests[of].sum) {
+            Some((name, coefficient)) => self.take_out(of, name, coefficient),
             None => None,
         };
-        match found {
-            Some((name, coefficient)) => self.take_out(of, name, coefficient),
+        let cost = self.facts.len().saturating_mul(looks);
+        *effort = effort.saturating_sub(cost.saturating_add(self.compared));
+        self.compared = 0;
+        lines
+    }
+
+    /// The rest that promises most of those that are not followed yet; the first one of several.
+    fn next(&self) -> Option<usize> {
+        let mut best: Option<(usize, &Rest<'a>)> = None;
+        for (number, rest) in self.rests.iter().enumerate() {
+            let is_better = match best {
+                Some((_number, other)) => rest.promises_more(other),
+                None => true,
+            };
+            if is_better && !rest.is_followed {
+                best = Some((number, rest));
+            }
+        }
+        match best {
+            Some((number, _rest)) => Some(number),
             None => None,
         }
     }
 
-    /// What it counts for to look at the rest of this number: each fact, by each of its registers.
-    fn cost_of(&self, of: usize) -> usize {
-        let registers = match self.rests.get(of) {
-            Some(rest) => rest.sum.terms.len(),
-            None => 0,
-        };
-        self.facts.len().saturating_mul(registers.saturating_add(1))
-    }
-
-    /// Looks at the rests in their order; the number of one that is shown. What is looked at is taken off the effort.
-    fn run(&mut self, effort: &mut usize) -> Option<usize> {
-        for of in 0..MOST_RESTS {
-            if of >= self.rests.len() || *effort == 0 {
+    /// Follows one rest after another, each time the one that promises most; the lines that show one.
+    fn run(&mut self, effort: &mut usize) -> Option<Vec<Sum<'a>>> {
+        for _rest in 0..MOST_RESTS {
+            if *effort == 0 {
                 return None;
             }
-            let shown = self.follow(of);
-            let cost = self.cost_of(of).saturating_add(self.compared);
-            self.compared = 0;
-            *effort = effort.saturating_sub(cost);
-            if shown.is_some() {
-                return shown;
+            let Some(of) = self.next() else {
+                return None;
+            };
+            let lines = self.follow(of, effort);
+            if lines.is_some() {
+                return lines;
             }
         }
         None
@@ -276,16 +339,6 @@ pub fn lines_between<'a>(
         rests: heap.list(),
         compared: 0,
     };
-    let whole = Rest {
-        sum: sum.copy(),
-        total: sum.total(),
-        of: 0,
-        fact: 0,
-        times: 0,
-    };
-    heap.push(&mut search.rests, whole);
-    match search.run(effort) {
-        Some(last) => search.lines_to(last),
-        None => None,
-    }
+    heap.push(&mut search.rests, Rest::new(sum.copy(), 0, 0, 0, 0));
+    search.run(effort)
 }

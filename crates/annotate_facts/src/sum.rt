@@ -186,18 +186,6 @@ impl<'a> Sum<'a> {
         }
     }
 
-    /// The number that the sum and so many times another one are, not 0; none where a register stands in that.
-    pub fn number_with(&self, other: &Sum<'a>, times: i128) -> Option<i128> {
-        if self.has_all(other) && self.is_cancelled(other, times) {
-            Some(
-                self.constant
-                    .saturating_add(other.constant.saturating_mul(times)),
-            )
-        } else {
-            None
-        }
-    }
-
     /// By how much the sum is more than another one with the same registers as often; none where the other has others.
     pub fn apart_from(&self, other: &Sum<'a>) -> Option<i128> {
         if self.has_as_often(other) && other.has_as_often(self) {
@@ -226,27 +214,6 @@ impl<'a> Sum<'a> {
         total
     }
 
-    /// Whether all registers of the other sum stand in this one.
-    fn has_all(&self, other: &Sum<'a>) -> bool {
-        for (name, coefficient) in &other.terms {
-            if *coefficient != 0 && !self.has(name) {
-                return false;
-            }
-        }
-        true
-    }
-
-    /// Whether so many times another sum takes all registers out of this one.
-    fn is_cancelled(&self, other: &Sum<'a>, times: i128) -> bool {
-        for (name, coefficient) in &self.terms {
-            let added = other.coefficient(name).saturating_mul(times);
-            if coefficient.saturating_add(added) != 0 {
-                return false;
-            }
-        }
-        true
-    }
-
     /// Takes the register out; how often it stood in the sum.
     fn take_out(&mut self, name: &str) -> i128 {
         for term in &mut self.terms {
@@ -273,18 +240,25 @@ impl<'a> Sum<'a> {
         sum
     }
 
-    /// Whether a form may name as many registers, with coefficients as great.
-    pub fn has_form_terms(&self) -> bool {
+    /// How many registers stand in the sum.
+    pub fn size(&self) -> usize {
         let mut size = 0usize;
         for term in &self.terms {
-            if !is_within(term.1, MOST_COEFFICIENT) {
-                return false;
-            }
             if term.1 != 0 {
                 size = size.saturating_add(1);
             }
         }
-        size <= MOST_TERMS
+        size
+    }
+
+    /// Whether a form may name as many registers, with coefficients as great.
+    pub fn has_form_terms(&self) -> bool {
+        for term in &self.terms {
+            if !is_within(term.1, MOST_COEFFICIENT) {
+                return false;
+            }
+        }
+        self.size() <= MOST_TERMS
     }
 
     /// Whether a form may be as long and have numbers as great.

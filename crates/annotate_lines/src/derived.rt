@@ -2,9 +2,9 @@
 //! says of it.
 
 use annotate_facts::{
-    Edge, Extra, Known, Sum, block_at, facts_of, greatest_number, is_used_beside, register_of,
+    Edge, Extra, Heap, Known, Sum, block_at, facts_of, greatest_number, is_used_beside, register_of,
 };
-use annotate_zones::Scope;
+use annotate_uses::Scope;
 use syntax::{Block, Operand, Phi};
 
 /// The facts of a block's head that are looked at, and those of its end; the registers of them whose numbers are bounded.
@@ -62,6 +62,20 @@ fn span_of<'a>(facts: &[Sum<'a>], sum: &Sum<'a>) -> Span {
     }
 }
 
+/// That a register lies in a span.
+fn facts_of_span<'a>(heap: &'a Heap, name: &'a str, span: Span) -> Vec<Sum<'a>> {
+    let mut facts = heap.list();
+    if let Some(low) = span.low {
+        let own = Sum::of_register(heap, name, 1);
+        heap.push(&mut facts, own.raised(low.saturating_neg()));
+    }
+    if let Some(high) = span.high {
+        let own = Sum::of_register(heap, name, -1);
+        heap.push(&mut facts, own.raised(high));
+    }
+    facts
+}
+
 impl<'a> Finder<'_, 'a> {
     fn push_extra(&mut self, block: usize, is_at_head: bool, fact: Sum<'a>) {
         if fact.is_form() && self.extras.len() < MOST_FOUND {
@@ -76,14 +90,8 @@ impl<'a> Finder<'_, 'a> {
 
     /// Tries that a register lies in a span.
     fn push_span(&mut self, block: usize, is_at_head: bool, name: &'a str, span: Span) {
-        let heap = self.scope.heap;
-        if let Some(low) = span.low {
-            let own = Sum::of_register(heap, name, 1);
-            self.push_extra(block, is_at_head, own.raised(0i128.saturating_sub(low)));
-        }
-        if let Some(high) = span.high {
-            let own = Sum::of_register(heap, name, -1);
-            self.push_extra(block, is_at_head, own.raised(high));
+        for fact in facts_of_span(self.scope.heap, name, span) {
+            self.push_extra(block, is_at_head, fact);
         }
     }
 
@@ -91,13 +99,8 @@ impl<'a> Finder<'_, 'a> {
     fn bound(&self, facts: &mut Vec<Sum<'a>>, name: &'a str) -> Span {
         let heap = self.scope.heap;
         let span = span_of(facts.as_slice(), &Sum::of_register(heap, name, 1));
-        if let Some(low) = span.low {
-            let own = Sum::of_register(heap, name, 1);
-            heap.push(facts, own.raised(0i128.saturating_sub(low)));
-        }
-        if let Some(high) = span.high {
-            let own = Sum::of_register(heap, name, -1);
-            heap.push(facts, own.raised(high));
+        for fact in facts_of_span(heap, name, span) {
+            heap.push(facts, fact);
         }
         span
     }

@@ -7,10 +7,9 @@ use crate::wanted::Wants;
 use annotate_facts::{
     Extra, Heap, Known, Lives, MOST_BLOCKS, Place, Sum, dominators_of, edges_of, known_of,
 };
-use annotate_left::{Need, Total, needs_of, uses_of};
-use annotate_zones::{
-    Handed, Scope, Stand, firsts_of, handed_of, has_no_zones, hulls_of, waits_for_callee,
-    zones_from,
+use annotate_uses::{
+    Handed, Need, Scope, Stand, Total, firsts_of, handed_of, has_no_zones, hulls_of, needs_of,
+    uses_of, waits_for_callee, zones_from,
 };
 use ir_annotation::push_zone;
 use ir_reader::read;
@@ -22,7 +21,7 @@ use std::mem::replace;
 use syntax::{Block, Function, Module, Zone};
 
 /// The lines of one word that may stand at one place.
-const MOST_LINES: usize = 32;
+pub const MOST_LINES: usize = 32;
 
 /// The facts and rests that are looked at for `shows` lines in all.
 const MOST_EFFORT: usize = 4_000_000;
@@ -426,7 +425,7 @@ impl<'a> Draft<'a> {
 }
 
 /// Puts the blocks of all functions in order.
-fn put_all_in_order(heap: &Heap, module: &mut Module) {
+pub fn put_all_in_order(heap: &Heap, module: &mut Module) {
     let functions = replace(&mut module.functions, Seq::from_vec(heap.list())).into_vec();
     let mut ordered = heap.list();
     for mut function in functions {

@@ -1,11 +1,10 @@
 //! Lines within blocks, with which facts show what is asked at an instruction or along an edge: lines to be tried.
 
 use annotate_facts::{
-    Edge, Equation, Heap, Known, Sum, Way, block_at, definition_of, is_exact, lines_between, moved,
-    register_of, sum_before, times_for,
+    Edge, Equation, Heap, Known, Sum, Way, block_at, facts_of, lines_between, moved, register_of,
+    sum_before, times_for,
 };
-use annotate_left::{Need, given};
-use annotate_zones::{Call, Cells, Scope, ends_of};
+use annotate_uses::{Call, Cells, Need, Scope, ends_of, given};
 use lists::TextBuffer;
 use syntax::{
     BinaryOperator, Block, Conversion, Ending, Inequality, Instruction, Operand, Step, Terminator,
@@ -74,6 +73,14 @@ fn begin_in<'a>(cells: &Cells<'a>, zone: &'a Zone) -> Sum<'a> {
     low
 }
 
+/// Whether an operator makes a quotient or a remainder of signed numbers, which are known where the dividend is not below 0.
+fn is_of_signed_parts(operator: BinaryOperator) -> bool {
+    matches!(
+        operator,
+        BinaryOperator::SignedDivide | BinaryOperator::SignedRemainder
+    )
+}
+
 /// What is at least 0 where cells do not end behind a zone.
 fn end_in<'a>(heap: &'a Heap, cells: &Cells<'a>, zone: &'a Zone) -> Sum<'a> {
     let mut high = Sum::of_form(heap, &zone.high);
@@ -125,25 +132,6 @@ impl<'a> Walk<'a> {
             let sum = Sum::of_inequality(self.scope.heap, inequality);
             self.learn(sum);
         }
-    }
-
-    /// States that a sum lies from one number to another.
-    fn learn_between(&mut self, value: &Sum<'a>, low: i128, high: i128) {
-        self.learn(value.raised(0i128.saturating_sub(low)));
-        self.learn(value.below(high))
-    }
-
-    /// States that a register does.
-    fn learn_bounds(&mut self, name: &'a str, low: i128, high: i128) {
-        let own = Sum::of_register(self.scope.heap, name, 1);
-        self.learn_between(&own, low, high)
-    }
-
-    /// States that a register is this sum.
-    fn learn_equal(&mut self, name: &'a str, value: &Sum<'a>) {
-        let equation = Equation::of(self.scope.heap, name, value);
-        self.learn(equation.most);
-        self.learn(equation.least)
     }
 
     /// Says in lines that sums are at least 0, and states them, if there is room for the lines.
@@ -231,43 +219,6 @@ impl<'a> Walk<'a> {
         self.reach(&sum, None)
     }
 
-    /// States what a quotient or a remainder by a number is.
-    fn learn_part(
-        &mut self,
-        name: &'a str,
-        operator: BinaryOperator,
-        whole: &'a Operand,
-        divisor: i128,
-    ) {
-        if operator == BinaryOperator::SignedRemainder {
-            return self.learn_bounds(name, 0, divisor.saturating_sub(1));
-        }
-        let mut rest = Sum::of_operand(self.scope.heap, whole, 1);
-        rest.add_term(name, 0i128.saturating_sub(divisor));
-        self.learn_between(&rest, 0, divisor.saturating_sub(1));
-        self.learn(Sum::of_register(self.scope.heap, name, 1))
-    }
-
-    /// States what an operation with a number on its right makes known.
-    fn learn_operation(
-        &mut self,
-        name: &'a str,
-        operator: BinaryOperator,
-        left: &'a Operand,
-        right: i128,
-    ) {
-        match operator {
-            BinaryOperator::And if right >= 0 => self.learn_bounds(name, 0, right),
-            BinaryOperator::SignedDivide | BinaryOperator::SignedRemainder
-                if right >= 1 && right <= 1_000_000 => {
-                if self.is_at_least(1, left, 0) {
-                    self.learn_part(name, operator, left, right);
-                }
-            }
-            _ => {},
-        }
-    }
-
     /// Whether it is known that a conversion changes no number.
     fn is_same(&mut self, conversion: Conversion, operand: &'a Operand) -> bool {
         match conversion {
@@ -284,34 +235,39 @@ impl<'a> Walk<'a> {
     fn learn_conversion(&mut self, name: &'a str, conversion: Conversion, operand: &'a Operand) {
         if self.is_same(conversion, operand) {
             let value = Sum::of_operand(self.scope.heap, operand, 1);
-            self.learn_equal(name, &value);
+            let equation = Equation::of(self.scope.heap, name, &value);
+            self.learn(equation.most);
+            self.learn(equation.least);
         }
         let (low, high) = match conversion {
             Conversion::ZeroExtend => (0, 4_294_967_295),
             _ => ends_of(Width::Bits32),
         };
-        self.learn_bounds(name, low, high)
+        let own = Sum::of_register(self.scope.heap, name, 1);
+        self.learn(own.raised(0i128.saturating_sub(low)));
+        self.learn(own.below(high))
     }
 
     /// States what an instruction makes known of the register that it defines.
+    fn learn_made(&mut self, name: &'a str, instruction: &'a Instruction) {
+        for fact in facts_of(self.scope.heap, name, instruction) {
+            self.learn(fact);
+        }
+    }
+
+    /// The same, where it is known that its operands are as that wants them.
     fn learn_register(&mut self, name: &'a str, instruction: &'a Instruction) {
         match instruction {
-            Instruction::Binary { .. } if is_exact(instruction) => {
-                if let Some(value) = definition_of(self.scope.heap, instruction) {
-                    self.learn_equal(name, &value);
-                }
-            }
-            Instruction::Binary {
-                operator,
-                left,
-                right: Operand::Number(right),
-                ..
-            } => self.learn_operation(name, *operator, left, i128::from(*right)),
             Instruction::Convert {
                 conversion,
                 value,
                 ..
             } => self.learn_conversion(name, *conversion, value),
+            Instruction::Binary { operator, left, .. } => {
+                if !is_of_signed_parts(*operator) || self.is_at_least(1, left, 0) {
+                    self.learn_made(name, instruction);
+                }
+            }
             _ => {},
         }
     }

@@ -1,7 +1,7 @@
 //! Facts that would show what a block asks and its facts do not show: tried where their registers are made, and on the ways there.
 
 use annotate_facts::{
-    Edge, Extra, Heap, Sum, block_at, defines, dominators_of, is_above, is_phi, moved, names_own,
+    Edge, Extra, Heap, Sum, block_at, dominators_of, is_above, moved, names_made, names_own,
     sum_before,
 };
 use syntax::{Block, Function};
@@ -29,16 +29,6 @@ pub struct Wants<'w, 'a> {
     above: Vec<usize>,
     wants: Vec<Want<'a>>,
     extras: Vec<Extra<'a>>,
-}
-
-/// Whether a register of the sum is one that the block's instructions define.
-fn is_made_in(block: &Block, sum: &Sum<'_>) -> bool {
-    for (name, coefficient) in &sum.terms {
-        if *coefficient != 0 && defines(block, name) && !is_phi(block.phis.as_slice(), name) {
-            return true;
-        }
-    }
-    false
 }
 
 impl<'w, 'a> Wants<'w, 'a> {
@@ -103,7 +93,7 @@ impl<'w, 'a> Wants<'w, 'a> {
         let Some(block) = block_at(self.function, home) else {
             return;
         };
-        if is_made_in(block, sum) {
+        if names_made(block, sum) {
             if let Some(before) = sum_before(self.heap, sum, block.steps.as_slice()) {
                 self.push(home, before, moves);
             }

@@ -1,14 +1,11 @@
-//! Cases on threads: two workers inside at once, gates before strands, runs that are recorded, two threads at their seats, and lists of tickets
-//! that several threads take from. Each comes to the same whatever the threads do.
+//! Cases on threads: two workers inside at once, gates before strands, and runs that are recorded. Each comes to the same whatever the threads do.
 
-mod endings;
+mod gates;
 mod records;
 mod runs;
-mod seats;
-mod stops;
-mod tickets;
 
-use cases::{Report, no_memory};
+use crate::modules::verified_file;
+use crate::report::Report;
 use std::hash::RandomState;
 use std::io;
 use std::rt::Files;
@@ -22,8 +19,18 @@ pub fn answer<R: AllocGlobal + Files + Threads + Wait + Clock + Sync>(
     state: RandomState,
     report: &mut Report,
 ) -> io::Result<()> {
-    tickets::answer(rt, rt.alloc(), report).map_err(no_memory)?;
-    runs::answer(rt, state, report)?;
-    records::answer(rt, state, report)?;
-    seats::answer(rt, state, report)
+    let alloc = rt.alloc();
+    let pair = verified_file(rt, state, "examples/pair.ll")?;
+    let stores = verified_file(rt, state, "modules/loop-of-stores.ll")?;
+    let long = verified_file(rt, state, "modules/long-loop.ll")?;
+    let steps = verified_file(rt, state, "examples/parallel-for.ll")?;
+    let pages = verified_file(rt, state, "modules/pages.ll")?;
+    report.title("gates");
+    runs::answer_inside(rt, alloc, &pair, report);
+    runs::answer_strands(rt, alloc, &stores, &long, report);
+    runs::answer_stops(rt, alloc, &long, report);
+    report.title("records");
+    records::answer(rt, alloc, &steps, report);
+    records::answer_ends(rt, alloc, &pages, &long, report);
+    Ok(())
 }

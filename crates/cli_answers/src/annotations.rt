@@ -50,7 +50,8 @@ pub fn print_annotated<W: Write>(
     }
     match annotated(alloc, state, text, effort) {
         Ok(more) => {
-            note_limits(alloc, state, request.file.as_str(), text, effort, beside)?;
+            let file = request.file.as_str();
+            note_limits(alloc, state, file, text, more.as_slice(), effort, beside)?;
             give(alloc, request, more.as_slice(), output, beside)
         }
         Err(refused) => print_refused(&refused, output),

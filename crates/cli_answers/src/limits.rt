@@ -6,12 +6,13 @@ use std::alloc::{AllocError, Global};
 use std::hash::RandomState;
 use verifier::{Effort, Refused};
 
-/// Says which limits a text meets, so that lines that follow may be missing.
+/// Says which limits a text meets, so that lines that follow may be missing; `annotated` is the text with those that were put in.
 pub fn note_limits(
     alloc: Global,
     state: RandomState,
     file: &str,
     text: &[u8],
+    annotated: &[u8],
     effort: &Effort,
     beside: &mut Beside,
 ) -> Result<(), AllocError> {
@@ -23,7 +24,7 @@ pub fn note_limits(
             "the text has more than 65,536 bytes: only what is sure is tried, and no zones are found",
         )?;
     }
-    match limits_met(alloc, state, text) {
+    match limits_met(alloc, state, text, annotated) {
         Ok(met) => {
             for next in &met {
                 beside.note_at(file, u64::from(next.line), next.limit.text())?;

@@ -12,7 +12,7 @@ const QUOTED: &str = "  | ";
 
 /// The number that a word begins with, and what stands behind it.
 fn number_in(word: &str) -> Option<(u32, &str)> {
-    let rest = word.trim_start_matches(|letter: char| letter.is_ascii_digit());
+    let rest = word.trim_start_matches(['0', '1', '2', '3', '4', '5', '6', '7', '8', '9']);
     match word.strip_suffix(rest) {
         Some(digits) => match digits.parse::<u32>() {
             Ok(number) => Some((number, rest)),

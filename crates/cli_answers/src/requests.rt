@@ -6,9 +6,7 @@ ghost use Rattle.cli_answers.specs.Granted.{granted_by};
 use crate::json::answer_json;
 use crate::reasons::print_rule;
 use crate::shown::answer_text;
-use cli_words::{
-    Beside, Grant, Question, Request, Status, Verb, completions, manual, print_unreadable,
-};
+use cli_words::{Beside, Grant, Question, Request, Status, Verb, completions, manual};
 use std::alloc::Global;
 use std::io;
 use std::io::Write;
@@ -44,7 +42,7 @@ fn answer_words<W: Write>(
 }
 
 /// Prints a rule, or what is made of the program's own words; none where the request is for a module.
-fn answer_without_module<W: Write>(
+pub fn answer_without_module<W: Write>(
     alloc: Global,
     request: &Request,
     output: &mut W,
@@ -56,7 +54,7 @@ fn answer_without_module<W: Write>(
 }
 
 /// Answers a request for JSON or for a text; none where the module is to be judged.
-fn answer_module<W: Write>(
+pub fn answer_module<W: Write>(
     question: &Question<'_>,
     text: &[u8],
     output: &mut W,
@@ -73,21 +71,4 @@ fn answer_module<W: Write>(
         ..
     } = *question;
     answer_text(alloc, state, request, text, &effort, output, beside)
-}
-
-/// Answers what needs no verdict first: a rule, the program's own words, a module whose file could not be read, and a module as JSON or as text. None where
-/// the module is to be judged.
-pub fn answer_unjudged<W: Write>(
-    question: &Question<'_>,
-    output: &mut W,
-    beside: &mut Beside,
-) -> io::Result<Option<Status>> {
-    let Question { alloc, request, .. } = *question;
-    if let Some(status) = answer_without_module(alloc, request, output)? {
-        return Ok(Some(status));
-    }
-    match question.module {
-        Some(text) => answer_module(question, text, output, beside),
-        None => Ok(Some(print_unreadable(alloc, request.file.as_str(), output)?)),
-    }
 }

@@ -96,34 +96,10 @@ fn push_cell(out: &mut TextBuffer, name: &str, index: u64, value: Option<i64>) {
     }
 }
 
-/// Goes where a command asks to; false where it does not ask to go.
-fn go(debugger: &mut Debugger<'_>, command: &Command<'_>) -> Result<bool, OutOfMemory> {
-    let gone = match command {
-        Command::To(position) => debugger.to(*position as usize),
-        Command::Forward => debugger.forward(),
-        Command::Back => debugger.back(),
-        Command::Break(line) => debugger.break_at(*line),
-        _ => return Ok(false),
-    };
-    gone?;
-    Ok(true)
-}
-
 fn push_position(out: &mut TextBuffer, debugger: &Debugger<'_>) {
     let position = debugger.position();
     let length = debugger.len();
     writeln!(out, "at {position} of {length}");
-}
-
-/// Adds the line that shows what a command asks for.
-fn show(debugger: &Debugger<'_>, command: &Command<'_>, out: &mut TextBuffer) {
-    match command {
-        Command::Task { name, path } => push_task(out, name, debugger.show_task(path)),
-        Command::Cell { name, index } => {
-            push_cell(out, name, *index, debugger.show_cell(name, *index))
-        }
-        _ => {}
-    }
 }
 
 /// Obeys a command that does not end the dialogue, and adds the line that answers it.
@@ -132,11 +108,23 @@ fn obey_command(
     command: &Command<'_>,
     out: &mut TextBuffer,
 ) -> Result<(), OutOfMemory> {
-    if go(debugger, command)? {
-        push_position(out, debugger);
-    } else {
-        show(debugger, command, out);
-    }
+    let gone = match command {
+        Command::To(position) => debugger.to(*position as usize),
+        Command::Forward => debugger.forward(),
+        Command::Back => debugger.back(),
+        Command::Break(line) => debugger.break_at(*line),
+        Command::Task { name, path } => {
+            push_task(out, name, debugger.show_task(path));
+            return Ok(());
+        }
+        Command::Cell { name, index } => {
+            push_cell(out, name, *index, debugger.show_cell(name, *index));
+            return Ok(());
+        }
+        Command::Quit => return Ok(()),
+    };
+    gone?;
+    push_position(out, debugger);
     Ok(())
 }
 
@@ -153,16 +141,6 @@ fn obey(
         None => out.push_str("unknown\n"),
     }
     Ok(true)
-}
-
-/// The next line without its LF; none at the end. The last line may lack the LF.
-fn next_line<B: BufRead>(input: &mut B, line: &mut Vec<u8>) -> io::Result<bool> {
-    line.clear();
-    let count = input.read_until(b'\n', line)?;
-    if line.as_slice().ends_with(b"\n") {
-        line.pop();
-    }
-    Ok(count > 0)
 }
 
 /// Answers a line by a line of its own, written at once; false at `quit`.
@@ -182,7 +160,7 @@ fn answer_line<W: Write>(
     Ok(true)
 }
 
-/// Answers the next line; false where there is none, and at `quit`.
+/// Answers the next line; false where there is none, and at `quit`. The last line may lack the LF.
 fn answer_next<B: BufRead, W: Write>(
     alloc: Global,
     debugger: &mut Debugger<'_>,
@@ -190,11 +168,14 @@ fn answer_next<B: BufRead, W: Write>(
     line: &mut Vec<u8>,
     output: &mut W,
 ) -> io::Result<bool> {
-    if next_line(input, line)? {
-        answer_line(alloc, debugger, line.as_slice(), output)
-    } else {
-        Ok(false)
+    line.clear();
+    if input.read_until(b'\n', line)? == 0 {
+        return Ok(false);
     }
+    if line.as_slice().ends_with(b"\n") {
+        line.pop();
+    }
+    answer_line(alloc, debugger, line.as_slice(), output)
 }
 
 /// Answers each line.

@@ -1,90 +1,74 @@
-//! The dialogue of `tapirvm debug` with people.
+//! Who is answered: programs, or people, who are shown the names and the lines of the module.
 
+use crate::dialogue;
 use crate::prompts::{Session, converse};
-use cli_words::{Request, Status, print_refused};
+use cli_words::{Question, Status, print_refused};
 use debugger::{Debugger, Verified};
 use ir_reader::read;
-use program::Program;
-use std::alloc::{AllocError, Global};
-use std::hash::RandomState;
+use std::alloc::AllocError;
 use std::io;
 use std::io::{Read, Write};
-use syntax::Module;
 use view_events::Names;
-
-/// A module that the verifier took, whose run people go through.
-#[derive(Clone, Copy)]
-pub struct Guided<'a> {
-    pub alloc: Global,
-    /// What a text is read with.
-    pub state: RandomState,
-    pub request: &'a Request,
-    /// The module's text.
-    pub text: &'a [u8],
-    pub verified: &'a Verified,
-}
-
-impl<'a> Guided<'a> {
-    /// The module's text.
-    fn source(&self) -> &'a str {
-        match str::from_utf8(self.text) {
-            Ok(source) => source,
-            Err(_) => "",
-        }
-    }
-}
 
 /// Answers people by the module's names and lines.
 fn guide_named<R: Read + Drop, W: Write>(
-    guided: Guided<'_>,
+    question: Question<'_>,
+    verified: &Verified,
     debugger: &mut Debugger<'_>,
     names: &Names<'_>,
     lines: &[&str],
     input: R,
     output: &mut W,
 ) -> io::Result<Status> {
+    let Question { alloc, request, .. } = question;
     let session = Session {
-        alloc: guided.alloc,
+        alloc,
         debugger,
-        verified: guided.verified,
+        verified,
         names,
         lines,
-        workers: guided.request.workers,
-        has_colours: guided.request.dialogue.has_colours,
+        workers: request.workers,
+        has_colours: request.dialogue.has_colours,
     };
     converse(session, input, output)?;
     Ok(Status::Done)
 }
 
-/// Answers people about runs of a module that means this program.
-fn guide_module<R: Read + Drop, W: Write>(
-    guided: Guided<'_>,
+/// Answers people up to `quit` or the end of the input.
+fn guide<R: Read + Drop, W: Write>(
+    question: Question<'_>,
+    text: &[u8],
+    verified: &Verified,
     debugger: &mut Debugger<'_>,
-    program: &Program,
-    module: &Module,
     input: R,
     output: &mut W,
 ) -> io::Result<Status> {
-    let Ok(names) = Names::of(guided.alloc, program, module) else {
+    let Question { alloc, state, .. } = question;
+    let module = match read(alloc, state, text) {
+        Ok(module) => module,
+        Err(refused) => return print_refused(&refused, output),
+    };
+    let Ok(names) = Names::of(alloc, verified.program(), &module) else {
         return Err(io::Error::from(AllocError));
     };
-    let source = guided.source();
-    let list: Vec<&str> = source.lines().collect(guided.alloc)?;
-    guide_named(guided, debugger, &names, list.as_slice(), input, output)
+    let source = str::from_utf8(text).unwrap_or("");
+    let list: Vec<&str> = source.lines().collect(alloc)?;
+    let lines = list.as_slice();
+    guide_named(question, verified, debugger, &names, lines, input, output)
 }
 
-/// Answers people up to `quit` or the end of the input.
-pub fn guide<R: Read + Drop, W: Write>(
-    guided: Guided<'_>,
+/// Answers the commands of the input, by a debugger of this module, which the verifier took: people's by a prompt, a program's by a line for each.
+pub fn answer_commands<R: Read, W: Write>(
+    question: Question<'_>,
+    text: &[u8],
+    verified: &Verified,
     debugger: &mut Debugger<'_>,
-    input: R,
+    input: &mut R,
     output: &mut W,
 ) -> io::Result<Status> {
-    match read(guided.alloc, guided.state, guided.text) {
-        Ok(module) => {
-            let program = guided.verified.program();
-            guide_module(guided, debugger, program, &module, input, output)
-        }
-        Err(refused) => print_refused(&refused, output),
+    if question.request.dialogue.is_for_people {
+        guide(question, text, verified, debugger, input, output)
+    } else {
+        dialogue::converse(question.alloc, debugger, input, output)
     }
 }

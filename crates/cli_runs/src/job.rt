@@ -1,6 +1,6 @@
 //! A module that the verifier took, and what is asked of it.
 
-use cli_words::{Beside, Request, Status, stop_for_memory};
+use cli_words::{Beside, Question, Request, Status, stop_for_memory};
 use debugger::{RunFault, ScheduleFault, Verified};
 use std::alloc::{AllocError, Global};
 use std::hash::RandomState;
@@ -22,6 +22,18 @@ pub struct Job<'a> {
 }
 
 impl<'a> Job<'a> {
+    /// What a question asks of this module, which the verifier took.
+    pub fn of(question: Question<'a>, text: &'a [u8], verified: &'a Verified) -> Job<'a> {
+        Job {
+            alloc: question.alloc,
+            state: question.state,
+            request: question.request,
+            text,
+            verified,
+            schedule: question.schedule,
+        }
+    }
+
     /// The module's text.
     pub fn source(&self) -> &'a str {
         match str::from_utf8(self.text) {

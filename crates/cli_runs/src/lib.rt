@@ -1,23 +1,23 @@
-//! What the program answers about runs: the serial run, a schedule that is replayed, and what is told of a run by a list of events, beside its
-//! answer: lines of a trace, lines of JSON, a picture, a page and figures.
+//! What the program answers about runs, but one on threads. What is printed about modules is made in `cli_answers`, and the dialogues of `tapirvm debug`
+//! in `cli_debug`; who answers what stands in the programs above.
 //!
-//! A [`Job`] is a module that is to run, with what was asked for. `tell` in `telling` runs the module once more, event by event, and hands each
-//! event to all that is wanted. The dialogues of `debug` stand in `cli_debug`.
+//! A [`Job`] is a module that is to run, with what was asked for: the serial run, a schedule that is replayed (`runs`), and what is told of a run by a list
+//! of events, beside its answer: lines of a trace, lines of JSON, a picture, a page and figures. `tell` in `telling` runs the module once more, event by
+//! event, and hands each event to a `Teller` of `view_events`.
 #![tactic(auto)]
 
+mod answers;
 mod data;
-mod draw;
-mod figures;
+mod debugging;
 mod job;
 mod runs;
 mod tell;
-mod teller;
 mod telling;
 
-pub use debugger::{Event, Finished, Machine};
-pub use draw::run_drawn;
-pub use figures::{Crew, Effort};
-pub use job::{Job, print_schedule_fault};
-pub use runs::{prepared, print_no_schedule, print_run, print_unprepared, run_serial};
-pub use tell::{is_told, tell_course, tell_replay};
+pub use answers::answer_run;
+pub use debugger::{Debugger, Event, Finished, Machine, RunFault, Verified};
+pub use debugging::debugger_of;
+pub use job::Job;
+pub use runs::{prepared, print_run, print_unprepared};
+pub use tell::{is_told, page_of, print_told, tell_course};
 pub use view_run::Course;

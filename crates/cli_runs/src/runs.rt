@@ -27,23 +27,8 @@ pub fn run_serial<W: Write>(
     print_run(job, &run, output, beside)
 }
 
-/// Runs the module by the schedule.
-pub fn run_schedule<W: Write>(
-    job: &Job<'_>,
-    output: &mut W,
-    beside: &mut Beside,
-) -> io::Result<Status> {
-    let Some(text) = job.schedule else {
-        return print_no_schedule(job, output);
-    };
-    match read_schedule(job.alloc, text) {
-        Ok(events) => run_events(job, events.as_slice(), output, beside),
-        Err(fault) => print_schedule_fault(job, &fault, output, beside),
-    }
-}
-
 /// Says that the schedule's file could not be read.
-pub fn print_no_schedule<W: Write>(job: &Job<'_>, output: &mut W) -> io::Result<Status> {
+fn print_no_schedule<W: Write>(job: &Job<'_>, output: &mut W) -> io::Result<Status> {
     match &job.request.schedule {
         Some(file) => print_unreadable(job.alloc, file.as_str(), output),
         None => Ok(Status::Unreadable),
@@ -79,22 +64,29 @@ pub fn print_unprepared<W: Write>(status: Status, output: &mut W) -> io::Result<
     }
 }
 
-/// Runs the module by these events.
-fn run_events<W: Write>(
+/// The events of the schedule, and the memory to begin with; else the status, with what is said.
+pub fn scheduled<W: Write>(
     job: &Job<'_>,
-    events: &[Event],
     output: &mut W,
     beside: &mut Beside,
-) -> io::Result<Status> {
-    let memory = match prepared(job, beside) {
-        Ok(memory) => memory,
-        Err(status) => return print_unprepared(status, output),
+) -> io::Result<Result<(Vec<Event>, Memory), Status>>
+    ensures { IfOk result (λ answer. IfOk answer (λ start. IsMadeFor job.now.verified.now start.1)) }
+{
+    let Some(text) = job.schedule else {
+        return Ok(Err(print_no_schedule(job, output)?));
     };
-    run_replay(job, memory, events, output, beside)
+    let events = match read_schedule(job.alloc, text) {
+        Ok(events) => events,
+        Err(fault) => return Ok(Err(print_schedule_fault(job, &fault, output, beside)?)),
+    };
+    match prepared(job, beside) {
+        Ok(memory) => Ok(Ok((events, memory))),
+        Err(status) => Ok(Err(print_unprepared(status, output)?)),
+    }
 }
 
-/// The answer of a run by these events.
-fn run_replay<W: Write>(
+/// Runs the module by these events.
+pub fn run_events<W: Write>(
     job: &Job<'_>,
     memory: Memory,
     events: &[Event],
@@ -199,7 +191,8 @@ fn finished(machine: Machine<'_>, returned: i64) -> Finished {
     }
 }
 
-fn print_finished<W: Write>(
+/// The answer of a run that has ended.
+pub fn print_finished<W: Write>(
     job: &Job<'_>,
     finished: &Finished,
     output: &mut W,
@@ -229,18 +222,12 @@ fn print_memory<W: Write>(
     Ok(Status::Done)
 }
 
+/// Prints what cells hold, each on a line.
 fn print_cells<W: Write>(memory: &Memory, cells: &[CellWord], output: &mut W) -> io::Result<()> {
     for cell in cells {
-        let value = memory.get_global(cell.name.as_str(), cell.index);
-        print_cell(cell, value, output)?;
-    }
-    Ok(())
-}
-
-/// Prints what a cell holds, where it is there.
-fn print_cell<W: Write>(cell: &CellWord, value: Option<i64>, output: &mut W) -> io::Result<()> {
-    if let Some(value) = value {
-        writeln!(output, "@{}:{} {value}", cell.name, cell.index)?;
+        if let Some(value) = memory.get_global(cell.name.as_str(), cell.index) {
+            writeln!(output, "@{}:{} {value}", cell.name, cell.index)?;
+        }
     }
     Ok(())
 }

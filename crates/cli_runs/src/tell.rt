@@ -1,20 +1,18 @@
 //! A run that is told event for event.
 
+ghost use Rattle.std.specs.Prelude.{◌≡◌};
 ghost use Rattle.serial_machine.specs.store.Made.{IsMadeFor};
 
-use crate::figures::Crew;
-use crate::job::{Job, print_schedule_fault};
-use crate::runs::{prepared, print_no_schedule, print_replayed, print_unprepared, run_schedule};
-use crate::telling::{Subject, Told, Wanted, Words, tell};
-use cli_words::{Beside, Status, Telling, stop_for_memory};
-use debugger::{Memory, read_schedule};
+use crate::job::Job;
+use crate::runs::{print_finished, print_replayed, run_events, scheduled};
+use crate::telling::{Subject, tell};
+use cli_words::{Beside, Status, Telling};
+use debugger::{Finished, Machine, Memory, RunFault};
 use ir_reader::read;
-use program::Program;
 use std::alloc::{AllocError, Global};
 use std::io;
 use std::io::Write;
-use syntax::Module;
-use view_events::Names;
+use view_events::{Crew, Names, Told, Wanted, Whole, Words};
 use view_run::{Course, Listed};
 
 /// What is asked to be told of a run.
@@ -95,63 +93,102 @@ fn keep_told<W: Write>(
     output.write_all(stats.as_bytes())?;
     let telling = &job.request.telling;
     keep(&telling.picture, picture, beside)?;
-    keep(&telling.json, json, beside)?;
+    keep(&telling.json, Some(json), beside)?;
     keep(&telling.page, page, beside)?;
     Ok(keep_script(job, script, events, beside)?)
 }
 
-/// Tells of a run, with its names and the lines of its text.
-fn tell_named<C: Course, W: Write>(
-    job: &Job<'_>,
-    names: &Names<'_>,
-    lines: &[&str],
-    memory: Memory,
-    course: &mut C,
-    crew: Crew<'_>,
-    output: &mut W,
-    beside: &mut Beside,
-) -> io::Result<Status>
-    requires { IsMadeFor job.now.verified.now memory }
+/// The run of a job, as it is told.
+fn subject_of<'a>(job: &'a Job<'_>) -> Subject<'a>
+    ensures { result.verified.now ≡ job.now.verified.now }
 {
-    let subject = Subject {
+    Subject {
         alloc: job.alloc,
         verified: job.verified,
         title: job.request.file.as_str(),
         source: job.source(),
         arguments: job.request.args.as_slice(),
         workers: job.request.workers,
-    };
-    let words = Words { names, lines, crew };
-    let wanted = wanted_of(&job.request.telling);
-    match tell(subject, words, memory, course, wanted, output)? {
-        Ok((told, machine)) => {
-            print_replayed(job, machine, output, beside)?;
-            keep_told(job, told, output, beside)
-        }
-        Err(fault) => job.print_run_fault(&fault, output, beside),
     }
 }
 
-/// Tells of a run of a module that means this program.
-fn tell_module<C: Course, W: Write>(
+/// Prints the answer of a run that was recorded, and what was told of it.
+pub fn print_told<W: Write>(
     job: &Job<'_>,
-    program: &Program,
-    module: &Module,
+    finished: Finished,
+    told: Told,
+    output: &mut W,
+    beside: &mut Beside,
+) -> io::Result<Status> {
+    print_finished(job, &finished, output, beside)?;
+    keep_told(job, told, output, beside)
+}
+
+/// Runs by the events of a course, and tells of them with these names and lines.
+fn told_named<'a, C: Course, W: Write>(
+    job: &'a Job<'_>,
+    names: &Names<'_>,
+    lines: &[&str],
     memory: Memory,
     course: &mut C,
     crew: Crew<'_>,
+    whole: Option<Whole>,
+    wanted: Wanted,
     output: &mut W,
-    beside: &mut Beside,
-) -> io::Result<Status>
+) -> io::Result<Result<(Told, Machine<'a>), RunFault>>
     requires { IsMadeFor job.now.verified.now memory }
 {
-    let Ok(names) = Names::of(job.alloc, program, module) else {
+    let subject = subject_of(job);
+    let words = Words {
+        names,
+        lines,
+        crew,
+        whole,
+    };
+    tell(subject, words, memory, course, wanted, output)
+}
+
+/// The same with the module's names and the lines of its text.
+fn told<'a, C: Course, W: Write>(
+    job: &'a Job<'_>,
+    memory: Memory,
+    course: &mut C,
+    crew: Crew<'_>,
+    whole: Option<Whole>,
+    wanted: Wanted,
+    output: &mut W,
+) -> io::Result<Result<(Told, Machine<'a>), RunFault>>
+    requires { IsMadeFor job.now.verified.now memory }
+{
+    // It was read before.
+    let Ok(module) = read(job.alloc, job.state, job.text) else {
         return Err(io::Error::from(AllocError));
     };
-    let source = job.source();
-    let list: Vec<&str> = source.lines().collect(job.alloc)?;
+    let Ok(names) = Names::of(job.alloc, job.verified.program(), &module) else {
+        return Err(io::Error::from(AllocError));
+    };
+    let list: Vec<&str> = job.source().lines().collect(job.alloc)?;
     let lines = list.as_slice();
-    tell_named(job, &names, lines, memory, course, crew, output, beside)
+    told_named(
+        job, &names, lines, memory, course, crew, whole, wanted, output,
+    )
+}
+
+/// The page of a run of which the course has the beginning.
+pub fn page_of<C: Course, W: Write>(
+    job: &Job<'_>,
+    memory: Memory,
+    course: &mut C,
+    whole: Whole,
+    output: &mut W,
+) -> io::Result<Result<Option<String>, RunFault>>
+    requires { IsMadeFor job.now.verified.now memory }
+{
+    let (crew, wanted) = (Crew::none(), Wanted::page());
+    match told(job, memory, course, crew, Some(whole), wanted, output)? {
+        Ok((told, _machine)) => Ok(Ok(told.page)),
+        Err(fault) => Ok(Err(fault)),
+    }
 }
 
 /// Runs by the events of a course. What is asked to be told of them comes before the answer, the figures after it.
@@ -165,46 +202,29 @@ pub fn tell_course<C: Course, W: Write>(
 ) -> io::Result<Status>
     requires { IsMadeFor job.now.verified.now memory }
 {
-    match read(job.alloc, job.state, job.text) {
-        Ok(module) => {
-            let program = job.verified.program();
-            tell_module(job, program, &module, memory, course, crew, output, beside)
+    let wanted = wanted_of(&job.request.telling);
+    match told(job, memory, course, crew, None, wanted, output)? {
+        Ok((told, machine)) => {
+            print_replayed(job, machine, output, beside)?;
+            keep_told(job, told, output, beside)
         }
-        // It was read before.
-        Err(_) => stop_for_memory(output),
+        Err(fault) => job.print_run_fault(&fault, output, beside),
     }
 }
 
-/// Runs by a schedule, and tells of its events.
-fn tell_schedule<W: Write>(
+/// Runs by the schedule, and tells of its events where that is asked for.
+pub fn run_replay<W: Write>(
     job: &Job<'_>,
     output: &mut W,
     beside: &mut Beside,
 ) -> io::Result<Status> {
-    let Some(text) = job.schedule else {
-        return print_no_schedule(job, output);
+    let (events, memory) = match scheduled(job, output, beside)? {
+        Ok(start) => start,
+        Err(status) => return Ok(status),
     };
-    let events = match read_schedule(job.alloc, text) {
-        Ok(events) => events,
-        Err(fault) => return print_schedule_fault(job, &fault, output, beside),
-    };
-    let memory = match prepared(job, beside) {
-        Ok(memory) => memory,
-        Err(status) => return print_unprepared(status, output),
-    };
+    if !is_told(&job.request.telling) {
+        return run_events(job, memory, events.as_slice(), output, beside);
+    }
     let mut course = Listed::new(job.alloc, events.as_slice());
     tell_course(job, memory, &mut course, Crew::none(), output, beside)
-}
-
-/// Runs by a schedule, and tells of its events where that is asked for.
-pub fn tell_replay<W: Write>(
-    job: &Job<'_>,
-    output: &mut W,
-    beside: &mut Beside,
-) -> io::Result<Status> {
-    if is_told(&job.request.telling) {
-        tell_schedule(job, output, beside)
-    } else {
-        run_schedule(job, output, beside)
-    }
 }

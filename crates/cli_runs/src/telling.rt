@@ -2,56 +2,12 @@
 
 ghost use Rattle.view_run.specs.store.Made.{IsMadeFor};
 
-use crate::figures::Crew;
-use crate::teller::Teller;
 use lists::OutOfMemory;
 use std::alloc::{AllocError, Global};
 use std::io;
 use std::io::Write;
-use view_events::Names;
-use view_run::{Course, Machine, Memory, RunFault, Settings, Verified, Watch};
-
-/// What is asked for.
-#[derive(Clone, Copy)]
-pub struct Wanted {
-    pub trace: bool,
-    /// The events as a schedule.
-    pub script: bool,
-    pub stats: bool,
-    pub picture: bool,
-    pub json: bool,
-    pub page: bool,
-}
-
-impl Wanted {
-    /// Whether anything is asked for.
-    pub fn is_any(self) -> bool {
-        self.trace || self.script || self.stats || self.picture || self.json || self.page
-    }
-}
-
-/// What was told of a run, as far as it was asked for; the trace went to the output.
-#[derive(Drop)]
-pub struct Told {
-    /// The events as a schedule; none too where it would be too long.
-    pub script: Option<String>,
-    /// How many events there were.
-    pub events: u64,
-    pub stats: String,
-    pub picture: Option<String>,
-    pub json: Option<String>,
-    pub page: Option<String>,
-}
-
-/// What a run is told with.
-#[derive(Clone, Copy)]
-pub struct Words<'a> {
-    pub names: &'a Names<'a>,
-    /// The lines of the module's text.
-    pub lines: &'a [&'a str],
-    /// Of a run on threads what its workers did beside the events.
-    pub crew: Crew<'a>,
-}
+use view_events::{Settings, Start, Teller, Told, Wanted, Words};
+use view_run::{Course, Event, Machine, Memory, RunFault, Verified, Watch};
 
 /// A run that is to be told.
 #[derive(Clone, Copy)]
@@ -66,14 +22,19 @@ pub struct Subject<'a> {
     pub workers: usize,
 }
 
+/// What a run that has ended came to.
+fn ended(alloc: Global, value: i64, instructions: u64, peak: u64) -> Result<String, AllocError> {
+    format!(in alloc; "result {value}, instructions {instructions}, peak {peak}")
+}
+
 /// What the run came to.
-fn answer_of(alloc: Global, machine: &Machine<'_>) -> Result<String, AllocError> {
+fn answer_of(alloc: Global, words: Words<'_>, machine: &Machine<'_>) -> Result<String, AllocError> {
+    if let Some(whole) = words.whole {
+        return ended(alloc, whole.result, whole.instructions, whole.peak);
+    }
     let instructions = machine.instructions();
     match machine.result() {
-        Some(result) => {
-            let peak = machine.peak();
-            format!(in alloc; "result {result}, instructions {instructions}, peak {peak}")
-        }
+        Some(result) => ended(alloc, result, instructions, machine.peak()),
         None => {
             let frames = machine.live_frames();
             format!(in alloc; "not ended, instructions {instructions}, frames {frames}")
@@ -81,15 +42,25 @@ fn answer_of(alloc: Global, machine: &Machine<'_>) -> Result<String, AllocError>
     }
 }
 
-/// Want of memory, as an error of the output.
-fn refused(_error: OutOfMemory) -> io::Error {
-    io::Error::from(AllocError)
+/// Does an event of which nothing is shown but that it was; whether it did.
+fn is_passed(
+    watch: &mut Watch<'_>,
+    teller: &mut Teller,
+    event: &Event,
+) -> Result<bool, OutOfMemory> {
+    let Event::Step(worker) = event else {
+        return Ok(false);
+    };
+    if teller.is_traced() || teller.is_detailed() || !watch.plain_step(*worker)? {
+        return Ok(false);
+    }
+    teller.add_step(*worker)?;
+    Ok(true)
 }
 
 /// The next event, told: its line of the trace, empty where none is wanted. None at the end.
 fn tell_next<C: Course>(
     words: Words<'_>,
-    wanted: Wanted,
     watch: &mut Watch<'_>,
     teller: &mut Teller,
     course: &mut C,
@@ -100,27 +71,62 @@ fn tell_next<C: Course>(
     if !teller.is_detailed() {
         watch.end_details();
     }
+    if is_passed(watch, teller, &event)? {
+        course.done(watch.machine())?;
+        return Ok(Some(String::new(teller.alloc())));
+    }
     let moment = watch.next(&event)?;
     course.done(watch.machine())?;
-    Ok(Some(teller.add(words, wanted.trace, &event, &moment)?))
+    Ok(Some(teller.add(words, &event, &moment)?))
 }
 
 /// All events, told.
 fn tell_all<C: Course, W: Write>(
     words: Words<'_>,
-    wanted: Wanted,
     watch: &mut Watch<'_>,
     teller: &mut Teller,
     course: &mut C,
     output: &mut W,
 ) -> io::Result<()> {
     for _event in 0..u64::MAX {
-        match tell_next(words, wanted, watch, teller, course).map_err(refused)? {
-            Some(line) => output.write_all(line.as_bytes())?,
-            None => return Ok(()),
+        match tell_next(words, watch, teller, course) {
+            Ok(Some(line)) => output.write_all(line.as_bytes())?,
+            Ok(None) => return Ok(()),
+            Err(OutOfMemory) => return Err(io::Error::from(AllocError)),
         }
     }
     Ok(())
+}
+
+/// What tells of a run whose root is given these registers.
+fn teller_with<'a>(
+    subject: Subject<'a>,
+    words: Words<'a>,
+    wanted: Wanted,
+    root: &'a Settings,
+) -> Result<Teller, OutOfMemory> {
+    let start = Start {
+        title: subject.title,
+        source: subject.source,
+        workers: subject.workers,
+        root,
+    };
+    Teller::new(subject.alloc, words, wanted, start)
+}
+
+/// What tells of a run that has not begun yet.
+fn teller_of(
+    subject: Subject<'_>,
+    words: Words<'_>,
+    watch: &mut Watch<'_>,
+    wanted: Wanted,
+) -> Result<Teller, OutOfMemory> {
+    let given = if wanted.json || wanted.page {
+        watch.begin_details()?
+    } else {
+        Settings::none(subject.alloc)
+    };
+    teller_with(subject, words, wanted, &given)
 }
 
 /// A run that has begun, told.
@@ -132,18 +138,15 @@ fn tell_from<C: Course, W: Write>(
     wanted: Wanted,
     output: &mut W,
 ) -> io::Result<Told> {
-    let alloc = subject.alloc;
-    let given = if wanted.json || wanted.page {
-        watch.begin_details().map_err(refused)?
-    } else {
-        Settings::none(alloc)
+    let Ok(mut teller) = teller_of(subject, words, watch, wanted) else {
+        return Err(io::Error::from(AllocError));
     };
-    let mut teller = Teller::new(subject, words, wanted, &given).map_err(refused)?;
-    tell_all(words, wanted, watch, &mut teller, course, output)?;
-    let answer = answer_of(alloc, watch.machine())?;
-    teller
-        .finish(words, wanted, answer.as_str())
-        .map_err(refused)
+    tell_all(words, watch, &mut teller, course, output)?;
+    let answer = answer_of(subject.alloc, words, watch.machine())?;
+    match teller.finish(words, answer.as_str()) {
+        Ok(told) => Ok(told),
+        Err(OutOfMemory) => Err(io::Error::from(AllocError)),
+    }
 }
 
 /// Runs the module by the events of a course, and tells of them. The trace goes to the output. The answer is what was told, and the machine

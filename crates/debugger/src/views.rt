@@ -46,7 +46,8 @@ impl<'v> Debugger<'v> {
         self.machine.frame(path)
     }
 
-    /// What a cell of an alloca holds, of the frame of this path; none where there is no such cell. A cell without a value may hold any.
+    /// What a cell of an alloca holds, of the frame of this path; none where no such frame lives, or its function has no such alloca. A cell without a
+    /// value may hold any, and an index behind the last cell gives what stands there.
     pub fn show_alloca(&self, path: &Path, alloca: usize, index: u64) -> Option<i64>
         ensures { (s : Session) → Debugs s self.now → IsHeldBy self.now.machine.stage (state_at s self.now.position) path.now alloca index result }
     {

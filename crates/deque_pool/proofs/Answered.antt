@@ -1,5 +1,5 @@
 -- What one worker alone answers, and why it has no answer.
-use Rattle.std.proofs.Common.{◌≡◌, ℕ, List, ℤ, Option, Some, refl, subst, arith}
+use Rattle.std.proofs.Common.{◌≡◌, ℕ, List, ℤ, Option, Some, refl, subst}
 use Rattle.std.specs.Prelude.{None, Result, Ok, Err, IfErr, IfOk, IfSome, OnOk}
 use Rattle.semantics.specs.SerialMeaning.{Gave}
 use Rattle.program.specs.declared.function.Program.{Program}
@@ -40,15 +40,18 @@ pub answered_whole : (program : Program) (arguments : List ℤ) (memory : List N
 answered_whole program arguments memory workers (Ok done) ends = answered program arguments memory workers done ends
 answered_whole program arguments memory workers (Err fault) ends = tt
 
+-- whatever other workers there are
+pub answered_for : (program : Program) (arguments : List ℤ) (memory : List NamedCells) (workers : ℕ) (result : Result Finished RunFault) → IfOk result (IsSerialAnswer (origin program arguments memory 1)) →
+    IfOk result (IsSerialAnswer (origin program arguments memory workers))
+answered_for program arguments memory workers (Ok done) e = record { serial = e.serial; is_serial = e.is_serial; result = e.result; memory = e.memory; names = e.names; count = e.count; peak = e.peak }
+answered_for program arguments memory workers (Err fault) e = tt
+
 -- ---- why it has none
 
-one_worker : (workers : ℕ) → workers ≡ 1 → IsNumberOfWorkers workers
-one_worker workers one = (omega (arith, one), omega (arith, one))
-
-pub admitted_alone : {T : Type 0} (program : Program) (arguments : List ℤ) (memory : List NamedCells) (workers : ℕ) → workers ≡ 1 → (result : Result T RunFault) →
+pub admitted_alone : {T : Type 0} (program : Program) (arguments : List ℤ) (memory : List NamedCells) (workers : ℕ) → IsNumberOfWorkers workers → (result : Result T RunFault) →
     OnOk result (unmet_in program arguments ≡ None) → IfErr result (IsRefusal program arguments memory) → IsAdmitted program arguments memory workers result
-admitted_alone program arguments memory workers one (Ok done) met refused = (met, one_worker workers one)
-admitted_alone program arguments memory workers one (Err (BadArguments requirement m)) met refused = refused
-admitted_alone program arguments memory workers one (Err (BadWorkers m)) met refused = absurd refused
-admitted_alone program arguments memory workers one (Err OutOfMemory) met refused = (refused, one_worker workers one)
-admitted_alone program arguments memory workers one (Err Stopped) met refused = (refused, one_worker workers one)
+admitted_alone program arguments memory workers number (Ok done) met refused = (met, number)
+admitted_alone program arguments memory workers number (Err (BadArguments requirement m)) met refused = refused
+admitted_alone program arguments memory workers number (Err (BadWorkers m)) met refused = absurd refused
+admitted_alone program arguments memory workers number (Err OutOfMemory) met refused = (refused, number)
+admitted_alone program arguments memory workers number (Err Stopped) met refused = (refused, number)

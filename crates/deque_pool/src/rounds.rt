@@ -11,11 +11,11 @@ use crate::figures::Figures;
 use crate::gate::Gate;
 use crate::outlook::{Left, Outlook, what_next};
 use crate::recorded::Recorded;
-use crate::work::work;
+use crate::work::{work, work_alone};
 use crate::workers::{Worker, crew_of, disband};
 use crossbeam_utils::CachePadded;
 use lists::OutOfMemory;
-use shared_run::{Bench, Memory, RunFault, Seat, Shared, Verified};
+use shared_run::{Bench, Keeping, Memory, RunFault, Seat, Shared, Verified};
 use std::alloc::Global;
 use std::sync::atomic::AtomicBool;
 use std::sync::ledger::Blank;
@@ -24,7 +24,7 @@ use std::thread;
 use std::thread::Threads;
 use std::time::Clock;
 
-/// The run of one ledger.
+/// The run of one ledger, whose events are kept, or seen by contracts alone.
 pub(crate) fn run_by<L: Bench + Send + Sync, G: Gate + Sync, R: Threads + Wait + Clock + Sync>(
     rt: &R,
     alloc: Global,
@@ -33,6 +33,7 @@ pub(crate) fn run_by<L: Bench + Send + Sync, G: Gate + Sync, R: Threads + Wait +
     memory: Memory,
     workers: usize,
     gate: &G,
+    keeping: Keeping,
     blank: Blank,
 ) -> Result<Recorded, RunFault>
     requires made { IsMadeFor verified.now memory }
@@ -48,7 +49,7 @@ pub(crate) fn run_by<L: Bench + Send + Sync, G: Gate + Sync, R: Threads + Wait +
     ensures admitted { IsAdmitted verified.now arguments.now memory workers result }
 {
     let (mut shared, mut seats) = Shared::<L>::new(
-        alloc, verified, arguments, memory, workers, blank,
+        alloc, verified, arguments, memory, workers, keeping, blank,
     )?;
     let Ok(mut figures) = no_figures(alloc, workers) else {
         return Err(RunFault::OutOfMemory);
@@ -104,7 +105,8 @@ fn round<L: Bench + Send + Sync, G: Gate + Sync, R: Threads + Wait + Clock + Syn
     Ok(disband(crew, room, left, figures))
 }
 
-/// The last worker works on the calling thread, each other one on a thread of its own. One whose thread cannot be started takes no part.
+/// The last worker works on the calling thread, each other one on a thread of its own, which is started when there is something to steal; at once where a
+/// gate watches. One whose thread cannot be started takes no part.
 fn work_together<'x, L: Bench + Send + Sync, G: Gate + Sync, R: Threads + Wait + Clock + Sync>(
     rt: &'x R,
     shared: &'x Shared<'_, L>,
@@ -116,12 +118,32 @@ fn work_together<'x, L: Bench + Send + Sync, G: Gate + Sync, R: Threads + Wait +
     let idle = CachePadded::new(Demand::of(crew.len()));
     let demand: &Demand = &idle;
     let last = crew.len().saturating_sub(1);
+    if !gate.watches() && !begin_alone(rt, shared, demand, crew, last) {
+        return;
+    }
     thread::scope(thread::scope_env(), rt, move |scope| {
         for number in 0..last {
             let _ = scope.spawn(move || work_as(rt, shared, over, demand, gate, crew, number));
         }
         work_as(rt, shared, over, demand, gate, crew, last);
     });
+}
+
+/// The worker that stands there in the crew works alone; whether the others are to begin.
+fn begin_alone<L: Bench, R: Wait>(
+    rt: &R,
+    shared: &Shared<'_, L>,
+    demand: &Demand,
+    crew: &[Mutex<Worker<'_, L>>],
+    number: usize,
+) -> bool {
+    match crew.get(number) {
+        Some(worker) => {
+            let mut worker = worker.lock(rt);
+            work_alone(rt, shared, demand, &mut worker)
+        }
+        None => true,
+    }
 }
 
 /// The work of the worker that stands there in the crew. Its thread has it locked throughout.

@@ -1,6 +1,6 @@
 //! Runs on threads of their own.
-ghost use Rattle.std.specs.Prelude.{◌≡◌, Err, IfOk};
-ghost use Rattle.shared_run.specs.schedule_core.Admission.{IsAdmitted};
+ghost use Rattle.std.specs.Prelude.{◌≡◌, Err, IfOk, true};
+ghost use Rattle.shared_run.specs.schedule_core.Admission.{IsAdmitted, IsNumberOfWorkers};
 ghost use Rattle.shared_run.specs.store.Made.{IsMadeFor};
 ghost use Rattle.shared_run.specs.Answer.{IsSerialAnswer, LeadTo};
 ghost use Rattle.shared_run.specs.Story.{origin};
@@ -10,7 +10,7 @@ use crate::alone::run_alone;
 use crate::gate::Gate;
 use crate::recorded::Recorded;
 use crate::rounds::run_by;
-use shared_run::{Finished, Memory, RunFault, Verified};
+use shared_run::{Finished, Keeping, Memory, RunFault, Verified};
 use std::alloc::Global;
 use std::marker::Brand;
 use std::sync::Wait;
@@ -18,8 +18,24 @@ use std::sync::ledger::Blank;
 use std::thread::Threads;
 use std::time::Clock;
 
+/// The most instructions of a run that one worker does whatever others there are: it takes less than a millisecond, and to start them takes about as long.
+const SHORT: u64 = 65_536;
+
+/// Whether the run is one worker's: where there is one, and where no gate watches and the budget is that of a short run.
+fn is_for_one<G: Gate>(verified: &Verified, workers: usize, gate: &G) -> bool
+    ensures number { result ≡ true → IsNumberOfWorkers workers }
+    ensures one { workers ≡ 1 → result ≡ true }
+{
+    match workers {
+        1 => true,
+        2..=64 => !gate.watches() && verified.budget() <= SHORT,
+        _ => false,
+    }
+}
+
 /// Runs a module on so many workers, each on a thread of its own: worker 0 on the calling thread, and the others on threads that have
-/// ended when this returns. Where a thread cannot be started the run goes on with fewer. Whatever the threads do, the answer is that
+/// ended when this returns. Where no gate watches they are started when there is something to steal, and in a short run not at all: one with a
+/// budget of 65,536 is the serial run. Where a thread cannot be started the run goes on with fewer. Whatever the threads do, the answer is that
 /// of the serial meaning. The gate is passed before each strand of a worker.
 ///
 /// # Errors
@@ -41,11 +57,22 @@ pub fn run<G: Gate + Sync, R: Threads + Wait + Clock + Sync>(
     ensures asked { workers ≡ 1 → IfOk result (λ done. WasAsked (G.says gate.now) done.instructions) }
     ensures stopped { workers ≡ 1 → result ≡ Err RunFault.Stopped → WasStopped (G.says gate.now) }
 {
-    if workers == 1 {
+    if is_for_one(verified, workers, gate) {
         return run_alone(rt, alloc, verified, arguments, memory, gate);
     }
     let blank = Blank::new(workers as u64);
-    match run_by::<Brand, G, R>(rt, alloc, verified, arguments, memory, workers, gate, blank) {
+    let run = run_by::<Brand, G, R>(
+        rt,
+        alloc,
+        verified,
+        arguments,
+        memory,
+        workers,
+        gate,
+        Keeping::Nothing,
+        blank,
+    );
+    match run {
         Ok(recorded) => Ok(recorded.finished),
         Err(fault) => Err(fault),
     }
@@ -68,8 +95,24 @@ pub fn run_recorded<G: Gate + Sync, R: Threads + Wait + Clock + Sync>(
     requires made { IsMadeFor verified.now memory }
     ensures answer { IfOk result (λ run. IsSerialAnswer (origin verified.now arguments.now memory workers) run.finished) }
     ensures replays { IfOk result (λ run. LeadTo (origin verified.now arguments.now memory workers) run.history.events run.finished) }
+    ensures kept { IfOk result (λ run. run.history.keeping ≡ Keeping.Events) }
     ensures admitted { IsAdmitted verified.now arguments.now memory workers result }
 {
     let blank = Blank::new(workers as u64);
-    run_by::<Brand, G, R>(rt, alloc, verified, arguments, memory, workers, gate, blank)
+    let run = run_by::<Brand, G, R>(
+        rt,
+        alloc,
+        verified,
+        arguments,
+        memory,
+        workers,
+        gate,
+        Keeping::Events,
+        blank,
+    )?;
+    match run.history.keeping() {
+        Keeping::Events => Ok(run),
+        // No contract tells what stands behind a lock.
+        Keeping::Nothing => Err(RunFault::OutOfMemory),
+    }
 }

@@ -28,6 +28,9 @@ const SHORTEST_SLEEP: u64 = 64;
 
 const DOUBLINGS: u32 = 4;
 
+/// The instructions of some hundred microseconds. To start threads takes about as long, so a run of fewer starts none.
+const ALONE: u64 = 32_768;
+
 /// What a worker does next.
 #[derive(Clone, Copy)]
 enum Next {
@@ -81,6 +84,33 @@ pub(crate) fn work<L: Bench, G: Gate, R: Wait>(
             }
         }
     }
+}
+
+/// The worker of `root` works alone for its first instructions, and then until a task is ready; whether the run goes on. No other worker has begun, and no
+/// gate is asked.
+pub(crate) fn work_alone<L: Bench, R: Wait>(
+    rt: &R,
+    shared: &Shared<'_, L>,
+    demand: &Demand,
+    worker: &mut Worker<'_, L>,
+) -> bool {
+    worker.habits.keep_quiet(ALONE);
+    let mut next = after(met(rt, shared, demand, worker), 0);
+    for _ in rt.forever() {
+        match next {
+            Next::Strand if worker.figures.instructions < ALONE || !demand.is_met() => {
+                let _before = worker.figures.count_strand();
+                next = do_strand(rt, shared, demand, worker);
+            }
+            Next::Leave(left) => {
+                worker.left = left;
+                return false;
+            }
+            Next::Strand | Next::Search | Next::Rest { heard: _ } => break,
+        }
+    }
+    worker.habits.keep_quiet(0);
+    true
 }
 
 /// One strand of the worker's task; tasks that it leaves ready are offered.

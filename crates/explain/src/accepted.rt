@@ -2,7 +2,7 @@
 
 use crate::trial::fault_of;
 use explain_costs::push_budgets;
-use explain_facts::spend;
+use explain_facts::Means;
 use explain_findings::{Source, with_line_at};
 use ir_reader::read;
 use lists::{OutOfMemory, TextBuffer};
@@ -18,39 +18,22 @@ const MOST_TRIED: usize = 1_000;
 const STEPS_A_BYTE: usize = 50;
 
 /// Whether the text without the line of this number is accepted.
-fn is_unneeded(
-    alloc: Global,
-    source: Source<'_>,
-    number: u32,
-    effort: &Effort,
-) -> Result<bool, Unanswered> {
-    spend(effort, source.text.len().saturating_mul(STEPS_A_BYTE))?;
-    let without = with_line_at(alloc, source.text, number, "")?;
-    Ok(fault_of(alloc, source.state, without.as_str(), effort)?.is_none())
-}
-
-/// A line of this number, where the module is accepted as well without it.
-fn push_if_unneeded(
-    alloc: Global,
-    source: Source<'_>,
-    number: u32,
-    words: &str,
-    effort: &Effort,
-    out: &mut TextBuffer,
-) -> Result<(), Unanswered> {
-    if is_unneeded(alloc, source, number, effort)? {
-        writeln!(out, "accepted without line {number}: {words}");
+fn is_unneeded(means: &Means<'_>, source: Source<'_>, number: u32) -> bool {
+    if !means.spend(source.text.len().saturating_mul(STEPS_A_BYTE)) {
+        return false;
     }
-    Ok(())
+    let without = means.made(with_line_at(means.alloc, source.text, number, ""));
+    match fault_of(means.alloc, source.state, without.as_str(), means.effort) {
+        Ok(fault) => fault.is_none(),
+        Err(lack) => {
+            means.note(lack);
+            false
+        }
+    }
 }
 
 /// The annotations without which the module is accepted as well, each taken away alone.
-fn push_unneeded(
-    alloc: Global,
-    source: Source<'_>,
-    effort: &Effort,
-    out: &mut TextBuffer,
-) -> Result<(), Unanswered> {
+fn push_unneeded(means: &Means<'_>, source: Source<'_>, out: &mut TextBuffer) {
     let mut number: u32 = 0;
     let mut tried: usize = 0;
     for line in source.text.lines() {
@@ -58,40 +41,29 @@ fn push_unneeded(
         let words = line.trim();
         if words.starts_with(";!") && tried < MOST_TRIED {
             tried = tried.saturating_add(1);
-            push_if_unneeded(alloc, source, number, words, effort, out)?;
+            if is_unneeded(means, source, number) {
+                writeln!(out, "accepted without line {number}: {words}");
+            }
         }
-    }
-    Ok(())
-}
-
-/// What each function's budget has left over; none where the text cannot be read.
-fn budget_remarks(
-    alloc: Global,
-    source: Source<'_>,
-    program: &Program,
-) -> Result<Option<TextBuffer>, OutOfMemory> {
-    match read(alloc, source.state, source.text.as_bytes()) {
-        Ok(whole) => {
-            let mut out = TextBuffer::new(alloc);
-            push_budgets(alloc, program, &whole, &mut out)?;
-            Ok(Some(out))
-        }
-        Err(Refused::Fault { .. }) => Ok(None),
-        Err(Refused::Memory) => Err(OutOfMemory),
     }
 }
 
-/// What each function's budget has left over, and the annotations that are not needed, as far as the effort reaches.
+/// What each function's budget has left over, and the annotations that are not needed, as far as the effort reaches; nothing where the text cannot be read.
 pub fn remarks(
     alloc: Global,
     source: Source<'_>,
     program: &Program,
     effort: &Effort,
 ) -> Result<String, OutOfMemory> {
-    let Some(mut out) = budget_remarks(alloc, source, program)? else {
-        return Ok(String::new(alloc));
-    };
-    match push_unneeded(alloc, source, effort, &mut out) {
+    let means = Means::new(alloc, effort);
+    let mut out = TextBuffer::new(alloc);
+    match read(alloc, source.state, source.text.as_bytes()) {
+        Ok(whole) => push_budgets(&means, program, &whole, &mut out),
+        Err(Refused::Fault { .. }) => return Ok(String::new(alloc)),
+        Err(Refused::Memory) => return Err(OutOfMemory),
+    }
+    push_unneeded(&means, source, &mut out);
+    match means.finish() {
         Ok(()) => {}
         Err(Unanswered::OutOfMemory) => return Err(OutOfMemory),
         Err(Unanswered::OutOfEffort) => {

@@ -46,22 +46,19 @@ fn number_of(text: &str) -> u32 {
 
 impl Trial<'_> {
     /// The text with a line that is to be tried; none where the sentence names none.
-    fn text_with(self, told: &str) -> Result<Option<String>, Unanswered> {
+    fn text_with(self, told: &str) -> Result<Option<String>, AllocError> {
         let text = self.source.text;
         let Some(words) = told.strip_prefix("    try: ") else {
             return Ok(None);
         };
-        if let Some((line, after)) = words.split_once(", after line ") {
-            let before = number_of(after).saturating_add(1);
-            return Ok(Some(with_line_before(self.alloc, text, before, line)?));
-        }
-        match words.split_once(", in place of line ") {
-            Some((line, number)) => {
-                let number = number_of(number);
-                Ok(Some(with_line_at(self.alloc, text, number, line)?))
-            }
-            None => Ok(None),
-        }
+        let changed = if let Some((line, after)) = words.split_once(", after line ") {
+            with_line_before(self.alloc, text, number_of(after).saturating_add(1), line)
+        } else if let Some((line, number)) = words.split_once(", in place of line ") {
+            with_line_at(self.alloc, text, number_of(number), line)
+        } else {
+            return Ok(None);
+        };
+        Ok(Some(changed?))
     }
 
     /// Whether a rule of zones refuses something of a text with a line, and nothing of the one without it.

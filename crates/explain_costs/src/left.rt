@@ -1,31 +1,25 @@
 //! What is said of a block without a `left` line, and the line that would do.
 
 use crate::rounds::push_rounds;
-use crate::sums::{Counted, Share, amount, less_form, number_sum, plus_form};
+use crate::sums::{Counted, Share, amount};
 use cost_table::Work;
-use explain_facts::{Known, Scene, Trying, push_form, within_bounds};
+use explain_facts::{Known, Means, Scene, Trying, plural, push_form};
 use linear::{Fact, Form, RegisterId};
-use lists::{OutOfMemory, TextBuffer};
+use lists::TextBuffer;
 use program::{Block, Function, Instruction, Step};
-use ranges::{Sum, Unanswered, start_facts, sum_form};
-use std::alloc::{AllocError, Global};
+use ranges::start_facts;
 
 /// A number that no coefficient of a form reaches: 2^24.
 const FACTOR_LIMIT: u64 = 16_777_216;
 
-/// What comes next behind a block, on one of its ways: what is left at no place, at one, or at both targets of a detach.
+/// A block without a `left` line, with what it does and what comes next: on one way all of these places, or each on a way of its own.
 #[derive(Clone, Copy)]
-pub struct Need<'a> {
-    pub first: Option<Share<'a>>,
-    pub second: Option<Share<'a>>,
-}
-
-/// A block without a `left` line, with what it does.
-#[derive(Clone, Copy)]
-struct Bare<'s, 'a> {
-    trying: Trying<'s, 'a>,
-    block: &'a Block,
-    work: Work,
+pub struct Bare<'s, 'a> {
+    pub trying: Trying<'s, 'a>,
+    pub block: &'a Block,
+    pub work: Work,
+    pub shares: &'a [Share<'a>],
+    pub is_one_way: bool,
 }
 
 /// What is to be left at a place: the two forms of a `left` line.
@@ -64,22 +58,17 @@ fn cancelling(in_form: i64, in_fact: i64) -> i64 {
 }
 
 /// A form that is at least this one and does not name the register, by a fact about it.
-fn by_fact(
-    alloc: Global,
-    form: &Form,
-    register: RegisterId,
-    fact: &Fact,
-) -> Result<Option<Form>, OutOfMemory> {
+fn by_fact(means: &Means<'_>, form: &Form, register: RegisterId, fact: &Fact) -> Option<Form> {
     let in_form = coefficient(form, register);
     let in_fact = coefficient(&fact.form, register);
     let factor = cancelling(in_form, in_fact);
     if factor <= 0 {
-        return Ok(None);
+        return None;
     }
     if factor.unsigned_abs() >= FACTOR_LIMIT {
-        return Ok(None);
+        return None;
     }
-    within_bounds(form.copy(alloc)?.plus_multiple(factor, &fact.form))
+    means.within_bounds(means.copy(form).plus_multiple(factor, &fact.form))
 }
 
 /// The coefficient that a register has in a form.
@@ -93,18 +82,13 @@ fn coefficient(form: &Form, register: RegisterId) -> i64 {
 }
 
 /// A form that is at least this one and does not name the register, by the first fact that lets it.
-fn without_register(
-    alloc: Global,
-    form: Form,
-    register: RegisterId,
-    facts: &[Fact],
-) -> Result<Form, OutOfMemory> {
-    for fact in facts {
-        if let Some(other) = by_fact(alloc, &form, register, fact)? {
-            return Ok(other);
+fn without_register(known: Known<'_>, form: Form, register: RegisterId) -> Form {
+    for fact in known.facts {
+        if let Some(other) = by_fact(known.means, &form, register, fact) {
+            return other;
         }
     }
-    Ok(form)
+    form
 }
 
 /// The register that a step defines, where a form names it.
@@ -117,14 +101,11 @@ fn named_by(step: &Step, form: &Form) -> Option<RegisterId> {
     None
 }
 
-/// The `left` line that says what is wanted.
-fn left_line(alloc: Global, scene: &Scene<'_>, wanted: &Wanted) -> Result<String, AllocError> {
-    let mut line = TextBuffer::new(alloc);
-    line.push_str(";! left ");
-    push_form(scene, &wanted.self_calls, &mut line);
-    line.push_str(" ");
-    push_form(scene, &wanted.instructions, &mut line);
-    line.finish()
+/// Adds what is left: two forms.
+fn push_left(scene: &Scene<'_>, self_calls: &Form, instructions: &Form, out: &mut TextBuffer) {
+    push_form(scene, self_calls, out);
+    out.push_str(" ");
+    push_form(scene, instructions, out);
 }
 
 /// Whether a block has a `left` line: where it has none, what is left stands on the label's own.
@@ -135,145 +116,119 @@ fn has_left(function: &Function, share: &Share<'_>) -> bool {
     }
 }
 
-/// A sum, and what is left at a place, if there is one.
-fn plus_share(sum: Sum, counted: Counted, share: Option<Share<'_>>) -> Result<Sum, OutOfMemory> {
-    match share {
-        Some(share) => plus_form(sum, share.moves, counted.of_left(share.left)),
-        None => Ok(sum),
+/// Whether one form is known to be at least another.
+fn is_at_least(known: Known<'_>, high: &Form, low: &Form) -> bool {
+    let means = known.means;
+    known.shows(&means.less(means.plus(means.sum(0), &[], high), &[], low))
+}
+
+/// Whether what one way wants is enough for another one.
+fn is_enough(known: Known<'_>, one: &Wanted, other: &Wanted) -> bool {
+    is_at_least(known, &one.self_calls, &other.self_calls)
+        && is_at_least(known, &one.instructions, &other.instructions)
+}
+
+/// Of two the one that is enough for both.
+fn more_wanted(known: Known<'_>, one: Wanted, other: Wanted) -> Option<Wanted> {
+    if is_enough(known, &one, &other) {
+        Some(one)
+    } else if is_enough(known, &other, &one) {
+        Some(other)
+    } else {
+        None
     }
 }
 
 impl Bare<'_, '_> {
-    fn scene(&self) -> &Scene<'_> {
-        self.trying.known.scene
-    }
-
     /// What is to be left for what the block does and for what comes next.
-    fn needed(
-        &self,
-        alloc: Global,
-        counted: Counted,
-        need: Need<'_>,
-    ) -> Result<Option<Form>, OutOfMemory> {
-        let done = number_sum(alloc, amount(counted.of_work(self.work)));
-        let with_first = plus_share(done, counted, need.first)?;
-        let with_both = plus_share(with_first, counted, need.second)?;
-        sum_form(alloc, &with_both)
+    fn needed(&self, counted: Counted, shares: &[Share<'_>]) -> Option<Form> {
+        let means = self.trying.known.means;
+        let mut sum = means.sum(amount(counted.of_work(self.work)));
+        for share in shares {
+            sum = means.plus(sum, share.moves, counted.of_left(share.left));
+        }
+        means.form(&sum)
     }
 
     /// A form at the block's start that is at least this one at its end: without the registers that the block defines.
-    fn at_start(&self, alloc: Global, form: Form) -> Result<Form, OutOfMemory> {
+    fn at_start(&self, form: Form) -> Form {
         let mut form = form;
         for step in self.block.steps.as_slice().iter().rev() {
             if let Some(register) = named_by(step, &form) {
-                form = without_register(alloc, form, register, self.trying.known.facts)?;
+                form = without_register(self.trying.known, form, register);
             }
         }
-        Ok(form)
-    }
-
-    /// What is to be left at the block's start for what it does and for what comes next.
-    fn needed_at_start(
-        &self,
-        alloc: Global,
-        counted: Counted,
-        need: Need<'_>,
-    ) -> Result<Option<Form>, OutOfMemory> {
-        match self.needed(alloc, counted, need)? {
-            Some(form) => Ok(Some(self.at_start(alloc, form)?)),
-            None => Ok(None),
-        }
+        form
     }
 
     /// What is to be left at the block's start for one of the ways behind it.
-    fn wanted(&self, alloc: Global, need: Need<'_>) -> Result<Option<Wanted>, OutOfMemory> {
-        let self_calls = self.needed_at_start(alloc, Counted::SelfCalls, need)?;
-        let instructions = self.needed_at_start(alloc, Counted::Instructions, need)?;
-        Ok(match (self_calls, instructions) {
-            (Some(self_calls), Some(instructions)) => Some(Wanted {
-                self_calls,
-                instructions,
-            }),
-            _ => None,
+    fn wanted(&self, shares: &[Share<'_>]) -> Option<Wanted> {
+        let self_calls = self.needed(Counted::SelfCalls, shares);
+        let instructions = self.needed(Counted::Instructions, shares);
+        let (Some(self_calls), Some(instructions)) = (self_calls, instructions) else {
+            return None;
+        };
+        Some(Wanted {
+            self_calls: self.at_start(self_calls),
+            instructions: self.at_start(instructions),
         })
     }
 
-    /// Whether one form is known to be at least another.
-    fn is_at_least(&self, alloc: Global, high: &Form, low: &Form) -> Result<bool, Unanswered> {
-        let high = plus_form(number_sum(alloc, 0), &[], high)?;
-        let difference = less_form(high, &[], low)?;
-        self.trying.known.shows(alloc, &difference)
-    }
-
-    /// Whether what one way wants is enough for another one.
-    fn is_enough(&self, alloc: Global, one: &Wanted, other: &Wanted) -> Result<bool, Unanswered> {
-        Ok(
-            self.is_at_least(alloc, &one.self_calls, &other.self_calls)?
-                && self.is_at_least(alloc, &one.instructions, &other.instructions)?,
-        )
-    }
-
     /// What is enough for all ways behind the block, where one of them wants as much as each.
-    fn most_wanted(&self, alloc: Global, needs: &[Need<'_>]) -> Result<Option<Wanted>, Unanswered> {
+    fn most_wanted(&self) -> Option<Wanted> {
+        if self.is_one_way {
+            return self.wanted(self.shares);
+        }
         let mut most: Option<Wanted> = None;
-        for need in needs {
-            let Some(wanted) = self.wanted(alloc, *need)? else {
-                return Ok(None);
+        for place in 0..self.shares.len() {
+            let Some(wanted) = self.wanted(&self.shares[place..place + 1]) else {
+                return None;
             };
             most = match most {
-                None => Some(wanted),
-                Some(other) => match self.more_wanted(alloc, other, wanted)? {
+                Some(other) => match more_wanted(self.trying.known, other, wanted) {
                     Some(more) => Some(more),
-                    None => return Ok(None),
+                    None => return None,
                 },
+                None => Some(wanted),
             };
         }
-        Ok(most)
-    }
-
-    /// Of two the one that is enough for both.
-    fn more_wanted(
-        &self,
-        alloc: Global,
-        one: Wanted,
-        other: Wanted,
-    ) -> Result<Option<Wanted>, Unanswered> {
-        if self.is_enough(alloc, &one, &other)? {
-            Ok(Some(one))
-        } else if self.is_enough(alloc, &other, &one)? {
-            Ok(Some(other))
-        } else {
-            Ok(None)
-        }
+        most
     }
 
     /// Whether both forms are known to be at least 0 where the block begins.
-    fn is_at_least_zero(&self, alloc: Global, wanted: &Wanted) -> Result<bool, Unanswered> {
+    fn is_at_least_zero(&self, wanted: &Wanted) -> bool {
         let known = self.trying.known;
+        let means = known.means;
         let function = known.scene.function;
-        let facts = start_facts(alloc, function, known.block.0, self.block)?;
+        let facts = means.items(start_facts(means.alloc, function, known.block.0, self.block));
         let start = Known {
             facts: facts.as_slice(),
             ..known
         };
-        let calls = plus_form(number_sum(alloc, 0), &[], &wanted.self_calls)?;
-        let instructions = plus_form(number_sum(alloc, 0), &[], &wanted.instructions)?;
-        Ok(start.shows(alloc, &calls)? && start.shows(alloc, &instructions)?)
+        start.shows(&means.plus(means.sum(0), &[], &wanted.self_calls))
+            && start.shows(&means.plus(means.sum(0), &[], &wanted.instructions))
     }
 
-    /// A `left` line of the block that is enough, if the text can have it.
-    fn push_line(
-        &self,
-        alloc: Global,
-        wanted: &Wanted,
-        out: &mut TextBuffer,
-    ) -> Result<(), Unanswered> {
-        let line = left_line(alloc, self.scene(), wanted)?;
+    /// A `left` line of the block that is enough for all ways behind it, where one of them wants as much as each and the text can have the line.
+    fn push_line(&self, out: &mut TextBuffer) {
+        let known = self.trying.known;
+        let Some(wanted) = self.most_wanted() else {
+            return;
+        };
+        let mut line = TextBuffer::new(known.means.alloc);
+        line.push_str(";! left ");
+        push_left(
+            known.scene,
+            &wanted.self_calls,
+            &wanted.instructions,
+            &mut line,
+        );
         let after = self.block.line;
-        if !self.trying.is_line(alloc, line.as_str(), after)? {
-            return Ok(());
+        let line = known.means.text(line);
+        if !self.trying.is_line(line.as_str(), after) {
+            return;
         }
-        if self.is_at_least_zero(alloc, wanted)? {
+        if self.is_at_least_zero(&wanted) {
             writeln!(out, "    try: {line}, after line {after}");
         } else {
             writeln!(
@@ -281,108 +236,57 @@ impl Bare<'_, '_> {
                 "    {line} would be enough, but nothing shows at the block's start that it is at least 0: bound its registers there by `keeps`"
             );
         }
-        Ok(())
-    }
-
-    /// A `left` line that is enough for all ways behind the block, where one of them wants as much as each.
-    fn push_enough(
-        &self,
-        alloc: Global,
-        needs: &[Need<'_>],
-        out: &mut TextBuffer,
-    ) -> Result<(), Unanswered> {
-        match self.most_wanted(alloc, needs)? {
-            Some(wanted) => self.push_line(alloc, &wanted, out),
-            None => Ok(()),
-        }
     }
 
     /// What the block does, for which nothing is left.
     fn push_head(&self, out: &mut TextBuffer) {
-        let label = self.scene().label(self.trying.known.block);
+        let known = self.trying.known;
+        let label = known.scene.label(known.block);
         let instructions = self.work.instructions;
-        let plural = if instructions == 1 { "" } else { "s" };
+        let s = plural(amount(instructions));
         write!(
             out,
-            "  %{label} has no `left` line, so nothing is left there: it does {instructions} instruction{plural}"
+            "  %{label} has no `left` line, so nothing is left there: it does {instructions} instruction{s}"
         );
         if self.work.calls > 0 {
             let calls = self.work.calls;
-            let plural = if calls == 1 { "" } else { "s" };
-            write!(out, " and {calls} self call{plural}");
+            let s = plural(amount(calls));
+            write!(out, " and {calls} self call{s}");
         }
         out.push_str("\n");
     }
 
-    /// What is left at a place behind the block; false where the place has no line for that.
-    fn push_share(&self, place: Option<Share<'_>>, out: &mut TextBuffer) -> bool {
-        let Some(share) = place else {
-            return true;
-        };
-        let scene = self.scene();
-        let label = scene.label(share.to);
-        write!(out, "    behind it comes %{label}, ");
-        if !has_left(scene.function, &share) {
-            out.push_str("which has no `left` line either\n");
-            return false;
-        }
-        out.push_str("with `left ");
-        push_form(scene, &share.left.self_calls, out);
-        out.push_str(" ");
-        push_form(scene, &share.left.instructions, out);
-        out.push_str("`\n");
-        true
-    }
-
-    /// What comes next on each way; false where something of it has no `left` line itself.
-    fn push_needs(&self, needs: &[Need<'_>], out: &mut TextBuffer) -> bool {
+    /// What comes next; false where a place of it has no `left` line itself.
+    fn push_shares(&self, out: &mut TextBuffer) -> bool {
+        let scene = self.trying.known.scene;
         let mut is_whole = true;
-        for need in needs {
-            let is_first_whole = self.push_share(need.first, out);
-            let is_second_whole = self.push_share(need.second, out);
-            is_whole = is_whole && is_first_whole && is_second_whole;
+        for share in self.shares {
+            let label = scene.label(share.to);
+            write!(out, "    behind it comes %{label}, ");
+            if has_left(scene.function, share) {
+                out.push_str("with `left ");
+                push_left(scene, &share.left.self_calls, &share.left.instructions, out);
+                out.push_str("`\n");
+            } else {
+                out.push_str("which has no `left` line either\n");
+                is_whole = false;
+            }
         }
         is_whole
     }
-}
 
-/// What is said of a block without a `left` line.
-#[derive(Drop)]
-pub struct Missing {
-    pub notes: String,
-    /// Whether it may follow from what is said of a block behind it.
-    pub follows: bool,
-}
-
-/// That the block has no `left` line, what it does and what comes next on each of its ways, and a line that would do; of a loop's first block, where there
-/// is none, what counts the rounds.
-pub fn missing_left(
-    alloc: Global,
-    trying: Trying<'_, '_>,
-    block: &Block,
-    work: Work,
-    needs: &[Need<'_>],
-) -> Result<Missing, Unanswered> {
-    let bare = Bare {
-        trying,
-        block,
-        work,
-    };
-    let mut out = TextBuffer::new(alloc);
-    bare.push_head(&mut out);
-    let mut follows = false;
-    if bare.push_needs(needs, &mut out) {
-        bare.push_enough(alloc, needs, &mut out)?;
-    } else {
-        let known = trying.known;
-        let is_loop = push_rounds(alloc, known.scene, known.block, known.effort, &mut out)?;
-        if !is_loop {
+    /// Adds that the block has no `left` line, what it does and what comes next, and a line that would do; of a loop's first block, where there is none,
+    /// what counts the rounds. Answers whether it may follow from what is said of a block behind it.
+    pub fn push_missing(&self, out: &mut TextBuffer) -> bool {
+        self.push_head(out);
+        if self.push_shares(out) {
+            self.push_line(out);
+            return false;
+        }
+        let follows = !push_rounds(self.trying.known, out);
+        if follows {
             out.push_str("    begin with the last blocks\n");
         }
-        follows = !is_loop;
+        follows
     }
-    Ok(Missing {
-        notes: out.finish()?,
-        follows,
-    })
 }

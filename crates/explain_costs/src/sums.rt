@@ -1,11 +1,9 @@
-//! What is counted and left, as sums.
+//! What is counted and left.
 
 use cost_table::Work;
-use linear::{Form, side_of};
-use lists::{OutOfMemory, Seq};
+use linear::Form;
 use program::{BlockId, Left};
-use ranges::{Move, Sum, push_parts};
-use std::alloc::Global;
+use ranges::Move;
 
 /// What is counted.
 #[derive(Clone, Copy)]
@@ -23,13 +21,6 @@ pub struct Share<'a> {
 }
 
 impl Counted {
-    pub fn word(self) -> &'static str {
-        match self {
-            Counted::SelfCalls => "self calls",
-            Counted::Instructions => "instructions",
-        }
-    }
-
     pub fn unit(self) -> &'static str {
         match self {
             Counted::SelfCalls => "self call",
@@ -55,36 +46,4 @@ impl Counted {
 /// A number of what is done; the greatest stands for all beyond.
 pub fn amount(done: u128) -> i128 {
     i128::try_from(done).unwrap_or(i128::MAX)
-}
-
-/// A number alone.
-pub fn number_sum(alloc: Global, number: i128) -> Sum {
-    Sum {
-        constant: number,
-        parts: Seq::new(alloc),
-    }
-}
-
-/// A sum, and a form with the moves put in.
-pub fn plus_form(sum: Sum, moves: &[Move], form: &Form) -> Result<Sum, OutOfMemory> {
-    let Sum { constant, parts } = sum;
-    let side = side_of(form);
-    let mut parts = parts.into_vec();
-    push_parts(&mut parts, moves, 1, side.terms)?;
-    Ok(Sum {
-        constant: constant.saturating_add(side.constant),
-        parts: Seq::from_vec(parts),
-    })
-}
-
-/// A sum, less a form with the moves put in.
-pub fn less_form(sum: Sum, moves: &[Move], form: &Form) -> Result<Sum, OutOfMemory> {
-    let Sum { constant, parts } = sum;
-    let side = side_of(form);
-    let mut parts = parts.into_vec();
-    push_parts(&mut parts, moves, -1, side.terms)?;
-    Ok(Sum {
-        constant: constant.saturating_sub(side.constant),
-        parts: Seq::from_vec(parts),
-    })
 }

@@ -1,7 +1,8 @@
 //! Faults of numbers, each with what was to be shown.
 
-use crate::gap::{edge_known, first_facts, spend};
+use crate::gap::{edge_known, first_facts};
 use crate::known::{Known, fact_lines};
+use crate::means::Means;
 use crate::missing::Missing;
 use crate::scene::Scene;
 use crate::silent::push_silent_compare;
@@ -9,9 +10,9 @@ use crate::trial::Matched;
 use crate::tries::Trying;
 use crate::unmet::{Unmet, all_unmet};
 use explain_findings::{Finding, Source, line_at, push_found};
-use lists::TextBuffer;
+use lists::{OutOfMemory, TextBuffer};
 use program::{Block, BlockId, Instruction, Step, Width};
-use ranges::{BlockFacts, EdgeFacts, Effort, Sum, Unanswered, block_facts};
+use ranges::{BlockFacts, Effort, Sum, Unanswered, block_facts};
 use std::alloc::Global;
 
 /// What asks it: an annotation, and where it stands on an edge the edge's target.
@@ -35,21 +36,15 @@ fn push_asked(
 }
 
 /// What there is to choose, where it is not one sum alone, and each sum of which one is to be shown.
-fn push_choices(
-    alloc: Global,
-    trying: Trying<'_, '_>,
-    choices: &[Sum],
-    notes: &mut TextBuffer,
-) -> Result<(), Unanswered> {
+fn push_choices(trying: Trying<'_, '_>, choices: &[Sum], notes: &mut TextBuffer) {
     match choices.len() {
         0 => notes.push_str("  one operand must be a number from -1000000 to 1000000\n"),
         1 => {}
         _ => notes.push_str("  one of these is to be shown:\n"),
     }
     for sum in choices {
-        trying.push_unshown(alloc, sum, notes)?;
+        trying.push_unshown(sum, notes);
     }
-    Ok(())
 }
 
 /// What an instruction asks for, in words: the range of an index, or of a result that fits its width.
@@ -97,109 +92,6 @@ fn push_asked_range(scene: &Scene<'_>, block: &Block, unmet: &Unmet, notes: &mut
     }
 }
 
-/// The edge on which something is not shown.
-fn edge_of<'a>(unmet: &Unmet, table: &'a BlockFacts) -> Option<&'a EdgeFacts> {
-    match unmet.site.edge {
-        Some(place) => table.edges.as_slice().get(place),
-        None => None,
-    }
-}
-
-/// What there is to say of a place, with the block that its edge leads to; and whether it may follow from what is missing before.
-fn push_place_notes(
-    alloc: Global,
-    trying: Trying<'_, '_>,
-    edge: Option<BlockId>,
-    unmet: &Unmet,
-    missing: &mut Missing,
-    notes: &mut TextBuffer,
-) -> Result<bool, Unanswered> {
-    let known = trying.known;
-    push_asked(trying.text(), known.scene, unmet, edge, notes);
-    push_choices(alloc, trying, unmet.choices.as_slice(), notes)?;
-    push_silent_compare(known.scene, known.block, edge, unmet, notes);
-    missing.take(alloc, known, unmet)
-}
-
-/// What there is to say of an edge, where this is known at the end of its block.
-fn push_edge_notes(
-    alloc: Global,
-    trying: Trying<'_, '_>,
-    edge: &EdgeFacts,
-    unmet: &Unmet,
-    missing: &mut Missing,
-    notes: &mut TextBuffer,
-) -> Result<bool, Unanswered> {
-    let facts = edge_known(alloc, trying.known.facts, edge)?;
-    let there = trying.with_known(Known {
-        facts: facts.as_slice(),
-        ..trying.known
-    });
-    push_place_notes(alloc, there, Some(edge.to), unmet, missing, notes)
-}
-
-fn push_block_notes(
-    alloc: Global,
-    source: Source<'_>,
-    scene: &Scene<'_>,
-    block: &Block,
-    unmet: &Unmet,
-    old: &[Unmet],
-    effort: &Effort,
-    missing: &mut Missing,
-    notes: &mut TextBuffer,
-) -> Result<bool, Unanswered> {
-    let index = unmet.site.block;
-    spend(effort, block.steps.len())?;
-    let (table, _) = block_facts(alloc, scene.program, scene.function, index, block, effort)?;
-    let lines = fact_lines(alloc, scene.function, index, block, &table)?;
-    let trying = Trying::beside(
-        source,
-        Known {
-            scene,
-            block: BlockId(index),
-            facts: first_facts(table.facts.as_slice(), unmet.site.count),
-            lines: lines.as_slice(),
-            stated: unmet.site.count,
-            line: unmet.site.line,
-            effort,
-        },
-        old,
-    );
-    match edge_of(unmet, &table) {
-        Some(edge) => push_edge_notes(alloc, trying, edge, unmet, missing, notes),
-        None => push_place_notes(alloc, trying, None, unmet, missing, notes),
-    }
-}
-
-/// Adds what there is to say of a fault, as far as that is not said where there is more of the same line; and whether it may follow from what is
-/// missing before.
-fn push_notes(
-    alloc: Global,
-    source: Source<'_>,
-    matched: &Matched,
-    unmet: &Unmet,
-    old: &[Unmet],
-    effort: &Effort,
-    is_more: bool,
-    missing: &mut Missing,
-    notes: &mut TextBuffer,
-) -> Result<bool, Unanswered> {
-    let program = &matched.graph.program;
-    let Some(scene) = Scene::of(alloc, program, &matched.whole, unmet.site.function)? else {
-        return Ok(false);
-    };
-    let Some(block) = scene.function.blocks.as_slice().get(unmet.site.block) else {
-        return Ok(false);
-    };
-    if !is_more {
-        push_asked_range(&scene, block, unmet, notes);
-    }
-    push_block_notes(
-        alloc, source, &scene, block, unmet, old, effort, missing, notes,
-    )
-}
-
 /// Whether a fault is at the line of the last finding, and breaks the same rule.
 fn is_of_last(findings: &[Finding], unmet: &Unmet) -> bool {
     match findings.last() {
@@ -208,28 +100,140 @@ fn is_of_last(findings: &[Finding], unmet: &Unmet) -> bool {
     }
 }
 
-/// A fault with what there is to say of it; `is_more` where the last finding is of the same line and rule.
-fn finding_of(
-    alloc: Global,
-    source: Source<'_>,
-    matched: &Matched,
-    unmet: &Unmet,
-    old: &[Unmet],
-    effort: &Effort,
-    is_more: bool,
-    missing: &mut Missing,
-) -> Result<Finding, Unanswered> {
-    let mut notes = TextBuffer::new(alloc);
-    let follows = push_notes(
-        alloc, source, matched, unmet, old, effort, is_more, missing, &mut notes,
-    )?;
-    Ok(Finding {
-        number: unmet.number,
-        line: unmet.site.line,
-        cause: None,
-        follows,
-        notes: notes.finish()?,
-    })
+/// A text with faults of numbers, and what is told of them.
+#[derive(Clone, Copy)]
+struct Telling<'s, 'a> {
+    means: &'a Means<'a>,
+    source: Source<'s>,
+    matched: &'a Matched,
+    unmet: &'a [Unmet],
+}
+
+impl Telling<'_, '_> {
+    /// What there is to say of a place, with the block that its edge leads to; and whether it may follow from what is missing before.
+    fn push_place_notes(
+        self,
+        known: Known<'_>,
+        edge: Option<BlockId>,
+        unmet: &Unmet,
+        missing: &mut Missing,
+        notes: &mut TextBuffer,
+    ) -> bool {
+        let trying = Trying {
+            source: Some(self.source),
+            known,
+            old: self.unmet,
+        };
+        push_asked(self.source.text, known.scene, unmet, edge, notes);
+        push_choices(trying, unmet.choices.as_slice(), notes);
+        push_silent_compare(known.scene, known.block, edge, unmet, notes);
+        missing.take(known, unmet)
+    }
+
+    /// What there is to say of a place of a block, where this is known in the block.
+    fn push_table_notes(
+        self,
+        scene: &Scene<'_>,
+        block: &Block,
+        table: &BlockFacts,
+        unmet: &Unmet,
+        missing: &mut Missing,
+        notes: &mut TextBuffer,
+    ) -> bool {
+        let means = self.means;
+        let site = unmet.site;
+        let lines = fact_lines(means, scene.function, site.block, block, table);
+        let facts = first_facts(table.facts.as_slice(), site.count);
+        let known = Known {
+            scene: &*scene,
+            edges: self.matched.edges(site.function),
+            block: BlockId(site.block),
+            facts,
+            lines: lines.as_slice(),
+            stated: site.count,
+            line: site.line,
+            means,
+        };
+        let edge = match site.edge {
+            Some(place) => table.edges.as_slice().get(place),
+            None => None,
+        };
+        match edge {
+            Some(edge) => {
+                let facts = means.items(edge_known(means.alloc, facts, edge));
+                let known = Known {
+                    facts: facts.as_slice(),
+                    ..known
+                };
+                self.push_place_notes(known, Some(edge.to), unmet, missing, notes)
+            }
+            None => self.push_place_notes(known, None, unmet, missing, notes),
+        }
+    }
+
+    /// Adds what there is to say of a fault, as far as that is not said where there is more of the same line; and whether it may follow from what is
+    /// missing before.
+    fn push_notes(
+        self,
+        scene: &Scene<'_>,
+        unmet: &Unmet,
+        is_more: bool,
+        missing: &mut Missing,
+        notes: &mut TextBuffer,
+    ) -> bool {
+        let means = self.means;
+        let index = unmet.site.block;
+        let Some(block) = scene.function.blocks.as_slice().get(index) else {
+            return false;
+        };
+        if !is_more {
+            push_asked_range(scene, block, unmet, notes);
+        }
+        if !means.spend(block.steps.len()) {
+            return false;
+        }
+        let made = block_facts(
+            means.alloc,
+            scene.program,
+            scene.function,
+            index,
+            block,
+            means.effort,
+        );
+        match means.kept(made) {
+            Some((table, _)) => self.push_table_notes(scene, block, &table, unmet, missing, notes),
+            None => false,
+        }
+    }
+
+    /// A fault with what there is to say of it; `is_more` where the last finding is of the same line and rule.
+    fn finding_of(
+        self,
+        unmet: &Unmet,
+        is_more: bool,
+        missing: &mut Missing,
+    ) -> Result<Finding, OutOfMemory> {
+        let alloc = self.means.alloc;
+        let matched = self.matched;
+        let mut notes = TextBuffer::new(alloc);
+        let scene = Scene::of(
+            alloc,
+            &matched.graph.program,
+            &matched.whole,
+            unmet.site.function,
+        )?;
+        let follows = match &scene {
+            Some(scene) => self.push_notes(scene, unmet, is_more, missing, &mut notes),
+            None => false,
+        };
+        Ok(Finding {
+            number: unmet.number,
+            line: unmet.site.line,
+            cause: None,
+            follows,
+            notes: notes.finish()?,
+        })
+    }
 }
 
 /// All faults of numbers of a text, as far as the effort reaches.
@@ -239,23 +243,23 @@ pub fn number_findings(
     matched: &Matched,
     effort: &Effort,
 ) -> Result<Vec<Finding>, Unanswered> {
+    let means = Means::new(alloc, effort);
+    let all = all_unmet(&means, matched);
+    let telling = Telling {
+        means: &means,
+        source,
+        matched,
+        unmet: all.as_slice(),
+    };
     let mut findings: Vec<Finding> = Vec::new(alloc);
     let mut missing = Missing::none(alloc);
-    let all = all_unmet(alloc, matched, effort)?;
     for unmet in &all {
-        let old = all.as_slice();
         let is_more = is_of_last(findings.as_slice(), unmet);
-        let found = finding_of(
-            alloc,
-            source,
-            matched,
-            unmet,
-            old,
-            effort,
-            is_more,
-            &mut missing,
+        push_found(
+            &mut findings,
+            telling.finding_of(unmet, is_more, &mut missing)?,
         )?;
-        push_found(&mut findings, found)?;
     }
+    means.finish()?;
     Ok(findings)
 }

@@ -1,10 +1,9 @@
 //! Tests by which a block is reached: a loop's test that lets its counter go too far.
 
 use crate::scene::Scene;
+use cfg::BlockEdges;
 use lists::TextBuffer;
-use program::{
-    Block, BlockId, Case, Function, Instruction, Operand, RegisterId, Terminator, Width,
-};
+use program::{Block, BlockId, Function, Instruction, Operand, RegisterId, Terminator, Width};
 use syntax::Predicate;
 
 /// A test that bounds a register from above by a number where it is true.
@@ -17,49 +16,11 @@ struct Test {
     most: i64,
 }
 
-/// Whether a case of a switch leads to a block.
-fn has_case_to(cases: &[Case], to: BlockId) -> bool {
-    for case in cases {
-        if case.target == to {
-            return true;
-        }
-    }
-    false
-}
-
-/// Whether a terminator leads to a block.
-fn leads_to(terminator: &Terminator, to: BlockId) -> bool {
-    match terminator {
-        Terminator::Jump { target } | Terminator::Sync { target, .. } => *target == to,
-        Terminator::Branch {
-            when_true,
-            when_false,
-            ..
-        } => *when_true == to || *when_false == to,
-        Terminator::Detach {
-            body,
-            continuation,
-            ..
-        } => *body == to || *continuation == to,
-        Terminator::Switch { default, cases, .. } => {
-            *default == to || has_case_to(cases.as_slice(), to)
-        }
-        Terminator::Return { .. } | Terminator::Reattach { .. } => false,
-    }
-}
-
-fn is_before(block: &Block, to: BlockId) -> bool {
-    match &block.ending {
-        Some(ending) => leads_to(&ending.terminator, to),
-        None => false,
-    }
-}
-
 /// The block that alone leads to this one, where there is just one.
-fn only_before(function: &Function, to: BlockId) -> Option<BlockId> {
+fn only_before(edges: &[BlockEdges], to: BlockId) -> Option<BlockId> {
     let mut found = None;
-    for (index, block) in function.blocks.as_slice().iter().enumerate() {
-        if is_before(block, to) {
+    for (index, block) in edges.iter().enumerate() {
+        if block.leads_to(to.0) {
             if found.is_some() {
                 return None;
             }
@@ -123,10 +84,15 @@ fn test_before(block: &Block, to: BlockId) -> Option<Test> {
 }
 
 /// The last test that bounds the register on the only way to a block.
-fn last_test(function: &Function, to: BlockId, register: RegisterId) -> Option<Test> {
+fn last_test(
+    function: &Function,
+    edges: &[BlockEdges],
+    to: BlockId,
+    register: RegisterId,
+) -> Option<Test> {
     let mut at = to;
-    for _step in 0..function.blocks.len() {
-        let before = only_before(function, at)?;
+    for _step in edges {
+        let before = only_before(edges, at)?;
         let block = function.blocks.as_slice().get(before.0)?;
         match test_before(block, at) {
             Some(test) if test.register == register => return Some(test),
@@ -146,12 +112,13 @@ fn width_word(width: Width) -> &'static str {
 /// Where a test on the only way to a block lets a register be more than it may be at most: the test that would do.
 pub fn push_test(
     scene: &Scene<'_>,
+    edges: &[BlockEdges],
     to: BlockId,
     register: RegisterId,
     most: i128,
     out: &mut TextBuffer,
 ) {
-    let Some(test) = last_test(scene.function, to, register) else {
+    let Some(test) = last_test(scene.function, edges, to, register) else {
         return;
     };
     if i128::from(test.most) <= most {

@@ -2,7 +2,8 @@
 
 ghost use Rattle.std.specs.Prelude.{◌≡◌, ◌++◌, IfOk};
 
-use linear::{Fact, Form, FormFault, Term};
+use crate::means::Means;
+use linear::{Fact, Form, Term};
 use linear_shown::{FactCursor, Known, push_copies, shown};
 use lists::OutOfMemory;
 use ranges::{EdgeFacts, Effort, Unanswered};
@@ -21,94 +22,70 @@ pub fn spend(effort: &Effort, steps: usize) -> Result<(), Unanswered> {
 }
 
 /// Whether the facts show the form.
-pub fn is_shown(
-    alloc: Global,
-    facts: &[Fact],
-    form: &Form,
-    effort: &Effort,
-) -> Result<bool, Unanswered> {
-    spend(effort, facts.len().saturating_mul(STEPS_A_FACT))?;
-    let mut cursor = FactCursor::new(alloc, facts, effort);
-    cursor.index()?;
-    Ok(cursor.known().ask(form)?)
+pub fn is_shown(means: &Means<'_>, facts: &[Fact], form: &Form) -> bool {
+    if !means.spend(facts.len().saturating_mul(STEPS_A_FACT)) {
+        return false;
+    }
+    let cursor = means.cursor(facts);
+    means.shows(&cursor.known(), form)
 }
 
 /// The sizes of numbers that a form may be raised by: 2^125.
 const TOO_MUCH: u128 = 42_535_295_865_117_307_932_921_825_928_971_026_432;
 
-/// What was made of forms, unless it would pass the bounds of a form.
-pub fn within_bounds(made: Result<Form, FormFault>) -> Result<Option<Form>, OutOfMemory> {
-    match made {
-        Ok(form) => Ok(Some(form)),
-        Err(FormFault::Bounds) => Ok(None),
-        Err(FormFault::Memory) => Err(OutOfMemory),
-    }
-}
-
 /// A form and so many more, unless it would pass the bounds of a form.
-pub fn raised(alloc: Global, form: &Form, amount: i128) -> Result<Option<Form>, OutOfMemory> {
+pub fn raised(means: &Means<'_>, form: &Form, amount: i128) -> Option<Form> {
     if amount.unsigned_abs() >= TOO_MUCH {
-        return Ok(None);
+        return None;
     }
-    within_bounds(form.copy(alloc)?.plus_constant(amount))
+    means.within_bounds(means.copy(form).plus_constant(amount))
 }
 
 /// Whether it is known that a form and so many more are at least 0.
-fn is_shown_with(
-    alloc: Global,
-    known: &Known<'_>,
-    form: &Form,
-    amount: i128,
-) -> Result<bool, Unanswered> {
-    match raised(alloc, form, amount)? {
-        Some(form) => Ok(known.ask(&form)?),
-        None => Ok(false),
+fn is_shown_with(means: &Means<'_>, known: &Known<'_>, form: &Form, amount: i128) -> bool {
+    match raised(means, form, amount) {
+        Some(form) => means.shows(known, &form),
+        None => false,
     }
 }
 
 /// A power of 2 with which the form is shown.
-fn amount_enough(
-    alloc: Global,
-    known: &Known<'_>,
-    form: &Form,
-) -> Result<Option<i128>, Unanswered> {
+fn amount_enough(means: &Means<'_>, known: &Known<'_>, form: &Form) -> Option<i128> {
     let mut amount: i128 = 1;
     for _step in 0..101 {
-        if is_shown_with(alloc, known, form, amount)? {
-            return Ok(Some(amount));
+        if is_shown_with(means, known, form, amount) {
+            return Some(amount);
         }
         amount = amount.saturating_mul(2);
     }
-    Ok(None)
+    None
 }
 
 /// The least amount with which the form is shown, where there is one; the form itself is not.
-pub fn shortfall(
-    alloc: Global,
-    facts: &[Fact],
-    form: &Form,
-    effort: &Effort,
-) -> Result<Option<i128>, Unanswered> {
-    spend(effort, facts.len().saturating_mul(STEPS_A_FACT))?;
-    let mut cursor = FactCursor::new(alloc, facts, effort);
-    cursor.index()?;
-    least_amount(alloc, &cursor.known(), form)
+pub fn shortfall(means: &Means<'_>, facts: &[Fact], form: &Form) -> Option<i128> {
+    if !means.spend(facts.len().saturating_mul(STEPS_A_FACT)) {
+        return None;
+    }
+    let cursor = means.cursor(facts);
+    let known = cursor.known();
+    match amount_enough(means, &known, form) {
+        Some(most) => Some(least_amount(means, &known, form, most)),
+        None => None,
+    }
 }
 
-/// The least amount with which the form is shown by what is known.
-fn least_amount(alloc: Global, known: &Known<'_>, form: &Form) -> Result<Option<i128>, Unanswered> {
-    let Some(mut least) = amount_enough(alloc, known, form)? else {
-        return Ok(None);
-    };
-    let mut step = least / 2;
+/// The least amount with which the form is shown by what is known, where this one is enough.
+fn least_amount(means: &Means<'_>, known: &Known<'_>, form: &Form, most: i128) -> i128 {
+    let mut least = most;
+    let mut step = most / 2;
     for _half in 0..101 {
         let trial = least.saturating_sub(step);
-        if step > 0 && is_shown_with(alloc, known, form, trial)? {
+        if step > 0 && is_shown_with(means, known, form, trial) {
             least = trial;
         }
         step = step / 2;
     }
-    Ok(Some(least))
+    least
 }
 
 /// How many registers stand in a form and do not fall out of it.
@@ -124,108 +101,77 @@ pub fn number_of_registers(form: &Form) -> usize {
 
 /// The term of a form of one register.
 pub fn only_term(form: &Form) -> Option<Term> {
-    if number_of_registers(form) != 1 {
-        return None;
-    }
+    let mut only = None;
     for term in form.terms.as_slice() {
         if term.coefficient != 0 {
-            return Some(*term);
+            if only.is_some() {
+                return None;
+            }
+            only = Some(*term);
         }
     }
-    None
+    only
 }
 
 /// The first facts, so many of them.
 pub fn first_facts(facts: &[Fact], count: usize) -> &[Fact] {
-    if count < facts.len() {
-        &facts[..count]
-    } else {
-        facts
-    }
+    facts.get(..count).unwrap_or(facts)
 }
 
 /// How many of the first facts are enough to show the form.
-fn count_enough(
-    alloc: Global,
-    facts: &[Fact],
-    form: &Form,
-    effort: &Effort,
-) -> Result<usize, Unanswered> {
-    let mut cursor = FactCursor::new(alloc, facts, effort);
+fn count_enough(means: &Means<'_>, facts: &[Fact], form: &Form) -> usize {
+    let mut cursor = FactCursor::new(means.alloc, facts, means.effort);
     for count in 0..facts.len() {
         cursor.seek(count);
-        cursor.index()?;
-        if cursor.known().ask(form)? {
-            return Ok(count);
+        means.noted(cursor.index());
+        if means.shows(&cursor.known(), form) {
+            return count;
         }
     }
-    Ok(facts.len())
+    facts.len()
 }
 
 /// Adds that a form is at least 0.
-fn push_form(alloc: Global, form: &Form, facts: &mut Vec<Fact>) -> Result<(), OutOfMemory> {
-    let form = form.copy(alloc)?;
-    Ok(facts.push(Fact { form })?)
+fn push_form(means: &Means<'_>, facts: &mut Vec<Fact>, form: &Form) {
+    let form = means.copy(form);
+    means.push(facts, Fact { form });
 }
 
 /// Adds the fact at a place once more.
-fn push_copy(
-    alloc: Global,
-    facts: &[Fact],
-    place: usize,
-    copies: &mut Vec<Fact>,
-) -> Result<(), OutOfMemory> {
-    match facts.get(place) {
-        Some(fact) => push_form(alloc, &fact.form, copies),
-        None => Ok(()),
+fn push_copy(means: &Means<'_>, copies: &mut Vec<Fact>, facts: &[Fact], place: usize) {
+    if let Some(fact) = facts.get(place) {
+        push_form(means, copies, &fact.form);
     }
 }
 
 /// Whether the facts at two places show the form.
-fn is_shown_by(
-    alloc: Global,
-    facts: &[Fact],
-    left: usize,
-    right: usize,
-    form: &Form,
-) -> Result<bool, OutOfMemory> {
-    let mut pair: Vec<Fact> = Vec::new(alloc);
-    push_copy(alloc, facts, left, &mut pair)?;
-    push_copy(alloc, facts, right, &mut pair)?;
-    Ok(shown(&pair, form))
+fn is_shown_by(means: &Means<'_>, facts: &[Fact], left: usize, right: usize, form: &Form) -> bool {
+    let mut pair: Vec<Fact> = Vec::new(means.alloc);
+    push_copy(means, &mut pair, facts, left);
+    push_copy(means, &mut pair, facts, right);
+    shown(&pair, form)
 }
 
 /// The place of a fact that shows the form with the one at `last`; `last` itself where it needs no other.
-fn partner(
-    alloc: Global,
-    facts: &[Fact],
-    last: usize,
-    form: &Form,
-    effort: &Effort,
-) -> Result<usize, Unanswered> {
-    spend(effort, last.saturating_mul(STEPS_A_FACT))?;
-    if is_shown_by(alloc, facts, last, last, form)? {
-        return Ok(last);
+fn partner(means: &Means<'_>, facts: &[Fact], last: usize, form: &Form) -> usize {
+    if is_shown_by(means, facts, last, last, form) {
+        return last;
     }
     for place in 0..last {
-        if is_shown_by(alloc, facts, place, last, form)? {
-            return Ok(place);
+        if is_shown_by(means, facts, place, last, form) {
+            return place;
         }
     }
-    Ok(last)
+    last
 }
 
 /// The places of the one or two facts that show the form; none where it needs no fact.
-pub fn facts_used(
-    alloc: Global,
-    facts: &[Fact],
-    form: &Form,
-    effort: &Effort,
-) -> Result<Option<(usize, usize)>, Unanswered> {
-    match count_enough(alloc, facts, form, effort)?.checked_sub(1) {
-        Some(last) => Ok(Some((partner(alloc, facts, last, form, effort)?, last))),
-        None => Ok(None),
+pub fn facts_used(means: &Means<'_>, facts: &[Fact], form: &Form) -> Option<(usize, usize)> {
+    let last = count_enough(means, facts, form).checked_sub(1)?;
+    if !means.spend(last.saturating_mul(STEPS_A_FACT)) {
+        return None;
     }
+    Some((partner(means, facts, last, form), last))
 }
 
 /// The facts, and others behind them.
@@ -245,82 +191,30 @@ pub fn edge_known(alloc: Global, known: &[Fact], edge: &EdgeFacts) -> Result<Vec
     facts_with(alloc, known, edge.facts.as_slice())
 }
 
-/// The facts, and that one form more is at least 0.
-fn facts_and(alloc: Global, facts: &[Fact], form: &Form) -> Result<Vec<Fact>, OutOfMemory> {
-    let mut more: Vec<Fact> = Vec::new(alloc);
-    push_copies(alloc, &mut more, facts)?;
-    push_form(alloc, form, &mut more)?;
-    Ok(more)
+/// Whether the facts show the form where one form more is at least 0.
+fn is_shown_beside(means: &Means<'_>, facts: &[Fact], more: &Form, form: &Form) -> bool {
+    let mut all: Vec<Fact> = Vec::new(means.alloc);
+    means.noted(push_copies(means.alloc, &mut all, facts));
+    push_form(means, &mut all, more);
+    is_shown(means, &all, form)
 }
 
 /// Whether the facts show that a form is below 0: from the two all would follow.
-pub fn is_against(
-    alloc: Global,
-    facts: &[Fact],
-    form: &Form,
-    effort: &Effort,
-) -> Result<bool, Unanswered> {
-    let more = facts_and(alloc, facts, form)?;
-    is_shown(alloc, &more, &Form::from_constant(alloc, -1), effort)
-}
-
-/// Whether a rest is stated, and the facts show the form where the rest is a fact too.
-fn is_step(
-    alloc: Global,
-    stated: &Known<'_>,
-    facts: &[Fact],
-    rest: &Form,
-    form: &Form,
-    effort: &Effort,
-) -> Result<bool, Unanswered> {
-    if !stated.ask(rest)? {
-        return Ok(false);
-    }
-    let more = facts_and(alloc, facts, rest)?;
-    is_shown(alloc, &more, form, effort)
+pub fn is_against(means: &Means<'_>, facts: &[Fact], form: &Form) -> bool {
+    is_shown_beside(means, facts, form, &Form::from_constant(means.alloc, -1))
 }
 
 /// A number from here on only keeps a form off the least values of a width: of i32 the least is about twice as far.
 const FAR_ABOVE: i128 = 1_000_000_000;
 
-/// A form without its number, where that is far above 0: what a reader would write.
-fn plainer(alloc: Global, form: &Form) -> Result<Option<Form>, OutOfMemory> {
+/// A form, without its number where that is far above 0: what a reader would write.
+fn plainer(means: &Means<'_>, form: Form) -> Form {
     if form.constant >= FAR_ABOVE {
-        raised(alloc, form, 0i128.saturating_sub(form.constant))
+        let below = 0i128.saturating_sub(form.constant);
+        raised(means, &form, below).unwrap_or(form)
     } else {
-        Ok(None)
+        form
     }
-}
-
-/// A step from a rest, if it is one: without its number where that does, and with it only where that is no bound of a width.
-fn step_of(
-    alloc: Global,
-    stated: &Known<'_>,
-    facts: &[Fact],
-    rest: Form,
-    form: &Form,
-    effort: &Effort,
-) -> Result<Option<Form>, Unanswered> {
-    let step = match plainer(alloc, &rest)? {
-        Some(plain) => plain,
-        None => rest,
-    };
-    let is_taken = is_step(alloc, stated, facts, &step, form, effort)?;
-    Ok(if is_taken { Some(step) } else { None })
-}
-
-/// What the facts that are `stated` show and what makes all facts show the form: a line to write before it. Of several the first of those with the
-/// fewest registers, 4 at most.
-pub fn step_between(
-    alloc: Global,
-    stated: &[Fact],
-    facts: &[Fact],
-    form: &Form,
-    effort: &Effort,
-) -> Result<Option<Form>, Unanswered> {
-    let mut cursor = FactCursor::new(alloc, stated, effort);
-    cursor.index()?;
-    shortest_step(alloc, &cursor.known(), facts, form, effort)
 }
 
 /// How many registers a line may name.
@@ -334,38 +228,44 @@ fn registers_below(best: &Option<Form>) -> usize {
     }
 }
 
-/// The same beside what is stated at a place.
-fn shortest_step(
-    alloc: Global,
-    stated: &Known<'_>,
+/// What the facts that are `stated` show and what makes all facts show the form: a line to write before it. Of several the first of those with the
+/// fewest registers, 4 at most.
+pub fn step_between(
+    means: &Means<'_>,
+    stated: &[Fact],
     facts: &[Fact],
     form: &Form,
-    effort: &Effort,
-) -> Result<Option<Form>, Unanswered> {
+) -> Option<Form> {
+    let cursor = means.cursor(stated);
+    let stated = cursor.known();
     let mut best: Option<Form> = None;
     for fact in facts {
         let limit = registers_below(&best);
-        if let Some(step) = step_by(alloc, stated, facts, fact, form, limit, effort)? {
+        if let Some(step) = step_by(means, &stated, facts, fact, form, limit) {
             best = Some(step);
         }
     }
-    Ok(best)
+    best
 }
 
-/// The step that this fact leaves, if it has fewer registers than the limit.
+/// The step that this fact leaves, if it has fewer registers than the limit and is one: without its number where that does, and with it only where that
+/// is no bound of a width.
 fn step_by(
-    alloc: Global,
+    means: &Means<'_>,
     stated: &Known<'_>,
     facts: &[Fact],
     fact: &Fact,
     form: &Form,
     limit: usize,
-    effort: &Effort,
-) -> Result<Option<Form>, Unanswered> {
-    match within_bounds(form.difference(alloc, &fact.form))? {
-        Some(rest) if number_of_registers(&rest) < limit => {
-            step_of(alloc, stated, facts, rest, form, effort)
-        }
-        _ => Ok(None),
+) -> Option<Form> {
+    let rest = means.within_bounds(form.difference(means.alloc, &fact.form))?;
+    if number_of_registers(&rest) >= limit {
+        return None;
+    }
+    let step = plainer(means, rest);
+    if means.shows(stated, &step) && is_shown_beside(means, facts, &step, form) {
+        Some(step)
+    } else {
+        None
     }
 }

@@ -5,26 +5,28 @@ use crate::gap::{
     facts_used, first_facts, is_shown, number_of_registers, only_term, raised, shortfall,
     step_between,
 };
+use crate::means::Means;
 use crate::scene::Scene;
 use crate::spelling::{push_excess, push_inequality};
 use crate::unknown::{is_bounded, push_rounded, push_unbounded};
+use cfg::BlockEdges;
 use linear::{Fact, Form, Term};
-use lists::{ListBuffer, OutOfMemory, TextBuffer};
+use lists::{ListBuffer, TextBuffer};
 use program::{Block, BlockId, Function, Inequality, RegisterId};
-use ranges::{BlockFacts, Effort, Sum, Unanswered, sum_form};
-use std::alloc::{AllocError, Global};
+use ranges::{BlockFacts, Sum};
 
-/// The facts at a place of a block with their lines: `line` is that of the facts after those of `lines`. The first `stated` of them are known to a
-/// `shows` line at the place. What they show is asked as long as the effort reaches.
+/// The facts at a place of a block with their lines, and the edges of its function. `line` is that of the facts after those of `lines`. The first `stated`
+/// of the facts are known to a `shows` line at the place.
 #[derive(Clone, Copy)]
 pub struct Known<'a> {
     pub scene: &'a Scene<'a>,
+    pub edges: &'a [BlockEdges],
     pub block: BlockId,
     pub facts: &'a [Fact],
     pub lines: &'a [u32],
     pub stated: usize,
     pub line: u32,
-    pub effort: &'a Effort,
+    pub means: &'a Means<'a>,
 }
 
 fn push_lines(lines: &mut ListBuffer<u32>, inequalities: &[Inequality]) {
@@ -44,14 +46,14 @@ fn push_start(lines: &mut ListBuffer<u32>, function: &Function, index: usize, bl
 
 /// The lines of what is known at a block's start.
 pub fn start_lines(
-    alloc: Global,
+    means: &Means<'_>,
     function: &Function,
     index: usize,
     block: &Block,
-) -> Result<Vec<u32>, AllocError> {
-    let mut lines = ListBuffer::new(alloc);
+) -> Vec<u32> {
+    let mut lines = ListBuffer::new(means.alloc);
     push_start(&mut lines, function, index, block);
-    lines.finish()
+    means.list(lines)
 }
 
 /// Adds the lines of the facts behind `shows` lines: what was learned before them has the line before.
@@ -65,13 +67,13 @@ fn push_shows(lines: &mut ListBuffer<u32>, count: usize, shows: &[Inequality], b
 
 /// The lines of what is known at a block's end: at its start, and what is learned in it.
 pub fn fact_lines(
-    alloc: Global,
+    means: &Means<'_>,
     function: &Function,
     index: usize,
     block: &Block,
     table: &BlockFacts,
-) -> Result<Vec<u32>, AllocError> {
-    let mut lines = ListBuffer::new(alloc);
+) -> Vec<u32> {
+    let mut lines = ListBuffer::new(means.alloc);
     push_start(&mut lines, function, index, block);
     let mut before = block.line;
     for (place, step) in block.steps.as_slice().iter().enumerate() {
@@ -83,7 +85,7 @@ pub fn fact_lines(
         let count = table.facts.len();
         push_shows(&mut lines, count, ending.shows.as_slice(), before);
     }
-    lines.finish()
+    means.list(lines)
 }
 
 fn has_register(form: &Form, register: RegisterId) -> bool {
@@ -107,10 +109,10 @@ fn share_register(left: &Form, right: &Form) -> bool {
 
 impl Known<'_> {
     /// Whether it is known that a sum is at least 0.
-    pub fn shows(&self, alloc: Global, sum: &Sum) -> Result<bool, Unanswered> {
-        match sum_form(alloc, sum)? {
-            Some(form) => is_shown(alloc, self.facts, &form, self.effort),
-            None => Ok(false),
+    pub fn shows(&self, sum: &Sum) -> bool {
+        match self.means.form(sum) {
+            Some(form) => is_shown(self.means, self.facts, &form),
+            None => false,
         }
     }
 
@@ -135,13 +137,8 @@ impl Known<'_> {
     }
 
     /// The facts that show a form.
-    fn push_used(
-        &self,
-        alloc: Global,
-        form: &Form,
-        out: &mut TextBuffer,
-    ) -> Result<(), Unanswered> {
-        match facts_used(alloc, self.facts, form, self.effort)? {
+    fn push_used(&self, form: &Form, out: &mut TextBuffer) {
+        match facts_used(self.means, self.facts, form) {
             Some((first, last)) => {
                 if first != last {
                     self.push_fact(first, out);
@@ -151,7 +148,6 @@ impl Known<'_> {
             }
             None => out.push_str("no fact helps"),
         }
-        Ok(())
     }
 
     /// What one register may be, where it is to be bounded by a number, and the test that lets it.
@@ -167,7 +163,14 @@ impl Known<'_> {
         };
         writeln!(out, "%{name} may be {may}, and has to be at {side} {bound}");
         if !is_low {
-            push_test(self.scene, self.block, term.register, bound, out);
+            push_test(
+                self.scene,
+                self.edges,
+                self.block,
+                term.register,
+                bound,
+                out,
+            );
         }
     }
 
@@ -185,23 +188,16 @@ impl Known<'_> {
     }
 
     /// The facts that come nearest to a form that they are short of by this much.
-    fn push_nearest(
-        &self,
-        alloc: Global,
-        form: &Form,
-        short: i128,
-        out: &mut TextBuffer,
-    ) -> Result<(), Unanswered> {
-        if let Some(nearest) = raised(alloc, form, short)? {
+    fn push_nearest(&self, form: &Form, short: i128, out: &mut TextBuffer) {
+        if let Some(nearest) = raised(self.means, form, short) {
             out.push_str("    nearest: ");
-            self.push_used(alloc, &nearest, out)?;
+            self.push_used(&nearest, out);
             out.push_str("; ");
             self.push_short(form, short, out);
         }
         if short == 1 {
             self.push_all_rounded(form, out);
         }
-        Ok(())
     }
 
     /// Which of a form's registers are rounded, and what to do.
@@ -236,54 +232,36 @@ impl Known<'_> {
     }
 
     /// What of the facts comes nearest to a form that they do not show.
-    fn push_shortfall(
-        &self,
-        alloc: Global,
-        form: &Form,
-        out: &mut TextBuffer,
-    ) -> Result<(), Unanswered> {
+    fn push_shortfall(&self, form: &Form, out: &mut TextBuffer) {
         if number_of_registers(form) == 0 {
             out.push_str("    that is never so, whatever is known\n");
-            return Ok(());
+            return;
         }
-        match shortfall(alloc, self.facts, form, self.effort)? {
-            Some(short) => self.push_nearest(alloc, form, short, out)?,
+        match shortfall(self.means, self.facts, form) {
+            Some(short) => self.push_nearest(form, short, out),
             None => self.push_far(form, out),
         }
-        Ok(())
     }
 
     /// What a `shows` line before the place could say with which the form is shown there.
-    pub fn step_to(&self, alloc: Global, form: &Form) -> Result<Option<Form>, Unanswered> {
+    pub fn step_to(&self, form: &Form) -> Option<Form> {
         let stated = first_facts(self.facts, self.stated);
-        step_between(alloc, stated, self.facts, form, self.effort)
+        step_between(self.means, stated, self.facts, form)
     }
 
     /// What is to be shown at a line, what is known of it, and how near that comes.
-    pub fn push_unshown(
-        &self,
-        alloc: Global,
-        sum: &Sum,
-        out: &mut TextBuffer,
-    ) -> Result<(), Unanswered> {
-        out.push_str("  to show: ");
-        let Some(form) = sum_form(alloc, sum)? else {
-            out.push_str("a form past its bounds\n");
-            return Ok(());
-        };
-        push_inequality(self.scene, &form, out);
+    pub fn push_unshown(&self, form: &Form, out: &mut TextBuffer) {
+        push_inequality(self.scene, form, out);
         out.push_str("\n");
-        self.push_related(&form, out);
-        self.push_shortfall(alloc, &form, out)
+        self.push_related(form, out);
+        self.push_shortfall(form, out);
     }
 }
 
 /// What is short of 0 in a sum of numbers alone.
-pub fn lack_of(alloc: Global, sum: &Sum) -> Result<Option<i128>, OutOfMemory> {
-    match sum_form(alloc, sum)? {
-        Some(form) if number_of_registers(&form) == 0 => {
-            Ok(Some(0i128.saturating_sub(form.constant)))
-        }
-        _ => Ok(None),
+pub fn lack_of(means: &Means<'_>, sum: &Sum) -> Option<i128> {
+    match means.form(sum) {
+        Some(form) if number_of_registers(&form) == 0 => Some(0i128.saturating_sub(form.constant)),
+        _ => None,
     }
 }

@@ -4,7 +4,6 @@ use crate::gap::{facts_with, is_shown, number_of_registers};
 use crate::known::Known;
 use crate::unmet::Unmet;
 use linear::{Fact, Form};
-use ranges::{Unanswered, sum_form};
 use std::alloc::Global;
 
 /// How many forms of a function are kept: what is asked of them takes time for each.
@@ -26,46 +25,36 @@ impl Missing {
     }
 
     /// Whether the form would be shown if what is missing were known. (What contradicts the facts shows all, so it says nothing.)
-    fn shows(&self, alloc: Global, known: Known<'_>, form: &Form) -> Result<bool, Unanswered> {
+    fn shows(&self, known: Known<'_>, form: &Form) -> bool {
         if self.forms.is_empty() {
-            return Ok(false);
+            return false;
         }
-        let more = facts_with(alloc, known.facts, self.forms.as_slice())?;
+        let means = known.means;
+        let more = means.items(facts_with(means.alloc, known.facts, self.forms.as_slice()));
         let facts = more.as_slice();
-        if is_shown(alloc, facts, &Form::from_constant(alloc, -1), known.effort)? {
-            return Ok(false);
-        }
-        is_shown(alloc, facts, form, known.effort)
-    }
-
-    fn keep(&mut self, form: Form) -> Result<(), Unanswered> {
-        if number_of_registers(&form) > 0 && self.forms.len() < MOST_KEPT {
-            self.forms.push(Fact { form })?;
-        }
-        Ok(())
+        !is_shown(means, facts, &Form::from_constant(means.alloc, -1))
+            && is_shown(means, facts, form)
     }
 
     /// Whether a fault may follow from what is missing before it. If it does not, what it lacks is missing too. Of several choices none is.
-    pub fn take(
-        &mut self,
-        alloc: Global,
-        known: Known<'_>,
-        unmet: &Unmet,
-    ) -> Result<bool, Unanswered> {
+    pub fn take(&mut self, known: Known<'_>, unmet: &Unmet) -> bool {
+        let means = known.means;
         if self.function != unmet.site.function {
             self.function = unmet.site.function;
-            self.forms = Vec::new(alloc);
+            self.forms = Vec::new(means.alloc);
         }
         let [only] = unmet.choices.as_slice() else {
-            return Ok(false);
+            return false;
         };
-        let Some(form) = sum_form(alloc, only)? else {
-            return Ok(false);
+        let Some(form) = means.form(only) else {
+            return false;
         };
-        if self.shows(alloc, known, &form)? {
-            return Ok(true);
+        if self.shows(known, &form) {
+            return true;
         }
-        self.keep(form)?;
-        Ok(false)
+        if number_of_registers(&form) > 0 && self.forms.len() < MOST_KEPT {
+            means.push(&mut self.forms, Fact { form });
+        }
+        false
     }
 }

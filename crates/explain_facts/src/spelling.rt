@@ -109,6 +109,11 @@ impl<'a> Spelled<'a> {
     }
 }
 
+/// What the word of so many things ends with.
+pub fn plural(count: i128) -> &'static str {
+    if count == 1 { "" } else { "s" }
+}
+
 /// A form, as the canonical text spells it.
 pub fn push_form(scene: &Scene<'_>, form: &Form, out: &mut TextBuffer) {
     Spelled::of(scene, form, Part::Whole).push_to(out);

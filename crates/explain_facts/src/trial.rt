@@ -1,6 +1,6 @@
 //! A text as the phases before those of numbers, zones and costs take it.
 
-use cfg::{Graph, graph};
+use cfg::{BlockEdges, Graph, graph};
 use definedness::defined;
 use ir_reader::read;
 use lists::OutOfMemory;
@@ -26,6 +26,16 @@ impl Drop for Matched {
             graph: _,
             regions: _,
         } = self;
+    }
+}
+
+impl Matched {
+    /// The edges of the blocks of a function.
+    pub fn edges(&self, function: usize) -> &[BlockEdges] {
+        match self.graph.functions.as_slice().get(function) {
+            Some(function) => function.blocks.as_slice(),
+            None => &[],
+        }
     }
 }
 

@@ -1,17 +1,17 @@
 //! Lines to try where a form is not shown: those with few registers first.
 
-use crate::gap::{is_against, number_of_registers, only_term, raised, spend, within_bounds};
+use crate::gap::{is_against, number_of_registers, only_term, raised};
 use crate::known::Known;
+use crate::means::Means;
 use crate::scene::Scene;
 use crate::spelling::push_inequality;
-use crate::trial::match_text;
+use crate::trial::{Matched, match_text};
 use crate::unmet::{Unmet, all_unmet};
 use explain_findings::{Source, push_indented, with_line_before};
 use linear::{Form, RegisterId};
-use lists::{OutOfMemory, TextBuffer};
+use lists::TextBuffer;
 use program::BlockId;
-use ranges::{Effort, Sum, Unanswered, sum_form};
-use std::alloc::{AllocError, Global};
+use ranges::Sum;
 
 /// The steps that a byte of a text counts for that is judged as far as its numbers.
 const STEPS_A_BYTE: usize = 30;
@@ -19,9 +19,10 @@ const STEPS_A_BYTE: usize = 30;
 /// What tries are made for: a text, a place, and what the text does not show of its numbers.
 #[derive(Clone, Copy)]
 pub struct Trying<'s, 'a> {
-    source: Option<Source<'s>>,
+    /// The text; none where no lines are tried, and what is known is all that is asked for.
+    pub source: Option<Source<'s>>,
     pub known: Known<'a>,
-    old: &'a [Unmet],
+    pub old: &'a [Unmet],
 }
 
 /// A line to try, and how many registers it names.
@@ -40,16 +41,11 @@ fn is_shorter(one: &Option<Try>, other: &Option<Try>) -> bool {
 }
 
 /// An annotation that says a form.
-fn annotation(
-    alloc: Global,
-    scene: &Scene<'_>,
-    word: &str,
-    form: &Form,
-) -> Result<String, AllocError> {
-    let mut line = TextBuffer::new(alloc);
+fn annotation(means: &Means<'_>, scene: &Scene<'_>, word: &str, form: &Form) -> TextBuffer {
+    let mut line = TextBuffer::new(means.alloc);
     write!(line, ";! {word} ");
     push_inequality(scene, form, &mut line);
-    line.finish()
+    line
 }
 
 fn push_try(tried: &Option<Try>, out: &mut TextBuffer) {
@@ -84,18 +80,12 @@ fn is_less(new: &[Unmet], old: &[Unmet], added: u32) -> bool {
     old.is_empty() || new.len() < old.len()
 }
 
-/// What another text owes of its numbers, where the phases before take it.
-fn unmet_of(
-    alloc: Global,
-    source: Source<'_>,
-    text: &str,
-    effort: &Effort,
-) -> Result<Option<Vec<Unmet>>, Unanswered> {
-    spend(effort, text.len().saturating_mul(STEPS_A_BYTE))?;
-    match match_text(alloc, source.state, text.as_bytes(), true)? {
-        Some(matched) => Ok(Some(all_unmet(alloc, &matched, effort)?)),
-        None => Ok(None),
+/// Another text, where the phases up to that of uses take it; none where memory or effort did not reach before.
+fn match_tried(means: &Means<'_>, source: Source<'_>, text: &str) -> Option<Matched> {
+    if !means.spend(text.len().saturating_mul(STEPS_A_BYTE)) {
+        return None;
     }
+    means.found(match_text(means.alloc, source.state, text.as_bytes(), true))
 }
 
 /// The annotation that says what is known at the start of a block, and the line behind which it stands.
@@ -112,26 +102,24 @@ const FAR: i128 = 1_000_000_000;
 
 /// A register times a number, and a number.
 fn one_term(
-    alloc: Global,
+    means: &Means<'_>,
     register: RegisterId,
     coefficient: i64,
     constant: i128,
-) -> Result<Option<Form>, OutOfMemory> {
-    match within_bounds(Form::from_constant(alloc, 0).plus_term(register, coefficient))? {
-        Some(form) => raised(alloc, &form, constant),
-        None => Ok(None),
-    }
+) -> Option<Form> {
+    let form = means.within_bounds(means.zero().plus_term(register, coefficient))?;
+    raised(means, &form, constant)
 }
 
 /// What a reader would write in place of a form: of a register's bound that is that of its width a plainer one, and of several registers none.
-fn plainer(alloc: Global, form: &Form) -> Result<Option<Form>, OutOfMemory> {
+fn plainer(means: &Means<'_>, form: &Form) -> Option<Form> {
     if form.constant < FAR {
-        return Ok(Some(form.copy(alloc)?));
+        return Some(means.copy(form));
     }
     match only_term(form) {
-        Some(only) if only.coefficient == 1 => one_term(alloc, only.register, 1, 0),
-        Some(only) if only.coefficient == -1 => one_term(alloc, only.register, -1, FAR),
-        _ => Ok(None),
+        Some(only) if only.coefficient == 1 => one_term(means, only.register, 1, 0),
+        Some(only) if only.coefficient == -1 => one_term(means, only.register, -1, FAR),
+        _ => None,
     }
 }
 
@@ -144,44 +132,16 @@ fn leaves_nothing(form: &Form) -> bool {
 }
 
 impl<'s, 'a> Trying<'s, 'a> {
-    /// What is made at a place of a text with these faults of numbers.
-    pub fn beside(source: Source<'s>, known: Known<'a>, old: &'a [Unmet]) -> Trying<'s, 'a> {
-        Trying {
-            source: Some(source),
-            known,
-            old,
-        }
-    }
-
     /// What is made at a place of a text without faults of numbers.
-    pub fn of(source: Source<'s>, known: Known<'a>) -> Trying<'s, 'a> {
+    pub fn of(source: Option<Source<'s>>, known: Known<'a>) -> Trying<'s, 'a> {
         Trying {
-            source: Some(source),
+            source,
             known,
             old: &[],
         }
     }
 
-    /// None, where what is known is all that is asked for.
-    pub fn none(known: Known<'a>) -> Trying<'s, 'a> {
-        Trying {
-            source: None,
-            known,
-            old: &[],
-        }
-    }
-
-    /// The same where something else is known.
-    pub fn with_known(self, known: Known<'a>) -> Trying<'s, 'a> {
-        Trying { known, ..self }
-    }
-
-    /// Whether lines are tried, and what they would show is told.
-    pub fn is_told(&self) -> bool {
-        self.source.is_some()
-    }
-
-    /// The text; none where no lines are tried.
+    /// The text.
     pub fn text(&self) -> &'s str {
         match &self.source {
             Some(source) => source.text,
@@ -192,110 +152,91 @@ impl<'s, 'a> Trying<'s, 'a> {
 
 impl Trying<'_, '_> {
     /// Whether the text with this line behind that one is right up to the uses of its registers.
-    pub fn is_line(&self, alloc: Global, line: &str, after: u32) -> Result<bool, Unanswered> {
-        let Some(source) = self.source else {
-            return Ok(false);
-        };
-        let changed = with_line_before(alloc, source.text, after.saturating_add(1), line)?;
-        spend(
-            self.known.effort,
-            changed.len().saturating_mul(STEPS_A_BYTE),
-        )?;
-        Ok(match_text(alloc, source.state, changed.as_bytes(), true)?.is_some())
+    pub fn is_line(&self, line: &str, after: u32) -> bool {
+        let means = self.known.means;
+        match self.source {
+            Some(source) => {
+                let before = after.saturating_add(1);
+                let made = with_line_before(means.alloc, source.text, before, line);
+                match_tried(means, source, means.made(made).as_str()).is_some()
+            }
+            None => false,
+        }
     }
 
     /// Adds what is not shown of a sum at the place to what is told of a line or a zone.
-    pub fn push_detail(
-        &self,
-        alloc: Global,
-        sum: &Sum,
-        indent: &str,
-        out: &mut TextBuffer,
-    ) -> Result<(), Unanswered> {
-        if self.is_told() {
-            let mut notes = TextBuffer::new(alloc);
-            self.push_unshown(alloc, sum, &mut notes)?;
-            push_indented(out, notes.finish()?.as_str(), indent);
+    pub fn push_detail(&self, sum: &Sum, indent: &str, out: &mut TextBuffer) {
+        if self.source.is_some() {
+            let means = self.known.means;
+            let mut notes = TextBuffer::new(means.alloc);
+            self.push_unshown(sum, &mut notes);
+            push_indented(out, means.text(notes).as_str(), indent);
         }
-        Ok(())
     }
 
     /// Whether the text with this line before that one has no fault of numbers that it did not have, and fewer of them if it had any.
-    fn is_better(&self, alloc: Global, line: &str, before: u32) -> Result<bool, Unanswered> {
+    fn is_better(&self, line: &str, before: u32) -> bool {
+        let means = self.known.means;
         let Some(source) = self.source else {
-            return Ok(false);
+            return false;
         };
-        let changed = with_line_before(alloc, source.text, before, line)?;
-        match unmet_of(alloc, source, changed.as_str(), self.known.effort)? {
-            Some(new) => Ok(is_less(new.as_slice(), self.old, before)),
-            None => Ok(false),
+        let made = with_line_before(means.alloc, source.text, before, line);
+        match match_tried(means, source, means.made(made).as_str()) {
+            Some(matched) => is_less(all_unmet(means, &matched).as_slice(), self.old, before),
+            None => false,
         }
     }
 
     /// Whether a line that says a form would leave hardly a number: it is known to be at most 0, or bounds a parameter by 0.
-    fn is_narrow(&self, alloc: Global, form: &Form) -> Result<bool, Unanswered> {
+    fn is_narrow(&self, form: &Form) -> bool {
         if self.known.block.0 == 0 && leaves_nothing(form) {
-            return Ok(true);
+            return true;
         }
-        match raised(alloc, form, -1)? {
-            Some(less) => is_against(alloc, self.known.facts, &less, self.known.effort),
-            None => Ok(false),
+        let means = self.known.means;
+        match raised(means, form, -1) {
+            Some(less) => is_against(means, self.known.facts, &less),
+            None => false,
         }
     }
 
-    /// A `keeps` line of the block, or a `requires` line of its function, that says a form, if nothing new is owed with it.
-    fn start_line(&self, alloc: Global, form: &Form) -> Result<Option<Try>, Unanswered> {
-        let registers = number_of_registers(form);
-        if registers == 0 || self.is_narrow(alloc, form)? {
-            return Ok(None);
+    /// A `keeps` line of the block, or a `requires` line of its function, that says what a reader would write in place of a form, if nothing new is owed
+    /// with it.
+    fn start_line(&self, form: &Form) -> Option<Try> {
+        let means = self.known.means;
+        let plain = plainer(means, form)?;
+        let registers = number_of_registers(&plain);
+        if registers == 0 || self.is_narrow(&plain) {
+            return None;
         }
         let (word, after) = start_of(self.known.scene, self.known.block);
-        let line = annotation(alloc, self.known.scene, word, form)?;
-        if !self.is_better(alloc, line.as_str(), after.saturating_add(1))? {
-            return Ok(None);
+        let mut line = annotation(means, self.known.scene, word, &plain);
+        if !self.is_better(line.as_str(), after.saturating_add(1)) {
+            return None;
         }
-        Ok(Some(Try {
+        write!(line, ", after line {after}");
+        Some(Try {
             registers,
-            words: format!(in alloc; "{line}, after line {after}")?,
-        }))
+            words: means.text(line),
+        })
     }
 
     /// A `shows` line before the place, with which the form is shown there.
-    fn step_line(&self, alloc: Global, form: &Form) -> Result<Option<Try>, Unanswered> {
-        let Some(step) = self.known.step_to(alloc, form)? else {
-            return Ok(None);
-        };
-        let mut words = TextBuffer::new(alloc);
-        words.push_str(";! shows ");
-        push_inequality(self.known.scene, &step, &mut words);
+    fn step_line(&self, form: &Form) -> Option<Try> {
+        let means = self.known.means;
+        let step = self.known.step_to(form)?;
+        let mut words = annotation(means, self.known.scene, "shows", &step);
         let before = self.known.line;
         write!(words, ", before line {before}");
-        Ok(Some(Try {
+        Some(Try {
             registers: number_of_registers(&step),
-            words: words.finish()?,
-        }))
+            words: means.text(words),
+        })
     }
 
-    /// The line at the start that says what a reader would write in place of a form.
-    fn plain_start_line(&self, alloc: Global, form: &Form) -> Result<Option<Try>, Unanswered> {
-        match plainer(alloc, form)? {
-            Some(plain) => self.start_line(alloc, &plain),
-            None => Ok(None),
-        }
-    }
-
-    /// Adds lines each of which is enough to show the sum at the place, where there are any.
-    pub fn push_tries(
-        &self,
-        alloc: Global,
-        sum: &Sum,
-        out: &mut TextBuffer,
-    ) -> Result<(), Unanswered> {
-        let Some(form) = sum_form(alloc, sum)? else {
-            return Ok(());
-        };
-        let step = self.step_line(alloc, &form)?;
-        let start = self.plain_start_line(alloc, &form)?;
+    /// Adds lines each of which is enough to show a form at the place, where there are any.
+    fn push_tries(&self, form: &Form, out: &mut TextBuffer) {
+        let step = self.step_line(form);
+        let start = self.start_line(form);
         let (first, second) = if is_shorter(&start, &step) {
             (&start, &step)
         } else {
@@ -303,17 +244,17 @@ impl Trying<'_, '_> {
         };
         push_try(first, out);
         push_try(second, out);
-        Ok(())
     }
 
     /// What is not shown of a sum at the place, what is known of it and how near that comes, and lines that would show it.
-    pub fn push_unshown(
-        &self,
-        alloc: Global,
-        sum: &Sum,
-        out: &mut TextBuffer,
-    ) -> Result<(), Unanswered> {
-        self.known.push_unshown(alloc, sum, out)?;
-        self.push_tries(alloc, sum, out)
+    pub fn push_unshown(&self, sum: &Sum, out: &mut TextBuffer) {
+        out.push_str("  to show: ");
+        match self.known.means.form(sum) {
+            Some(form) => {
+                self.known.push_unshown(&form, out);
+                self.push_tries(&form, out);
+            }
+            None => out.push_str("a form past its bounds\n"),
+        }
     }
 }

@@ -127,14 +127,6 @@ fn notes_of(alloc: Global, site: Site<'_, '_>, number: u16) -> Result<String, Al
     notes.finish()
 }
 
-/// Which of the rule's causes the line of a site is, where it says which.
-fn site_cause(site: Site<'_, '_>, number: u16) -> Result<Option<&'static str>, AllocError> {
-    match site.row {
-        Some(row) => cause_of(site.rows, site.function, row, number),
-        None => Ok(None),
-    }
-}
-
 /// What there is to say of a line that breaks this rule: from 201 to 206 and at 401 where its names are defined, of the graph what leads to its
 /// block, of the regions what the function does with them, and of a rule with several causes which one it is, if the line tells.
 pub fn name_finding(
@@ -154,7 +146,10 @@ pub fn name_finding(
     Ok(Finding {
         number,
         line,
-        cause: site_cause(site, number)?,
+        cause: match site.row {
+            Some(row) => cause_of(rows, site.function, row, number),
+            None => None,
+        },
         follows: false,
         notes: notes_of(alloc, site, number)?,
     })

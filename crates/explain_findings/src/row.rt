@@ -78,15 +78,17 @@ impl<'a> Row<'a> {
         }
     }
 
-    /// What stands behind each word `ptr` of the line.
-    pub fn pointers(&self) -> Result<Vec<&'a str>, AllocError> {
-        let mut pointers = ListBuffer::new(self.alloc);
-        for index in 1..self.tokens.len() {
-            if self.word(index - 1) == "ptr" {
-                pointers.push(self.word(index));
-            }
+    /// The number of tokens.
+    pub fn len(&self) -> usize {
+        self.tokens.len()
+    }
+
+    /// What stands behind the token of this number, if that is the word `ptr` and not the last one.
+    pub fn pointer(&self, index: usize) -> Option<&'a str> {
+        match self.tokens.as_slice().get(index..) {
+            Some([mark, name, ..]) if self.part(*mark) == "ptr" => Some(self.part(*name)),
+            _ => None,
         }
-        pointers.finish()
     }
 
     /// The names of the line, each once. Forms of annotations are taken apart.

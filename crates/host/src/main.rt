@@ -55,6 +55,17 @@ fn turns(alloc: Global, rounds: u64) -> Result<Vec<Event>, AllocError> {
     Ok(events)
 }
 
+/// What a run comes to: its result, where it has ended, and its instructions.
+type End = Result<(Option<i64>, u64), RunFault>;
+
+fn tell<W: Write>(output: &mut W, how: &str, end: End) -> io::Result<()> {
+    match end {
+        Ok((Some(result), count)) => writeln!(output, "{how}: {result} after {count} instructions"),
+        Ok((None, count)) => writeln!(output, "{how}: not ended after {count} instructions"),
+        Err(fault) => writeln!(output, "{how}: {}", reason(&fault)),
+    }
+}
+
 /// Runs a kernel with each of these arguments. It is decoded once for all of them.
 fn run_serially<W: Write>(
     alloc: Global,
@@ -63,36 +74,32 @@ fn run_serially<W: Write>(
     output: &mut W,
 ) -> io::Result<()> {
     let Ok(code) = Decoded::of(alloc, kernel) else {
-        return writeln!(output, "serially: out of memory");
+        return tell(output, "serially", Err(RunFault::OutOfMemory));
     };
     for argument in arguments {
         let Ok(memory) = Memory::zeroed(alloc, kernel) else {
-            return writeln!(output, "serially: out of memory");
+            return tell(output, "serially", Err(RunFault::OutOfMemory));
         };
-        match serial_run_by(alloc, kernel, &code, &[*argument], memory) {
-            Ok(run) => writeln!(
-                output,
-                "serially: {} after {} instructions",
-                run.result, run.instructions
-            )?,
-            Err(fault) => writeln!(output, "serially: {}", reason(&fault))?,
-        }
+        let end = match serial_run_by(alloc, kernel, &code, &[*argument], memory) {
+            Ok(run) => Ok((Some(run.result), run.instructions)),
+            Err(fault) => Err(fault),
+        };
+        tell(output, "serially", end)?;
     }
     Ok(())
 }
 
 /// Runs a kernel on four workers, each on a thread of its own.
-fn run_on_threads<T: Threads + Wait + Clock + Sync, W: Write>(
+fn run_on_threads<T: Threads + Wait + Clock + Sync>(
     rt: &T,
     alloc: Global,
     kernel: &Verified,
     arguments: &[i64],
-    output: &mut W,
-) -> io::Result<()> {
+) -> End {
     let Ok(memory) = Memory::zeroed(alloc, kernel) else {
-        return writeln!(output, "on threads: out of memory");
+        return Err(RunFault::OutOfMemory);
     };
-    match run(
+    let run = run(
         rt,
         alloc,
         kernel,
@@ -100,41 +107,20 @@ fn run_on_threads<T: Threads + Wait + Clock + Sync, W: Write>(
         memory,
         WORKERS,
         &Limit(100_000),
-    ) {
-        Ok(run) => writeln!(
-            output,
-            "on threads: {} after {} instructions",
-            run.result, run.instructions
-        ),
-        Err(fault) => writeln!(output, "on threads: {}", reason(&fault)),
-    }
+    )?;
+    Ok((Some(run.result), run.instructions))
 }
 
-fn run_in_turns<W: Write>(
-    alloc: Global,
-    kernel: &Verified,
-    arguments: &[i64],
-    output: &mut W,
-) -> io::Result<()> {
-    let events = turns(alloc, kernel.budget().min(10_000))?;
-    let Ok(memory) = Memory::zeroed(alloc, kernel) else {
-        return writeln!(output, "in turns: out of memory");
+/// Runs a kernel by the schedule of two workers that take turns.
+fn run_in_turns(alloc: Global, kernel: &Verified, arguments: &[i64]) -> End {
+    let Ok(events) = turns(alloc, kernel.budget().min(10_000)) else {
+        return Err(RunFault::OutOfMemory);
     };
-    match replay(alloc, kernel, arguments, memory, 2, events.as_slice()) {
-        Ok(run) => match run.result() {
-            Some(result) => writeln!(
-                output,
-                "in turns: {result} after {} instructions",
-                run.instructions()
-            ),
-            None => writeln!(
-                output,
-                "in turns: not ended after {} instructions",
-                run.instructions()
-            ),
-        },
-        Err(fault) => writeln!(output, "in turns: {}", reason(&fault)),
-    }
+    let Ok(memory) = Memory::zeroed(alloc, kernel) else {
+        return Err(RunFault::OutOfMemory);
+    };
+    let run = replay(alloc, kernel, arguments, memory, 2, events.as_slice())?;
+    Ok((run.result(), run.instructions()))
 }
 
 /// Judges a kernel and runs it.
@@ -161,11 +147,15 @@ fn host<T: Threads + Wait + Clock + Sync, W: Write>(
         );
     }
     run_serially(alloc, &kernel, &[7, 8], output)?;
-    run_on_threads(rt, alloc, &kernel, &[7], output)?;
-    run_in_turns(alloc, &kernel, &[7], output)
+    tell(
+        output,
+        "on threads",
+        run_on_threads(rt, alloc, &kernel, &[7]),
+    )?;
+    tell(output, "in turns", run_in_turns(alloc, &kernel, &[7]))
 }
 
-fn main(rt: HostRuntime) -> anyhow::Result<ExitCode> {
+fn main(rt: HostRuntime) -> io::Result<ExitCode> {
     let alloc = rt.alloc();
     let state = RandomState::new(&rt)?;
     let mut output = BufWriter::new(alloc, io::writer(&rt))?;

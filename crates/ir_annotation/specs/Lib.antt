@@ -5,6 +5,7 @@ pub mod Forms
 pub mod Keywords
 pub mod Limits
 pub mod Lines
+pub mod Pieces
 pub mod Reading
 pub mod Spelling
 pub mod Words

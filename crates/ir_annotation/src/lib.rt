@@ -11,6 +11,7 @@ mod limits;
 pub mod line_laws;
 mod lines;
 mod meaning;
+mod pieces;
 mod spelling;
 mod sums;
 mod words;

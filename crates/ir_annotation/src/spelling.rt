@@ -3,15 +3,14 @@
 //! A public call writes its words to a text of their own first, so the text that it is lent gets all of them or none.
 
 ghost use Rattle.std.specs.Prelude.{◌≡◌, ◌++◌, OnOk, OnErr, string_bytes, codes, flat_map, false};
-ghost use Rattle.ir_annotation.specs.Spelling.{sign_text, factor_text, term_text, constant_text, terms_text, form_text, relation_text, mode_text};
-ghost use Rattle.ir_annotation.specs.Spelling.{object_text, inequality_text, zone_text, measure_text, budget_text, pending_text, left_text};
+ghost use Rattle.ir_annotation.specs.Spelling.{sign_text, factor_text, term_text, constant_text, terms_text, form_text, relation_text};
+ghost use Rattle.ir_annotation.specs.Spelling.{inequality_text, zone_text, measure_text, budget_text, pending_text, left_text};
 ghost use Rattle.ir_annotation.specs.Spelling.{foot_text};
 
+use crate::pieces::{Piece, push_pieces};
 use itoa::Buffer;
 use std::alloc::AllocError;
-use syntax::{
-    Address, Budget, Form, Inequality, Left, Measure, Mode, Pending, Relation, Term, Zone,
-};
+use syntax::{Budget, Form, Inequality, Left, Measure, Pending, Relation, Term, Zone};
 
 /// The sign before a number's size: that of a first number is left out where it is `+`.
 pub fn sign_text(is_first: bool, number: i128) -> &'static str
@@ -68,7 +67,7 @@ fn write_constant(out: &mut String, constant: i64) -> Result<(), AllocError>
 }
 
 #[tactic(auto, unfolding(crate::specs::Spelling::form_text))]
-fn write_form(out: &mut String, form: &Form) -> Result<(), AllocError>
+pub fn write_form(out: &mut String, form: &Form) -> Result<(), AllocError>
     ensures { OnOk result (string_bytes out.new ≡ string_bytes out.old ++ form_text form.now) }
 {
     match form.terms.as_slice() {
@@ -105,31 +104,6 @@ fn spaced_relation(relation: Relation) -> &'static str
     }
 }
 
-fn mode_text(mode: Mode) -> &'static str
-    ensures { result.now ≡ mode_text mode }
-{
-    match mode {
-        Mode::Reads => "reads",
-        Mode::Writes => "writes",
-        Mode::Adds => "adds",
-    }
-}
-
-fn write_object(out: &mut String, object: &Address) -> Result<(), AllocError>
-    ensures { OnOk result (string_bytes out.new ≡ string_bytes out.old ++ object_text object.now) }
-{
-    match object {
-        Address::Register(name) => {
-            out.push_str("%")?;
-            out.push_str(name.as_str())
-        }
-        Address::Global(name) => {
-            out.push_str("@")?;
-            out.push_str(name.as_str())
-        }
-    }
-}
-
 #[tactic(auto, unfolding(crate::specs::Spelling::inequality_text))]
 fn write_inequality(out: &mut String, word: &str, inequality: &Inequality) -> Result<(), AllocError>
     ensures { OnOk result (string_bytes out.new ≡ string_bytes out.old ++ inequality_text word.now inequality.now) }
@@ -144,78 +118,12 @@ fn write_inequality(out: &mut String, word: &str, inequality: &Inequality) -> Re
     )
 }
 
-/// `MODE O`
-fn write_moded_object(out: &mut String, mode: Mode, object: &Address) -> Result<(), AllocError>
-    ensures { OnOk result (string_bytes out.new ≡ string_bytes out.old ++ mode_text mode ++ codes " " ++ object_text object.now) }
-{
-    out.push_str(mode_text(mode))?;
-    out.push_str(" ")?;
-    write_object(out, object)
-}
-
-#[tactic(auto, unfolding(crate::specs::Spelling::zone_text))]
-fn write_zone(out: &mut String, zone: &Zone) -> Result<(), AllocError>
-    ensures { OnOk result (string_bytes out.new ≡ string_bytes out.old ++ zone_text zone.now) }
-{
-    write_moded_object(out, zone.mode, &zone.object)?;
-    out.push_str(" ")?;
-    write_forms(out, &zone.low, " ", &zone.high)
-}
-
-#[tactic(auto, unfolding(crate::specs::Spelling::measure_text))]
-fn write_measure(out: &mut String, measure: &Measure) -> Result<(), AllocError>
-    ensures { OnOk result (string_bytes out.new ≡ string_bytes out.old ++ measure_text measure.now) }
-{
-    out.push_str("measure ")?;
-    write_form(out, &measure.form)?;
-    out.push_str(" max ")?;
-    out.push_str(Buffer::new().format(measure.bound))
-}
-
-#[tactic(auto, unfolding(crate::specs::Spelling::budget_text))]
-fn write_budget(out: &mut String, budget: &Budget) -> Result<(), AllocError>
-    ensures { OnOk result (string_bytes out.new ≡ string_bytes out.old ++ budget_text budget.now) }
-{
-    out.push_str("budget ")?;
-    out.push_str(Buffer::new().format(budget.self_calls))?;
-    out.push_str(" ")?;
-    out.push_str(Buffer::new().format(budget.instructions))
-}
-
-#[tactic(auto, unfolding(crate::specs::Spelling::pending_text))]
-fn write_pending(out: &mut String, pending: &Pending) -> Result<(), AllocError>
-    ensures { OnOk result (string_bytes out.new ≡ string_bytes out.old ++ pending_text pending.now) }
-{
-    out.push_str("pending %")?;
-    out.push_str(pending.region.as_str())?;
-    out.push_str(" ")?;
-    write_zone(out, &pending.zone)
-}
-
-#[tactic(auto, unfolding(crate::specs::Spelling::left_text))]
-fn write_left(out: &mut String, left: &Left) -> Result<(), AllocError>
-    ensures { OnOk result (string_bytes out.new ≡ string_bytes out.old ++ left_text left.now) }
-{
-    out.push_str("left ")?;
-    write_forms(out, &left.self_calls, " ", &left.instructions)
-}
-
-#[tactic(auto, unfolding(crate::specs::Spelling::foot_text))]
-fn write_foot(out: &mut String, foot: &Zone) -> Result<(), AllocError>
-    ensures { OnOk result (string_bytes out.new ≡ string_bytes out.old ++ foot_text foot.now) }
-{
-    out.push_str("foot ")?;
-    write_zone(out, foot)
-}
-
 /// A form: its registers in their order, and then the constant, unless it is 0 behind a register.
 pub fn push_form(out: &mut String, form: &Form) -> Result<(), AllocError>
     ensures ok { OnOk result (string_bytes out.new ≡ string_bytes out.old ++ form_text form.now) }
     ensures err { OnErr result (string_bytes out.new ≡ string_bytes out.old) }
 {
-    let mut words = String::new(*out.allocator());
-    write_form(&mut words, form)?;
-    out.push_str(words.as_str())
+    push_pieces(out, &[Piece::Form(form)])
 }
 
 /// `WORD F R F`, for the words `requires`, `ensures`, `keeps` and `shows`.
@@ -233,61 +141,117 @@ pub fn push_inequality(
 }
 
 /// `MODE O F F`, which is the whole annotation `reads`, `writes` or `adds` of a function.
+#[tactic(auto, unfolding(crate::specs::Spelling::zone_text))]
 pub fn push_zone(out: &mut String, zone: &Zone) -> Result<(), AllocError>
     ensures ok { OnOk result (string_bytes out.new ≡ string_bytes out.old ++ zone_text zone.now) }
     ensures err { OnErr result (string_bytes out.new ≡ string_bytes out.old) }
 {
-    let mut words = String::new(*out.allocator());
-    write_zone(&mut words, zone)?;
-    out.push_str(words.as_str())
+    push_pieces(
+        out,
+        &[
+            Piece::Mode(zone.mode),
+            Piece::Text(" "),
+            Piece::Object(&zone.object),
+            Piece::Text(" "),
+            Piece::Form(&zone.low),
+            Piece::Text(" "),
+            Piece::Form(&zone.high),
+        ],
+    )
 }
 
 /// `measure F max N`
+#[tactic(auto, unfolding(crate::specs::Spelling::measure_text))]
 pub fn push_measure(out: &mut String, measure: &Measure) -> Result<(), AllocError>
     ensures ok { OnOk result (string_bytes out.new ≡ string_bytes out.old ++ measure_text measure.now) }
     ensures err { OnErr result (string_bytes out.new ≡ string_bytes out.old) }
 {
-    let mut words = String::new(*out.allocator());
-    write_measure(&mut words, measure)?;
-    out.push_str(words.as_str())
+    push_pieces(
+        out,
+        &[
+            Piece::Text("measure "),
+            Piece::Form(&measure.form),
+            Piece::Text(" max "),
+            Piece::Count(measure.bound),
+        ],
+    )
 }
 
 /// `budget K S`
+#[tactic(auto, unfolding(crate::specs::Spelling::budget_text))]
 pub fn push_budget(out: &mut String, budget: &Budget) -> Result<(), AllocError>
     ensures ok { OnOk result (string_bytes out.new ≡ string_bytes out.old ++ budget_text budget.now) }
     ensures err { OnErr result (string_bytes out.new ≡ string_bytes out.old) }
 {
-    let mut words = String::new(*out.allocator());
-    write_budget(&mut words, budget)?;
-    out.push_str(words.as_str())
+    push_pieces(
+        out,
+        &[
+            Piece::Text("budget "),
+            Piece::Count(budget.self_calls),
+            Piece::Text(" "),
+            Piece::Count(budget.instructions),
+        ],
+    )
 }
 
 /// `pending %s MODE O F F`
+#[tactic(auto, unfolding(crate::specs::Spelling::pending_text, crate::specs::Spelling::zone_text))]
 pub fn push_pending(out: &mut String, pending: &Pending) -> Result<(), AllocError>
     ensures ok { OnOk result (string_bytes out.new ≡ string_bytes out.old ++ pending_text pending.now) }
     ensures err { OnErr result (string_bytes out.new ≡ string_bytes out.old) }
 {
-    let mut words = String::new(*out.allocator());
-    write_pending(&mut words, pending)?;
-    out.push_str(words.as_str())
+    let zone = &pending.zone;
+    push_pieces(
+        out,
+        &[
+            Piece::Text("pending %"),
+            Piece::Name(&pending.region),
+            Piece::Text(" "),
+            Piece::Mode(zone.mode),
+            Piece::Text(" "),
+            Piece::Object(&zone.object),
+            Piece::Text(" "),
+            Piece::Form(&zone.low),
+            Piece::Text(" "),
+            Piece::Form(&zone.high),
+        ],
+    )
 }
 
 /// `left F F`
+#[tactic(auto, unfolding(crate::specs::Spelling::left_text))]
 pub fn push_left(out: &mut String, left: &Left) -> Result<(), AllocError>
     ensures ok { OnOk result (string_bytes out.new ≡ string_bytes out.old ++ left_text left.now) }
     ensures err { OnErr result (string_bytes out.new ≡ string_bytes out.old) }
 {
-    let mut words = String::new(*out.allocator());
-    write_left(&mut words, left)?;
-    out.push_str(words.as_str())
+    push_pieces(
+        out,
+        &[
+            Piece::Text("left "),
+            Piece::Form(&left.self_calls),
+            Piece::Text(" "),
+            Piece::Form(&left.instructions),
+        ],
+    )
 }
 
 /// `foot MODE O F F`
+#[tactic(auto, unfolding(crate::specs::Spelling::foot_text, crate::specs::Spelling::zone_text))]
 pub fn push_foot(out: &mut String, foot: &Zone) -> Result<(), AllocError>
     ensures ok { OnOk result (string_bytes out.new ≡ string_bytes out.old ++ foot_text foot.now) }
     ensures err { OnErr result (string_bytes out.new ≡ string_bytes out.old) }
 {
-    let mut words = String::new(*out.allocator());
-    write_foot(&mut words, foot)?;
-    out.push_str(words.as_str())
+    push_pieces(
+        out,
+        &[
+            Piece::Text("foot "),
+            Piece::Mode(foot.mode),
+            Piece::Text(" "),
+            Piece::Object(&foot.object),
+            Piece::Text(" "),
+            Piece::Form(&foot.low),
+            Piece::Text(" "),
+            Piece::Form(&foot.high),
+        ],
+    )
 }

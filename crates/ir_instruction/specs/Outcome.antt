@@ -17,3 +17,8 @@ Fails faults.Unexpected found = found ≡ None
 abbrev pub Gives : {X Y : Type 0} → (X → Y) → Result X LineFault → Option Y → Type 0
 Gives view (Ok x) found = found ≡ Some (view x)
 Gives view (Err e) found = Fails e found
+
+-- what a function found is what is to be read; it takes no memory
+abbrev pub Finds : {X Y : Type 0} → (X → Y) → Option X → Option Y → Type 0
+Finds view (Some x) found = found ≡ Some (view x)
+Finds view None found = found ≡ None

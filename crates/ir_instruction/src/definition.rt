@@ -1,7 +1,7 @@
 //! What defines a register: behind `%d =` and a word.
 
 ghost use Rattle.std.specs.Prelude.{◌≡◌, [], ◌∷◌, codes, option_map};
-ghost use Rattle.ir_instruction.specs.Outcome.{Gives};
+ghost use Rattle.ir_instruction.specs.Outcome.{Finds, Gives};
 ghost use Rattle.ir_instruction.specs.Shape.{gaps_of, gap, word, mark, space, operand, pointer};
 ghost use Rattle.ir_instruction.specs.Grammar.{binary_shape, binary_from, compare_shape, compare_from, truncate_shape, truncate_from, extend_shape};
 ghost use Rattle.ir_instruction.specs.Grammar.{extend_from, alloca_shape, alloca_from, alloca_array_shape, alloca_array_from, element_pointer_shape};
@@ -11,7 +11,8 @@ ghost use Rattle.ir_instruction.specs.Grammar.{phi_shape, phi_from, binary, allo
 use crate::ends::{callee_at, last_index_at, last_operands_at, last_pointer_at, last_word_at};
 use crate::fault::LineFault;
 use crate::front::{
-    array_at, behind, end_at, is_word, mark_at, named_at, operand_at, pointer_at, width_at, word_at,
+    array_at, behind, behind_mark, behind_name, behind_word, is_word, operand_at, pointer_at,
+    width_at,
 };
 use crate::list::entries_at;
 use crate::operator::{operator_of, predicate_at, without_wrap};
@@ -28,7 +29,9 @@ fn plain_at(
 ) -> Result<Instruction, LineFault>
     ensures { Gives (λ made. made) result (option_map (binary_from register operator) (gaps_of binary_shape symbols.now)) }
 {
-    let (width, rest) = width_at(symbols)?;
+    let Some((width, rest)) = width_at(symbols) else {
+        return Err(LineFault::Unexpected);
+    };
     let (left, right) = last_operands_at(rest)?;
     Ok(Instruction::Binary {
         register,
@@ -58,8 +61,12 @@ fn binary_at(
 fn compare_at(register: Name, symbols: &[Symbol]) -> Result<Instruction, LineFault>
     ensures { Gives (λ made. made) result (option_map (compare_from register) (gaps_of compare_shape symbols.now)) }
 {
-    let (predicate, rest) = predicate_at(symbols)?;
-    let (width, rest) = width_at(rest)?;
+    let Some((predicate, rest)) = predicate_at(symbols) else {
+        return Err(LineFault::Unexpected);
+    };
+    let Some((width, rest)) = width_at(rest) else {
+        return Err(LineFault::Unexpected);
+    };
     let (left, right) = last_operands_at(rest)?;
     Ok(Instruction::Compare {
         register,
@@ -71,10 +78,12 @@ fn compare_at(register: Name, symbols: &[Symbol]) -> Result<Instruction, LineFau
 }
 
 /// Behind the value of a conversion: `to` and the type that it is converted to.
-fn conversion_ends(to: &[u8], symbols: &[Symbol]) -> Result<(), LineFault>
-    ensures { Gives (λ done. done) result (gaps_of (word (codes "to") ∷ space ∷ word to.now ∷ []) symbols.now) }
+fn conversion_ends(to: &[u8], symbols: &[Symbol]) -> Option<()>
+    ensures { Finds (λ done. done) result (gaps_of (word (codes "to") ∷ space ∷ word to.now ∷ []) symbols.now) }
 {
-    let rest = word_at(b"to", symbols)?;
+    let Some(rest) = behind_word(b"to", symbols) else {
+        return None;
+    };
     last_word_at(to, rest)
 }
 
@@ -83,10 +92,14 @@ fn converted_at(from: &[u8], to: &[u8], symbols: &[Symbol]) -> Result<Operand, L
     ensures { Gives (λ found. (found, tt)) result
         (gaps_of (word from.now ∷ space ∷ gap operand ∷ space ∷ word (codes "to") ∷ space ∷ word to.now ∷ []) symbols.now) }
 {
-    let rest = word_at(from, symbols)?;
+    let Some(rest) = behind_word(from, symbols) else {
+        return Err(LineFault::Unexpected);
+    };
     let (value, rest) = operand_at(rest)?;
-    conversion_ends(to, rest)?;
-    Ok(value)
+    match conversion_ends(to, rest) {
+        Some(()) => Ok(value),
+        None => Err(LineFault::Unexpected),
+    }
 }
 
 fn truncate_at(register: Name, symbols: &[Symbol]) -> Result<Instruction, LineFault>
@@ -118,22 +131,26 @@ fn extend_at(
 fn alloca_one_at(register: Name, symbols: &[Symbol]) -> Result<Instruction, LineFault>
     ensures { Gives (λ made. made) result (option_map (alloca_from register) (gaps_of alloca_shape symbols.now)) }
 {
-    last_word_at(b"i64", symbols)?;
-    Ok(Instruction::Alloca {
-        register,
-        size: AllocaSize::One,
-    })
+    match last_word_at(b"i64", symbols) {
+        Some(()) => Ok(Instruction::Alloca {
+            register,
+            size: AllocaSize::One,
+        }),
+        None => Err(LineFault::Unexpected),
+    }
 }
 
 fn alloca_array_at(register: Name, symbols: &[Symbol]) -> Result<Instruction, LineFault>
     ensures { Gives (λ made. made) result (option_map (alloca_array_from register) (gaps_of alloca_array_shape symbols.now)) }
 {
     let (cells, rest) = array_at(symbols)?;
-    end_at(rest)?;
-    Ok(Instruction::Alloca {
-        register,
-        size: AllocaSize::Array(cells),
-    })
+    match rest {
+        [] => Ok(Instruction::Alloca {
+            register,
+            size: AllocaSize::Array(cells),
+        }),
+        _ => Err(LineFault::Unexpected),
+    }
 }
 
 fn alloca_at(register: Name, symbols: &[Symbol]) -> Result<Instruction, LineFault>
@@ -151,7 +168,9 @@ fn element_at(symbols: &[Symbol]) -> Result<(Address, Operand), LineFault>
     ensures { Gives (λ found. (found.0, (found.1, tt))) result
         (gaps_of (mark 44 ∷ space ∷ gap pointer ∷ mark 44 ∷ space ∷ word (codes "i64") ∷ space ∷ gap operand ∷ []) symbols.now) }
 {
-    let rest = mark_at(b',', symbols)?;
+    let Some(rest) = behind_mark(b',', symbols) else {
+        return Err(LineFault::Unexpected);
+    };
     let (base, rest) = pointer_at(rest)?;
     let index = last_index_at(rest)?;
     Ok((base, index))
@@ -160,8 +179,12 @@ fn element_at(symbols: &[Symbol]) -> Result<(Address, Operand), LineFault>
 fn element_pointer_at(register: Name, symbols: &[Symbol]) -> Result<Instruction, LineFault>
     ensures { Gives (λ made. made) result (option_map (element_pointer_from register) (gaps_of element_pointer_shape symbols.now)) }
 {
-    let rest = word_at(b"inbounds", symbols)?;
-    let rest = word_at(b"i64", rest)?;
+    let Some(rest) = behind_word(b"inbounds", symbols) else {
+        return Err(LineFault::Unexpected);
+    };
+    let Some(rest) = behind_word(b"i64", rest) else {
+        return Err(LineFault::Unexpected);
+    };
     let (base, index) = element_at(rest)?;
     Ok(Instruction::ElementPointer {
         register,
@@ -173,27 +196,42 @@ fn element_pointer_at(register: Name, symbols: &[Symbol]) -> Result<Instruction,
 fn load_at(register: Name, symbols: &[Symbol]) -> Result<Instruction, LineFault>
     ensures { Gives (λ made. made) result (option_map (load_from register) (gaps_of load_shape symbols.now)) }
 {
-    let rest = word_at(b"i64", symbols)?;
+    let Some(rest) = behind_word(b"i64", symbols) else {
+        return Err(LineFault::Unexpected);
+    };
     let address = last_pointer_at(rest)?;
     Ok(Instruction::Load { register, address })
 }
 
 /// `()`
-fn no_arguments_at(symbols: &[Symbol]) -> Result<(), LineFault>
-    ensures { Gives (λ done. done) result (gaps_of (mark 40 ∷ mark 41 ∷ []) symbols.now) }
+fn no_arguments_at(symbols: &[Symbol]) -> Option<()>
+    ensures { Finds (λ done. done) result (gaps_of (mark 40 ∷ mark 41 ∷ []) symbols.now) }
 {
-    let rest = mark_at(b'(', symbols)?;
-    let rest = mark_at(b')', rest)?;
-    end_at(rest)
+    let Some(rest) = behind_mark(b'(', symbols) else {
+        return None;
+    };
+    let Some(rest) = behind_mark(b')', rest) else {
+        return None;
+    };
+    match rest {
+        [] => Some(()),
+        _ => None,
+    }
 }
 
 fn start_region_at(register: Name, symbols: &[Symbol]) -> Result<Instruction, LineFault>
     ensures { Gives (λ made. made) result (option_map (start_region_from register) (gaps_of start_region_shape symbols.now)) }
 {
-    let rest = word_at(b"token", symbols)?;
-    let rest = named_at(b"llvm.syncregion.start", rest)?;
-    no_arguments_at(rest)?;
-    Ok(Instruction::StartRegion { register })
+    let Some(rest) = behind_word(b"token", symbols) else {
+        return Err(LineFault::Unexpected);
+    };
+    let Some(rest) = behind_name(b"llvm.syncregion.start", rest) else {
+        return Err(LineFault::Unexpected);
+    };
+    match no_arguments_at(rest) {
+        Some(()) => Ok(Instruction::StartRegion { register }),
+        None => Err(LineFault::Unexpected),
+    }
 }
 
 fn call_number_at(
@@ -231,15 +269,19 @@ pub fn phi_at(
 ) -> Result<Phi, LineFault>
     ensures { Gives (λ made. made) result (option_map (phi_from line register) (gaps_of phi_shape symbols.now)) }
 {
-    let (width, rest) = width_at(symbols)?;
+    let Some((width, rest)) = width_at(symbols) else {
+        return Err(LineFault::Unexpected);
+    };
     let (entries, rest) = entries_at(alloc, rest)?;
-    end_at(rest)?;
-    Ok(Phi {
-        line,
-        register,
-        width,
-        entries,
-    })
+    match rest {
+        [] => Ok(Phi {
+            line,
+            register,
+            width,
+            entries,
+        }),
+        _ => Err(LineFault::Unexpected),
+    }
 }
 
 /// Behind `%d =`, for a word that is neither `phi` nor `call`.

@@ -8,7 +8,7 @@ ghost use Rattle.ir_instruction.specs.Grammar.{call_void_from, store};
 
 use crate::ends::{callee_at, last_pointer_at, last_word_at};
 use crate::fault::LineFault;
-use crate::front::{array_at, is_word, mark_at, operand_at, pointer_at, word_at};
+use crate::front::{array_at, behind_mark, behind_word, is_word, operand_at, pointer_at};
 use crate::symbol::Symbol;
 use std::alloc::Global;
 use syntax::{Instruction, Operand};
@@ -16,7 +16,9 @@ use syntax::{Instruction, Operand};
 fn store_number_at(symbols: &[Symbol]) -> Result<Instruction, LineFault>
     ensures { Gives (λ made. made) result (option_map store_from (gaps_of store_shape symbols.now)) }
 {
-    let rest = word_at(b"i64", symbols)?;
+    let Some(rest) = behind_word(b"i64", symbols) else {
+        return Err(LineFault::Unexpected);
+    };
     let (value, rest) = operand_at(rest)?;
     let address = last_pointer_at(rest)?;
     Ok(Instruction::Store { value, address })
@@ -26,7 +28,9 @@ fn store_zeros_at(symbols: &[Symbol]) -> Result<Instruction, LineFault>
     ensures { Gives (λ made. made) result (option_map store_zeros_from (gaps_of store_zeros_shape symbols.now)) }
 {
     let (cells, rest) = array_at(symbols)?;
-    let rest = word_at(b"zeroinitializer", rest)?;
+    let Some(rest) = behind_word(b"zeroinitializer", rest) else {
+        return Err(LineFault::Unexpected);
+    };
     let address = last_pointer_at(rest)?;
     Ok(Instruction::StoreZeros { cells, address })
 }
@@ -47,18 +51,26 @@ fn summand_at(symbols: &[Symbol]) -> Result<Operand, LineFault>
     ensures { Gives (λ found. (found, tt)) result
         (gaps_of (mark 44 ∷ space ∷ word (codes "i64") ∷ space ∷ gap operand ∷ space ∷ word (codes "seq_cst") ∷ []) symbols.now) }
 {
-    let rest = mark_at(b',', symbols)?;
-    let rest = word_at(b"i64", rest)?;
+    let Some(rest) = behind_mark(b',', symbols) else {
+        return Err(LineFault::Unexpected);
+    };
+    let Some(rest) = behind_word(b"i64", rest) else {
+        return Err(LineFault::Unexpected);
+    };
     let (value, rest) = operand_at(rest)?;
-    last_word_at(b"seq_cst", rest)?;
-    Ok(value)
+    match last_word_at(b"seq_cst", rest) {
+        Some(()) => Ok(value),
+        None => Err(LineFault::Unexpected),
+    }
 }
 
 /// Behind `atomicrmw`.
 pub fn atomic_at(symbols: &[Symbol]) -> Result<Instruction, LineFault>
     ensures { Gives (λ made. made) result (option_map atomic_from (gaps_of atomic_shape symbols.now)) }
 {
-    let rest = word_at(b"add", symbols)?;
+    let Some(rest) = behind_word(b"add", symbols) else {
+        return Err(LineFault::Unexpected);
+    };
     let (address, rest) = pointer_at(rest)?;
     let value = summand_at(rest)?;
     Ok(Instruction::AtomicAdd { address, value })

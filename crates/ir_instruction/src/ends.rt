@@ -2,12 +2,12 @@
 //! follows each step with all that is held at it.
 
 ghost use Rattle.std.specs.Prelude.{◌≡◌, [], ◌∷◌, codes};
-ghost use Rattle.ir_instruction.specs.Outcome.{Gives};
+ghost use Rattle.ir_instruction.specs.Outcome.{Finds, Gives};
 ghost use Rattle.ir_instruction.specs.Shape.{gaps_of, gap, word, mark, space, register, function, label, operand, pointer, arguments, cases};
 
 use crate::fault::LineFault;
 use crate::front::{
-    end_at, global_at, label_at, mark_at, operand_at, pointer_at, register_at, word_at,
+    behind_mark, behind_word, global_at, label_at, operand_at, pointer_at, register_at,
 };
 use crate::list::arguments_at;
 use crate::switch::{SpelledCase, all_cases_at};
@@ -17,11 +17,16 @@ use std::alloc::Global;
 use syntax::{Address, Argument, Operand};
 
 /// This word.
-pub fn last_word_at(text: &[u8], symbols: &[Symbol]) -> Result<(), LineFault>
-    ensures { Gives (λ done. done) result (gaps_of (word text.now ∷ []) symbols.now) }
+pub fn last_word_at(text: &[u8], symbols: &[Symbol]) -> Option<()>
+    ensures { Finds (λ done. done) result (gaps_of (word text.now ∷ []) symbols.now) }
 {
-    let rest = word_at(text, symbols)?;
-    end_at(rest)
+    let Some(rest) = behind_word(text, symbols) else {
+        return None;
+    };
+    match rest {
+        [] => Some(()),
+        _ => None,
+    }
 }
 
 /// `V`
@@ -29,8 +34,10 @@ pub fn last_operand_at(symbols: &[Symbol]) -> Result<Operand, LineFault>
     ensures { Gives (λ found. (found, tt)) result (gaps_of (gap operand ∷ []) symbols.now) }
 {
     let (found, rest) = operand_at(symbols)?;
-    end_at(rest)?;
-    Ok(found)
+    match rest {
+        [] => Ok(found),
+        _ => Err(LineFault::Unexpected),
+    }
 }
 
 /// `V, V`
@@ -38,7 +45,9 @@ pub fn last_operands_at(symbols: &[Symbol]) -> Result<(Operand, Operand), LineFa
     ensures { Gives (λ found. (found.0, (found.1, tt))) result (gaps_of (gap operand ∷ mark 44 ∷ space ∷ gap operand ∷ []) symbols.now) }
 {
     let (left, rest) = operand_at(symbols)?;
-    let rest = mark_at(b',', rest)?;
+    let Some(rest) = behind_mark(b',', rest) else {
+        return Err(LineFault::Unexpected);
+    };
     let right = last_operand_at(rest)?;
     Ok((left, right))
 }
@@ -47,8 +56,12 @@ pub fn last_operands_at(symbols: &[Symbol]) -> Result<(Operand, Operand), LineFa
 pub fn last_index_at(symbols: &[Symbol]) -> Result<Operand, LineFault>
     ensures { Gives (λ found. (found, tt)) result (gaps_of (mark 44 ∷ space ∷ word (codes "i64") ∷ space ∷ gap operand ∷ []) symbols.now) }
 {
-    let rest = mark_at(b',', symbols)?;
-    let rest = word_at(b"i64", rest)?;
+    let Some(rest) = behind_mark(b',', symbols) else {
+        return Err(LineFault::Unexpected);
+    };
+    let Some(rest) = behind_word(b"i64", rest) else {
+        return Err(LineFault::Unexpected);
+    };
     last_operand_at(rest)
 }
 
@@ -56,27 +69,37 @@ pub fn last_index_at(symbols: &[Symbol]) -> Result<Operand, LineFault>
 pub fn last_pointer_at(symbols: &[Symbol]) -> Result<Address, LineFault>
     ensures { Gives (λ found. (found, tt)) result (gaps_of (mark 44 ∷ space ∷ gap pointer ∷ []) symbols.now) }
 {
-    let rest = mark_at(b',', symbols)?;
+    let Some(rest) = behind_mark(b',', symbols) else {
+        return Err(LineFault::Unexpected);
+    };
     let (address, rest) = pointer_at(rest)?;
-    end_at(rest)?;
-    Ok(address)
+    match rest {
+        [] => Ok(address),
+        _ => Err(LineFault::Unexpected),
+    }
 }
 
 /// `, label %l`
 fn last_label_at(symbols: &[Symbol]) -> Result<Name, LineFault>
     ensures { Gives (λ found. (found, tt)) result (gaps_of (mark 44 ∷ space ∷ gap label ∷ []) symbols.now) }
 {
-    let rest = mark_at(b',', symbols)?;
+    let Some(rest) = behind_mark(b',', symbols) else {
+        return Err(LineFault::Unexpected);
+    };
     let (target, rest) = label_at(rest)?;
-    end_at(rest)?;
-    Ok(target)
+    match rest {
+        [] => Ok(target),
+        _ => Err(LineFault::Unexpected),
+    }
 }
 
 /// `, label %l, label %l`
 fn last_labels_at(symbols: &[Symbol]) -> Result<(Name, Name), LineFault>
     ensures { Gives (λ found. (found.0, (found.1, tt))) result (gaps_of (mark 44 ∷ space ∷ gap label ∷ mark 44 ∷ space ∷ gap label ∷ []) symbols.now) }
 {
-    let rest = mark_at(b',', symbols)?;
+    let Some(rest) = behind_mark(b',', symbols) else {
+        return Err(LineFault::Unexpected);
+    };
     let (first, rest) = label_at(rest)?;
     let second = last_label_at(rest)?;
     Ok((first, second))
@@ -87,7 +110,9 @@ pub fn register_and_label_at(text: &[u8], symbols: &[Symbol]) -> Result<(Name, N
     ensures { Gives (λ found. (found.0, (found.1, tt))) result
         (gaps_of (word text.now ∷ space ∷ gap register ∷ mark 44 ∷ space ∷ gap label ∷ []) symbols.now) }
 {
-    let rest = word_at(text, symbols)?;
+    let Some(rest) = behind_word(text, symbols) else {
+        return Err(LineFault::Unexpected);
+    };
     let (found, rest) = register_at(rest)?;
     let target = last_label_at(rest)?;
     Ok((found, target))
@@ -101,7 +126,9 @@ pub fn register_and_labels_at(
     ensures { Gives (λ found. (found.0, (found.1.0, (found.1.1, tt)))) result
         (gaps_of (word text.now ∷ space ∷ gap register ∷ mark 44 ∷ space ∷ gap label ∷ mark 44 ∷ space ∷ gap label ∷ []) symbols.now) }
 {
-    let rest = word_at(text, symbols)?;
+    let Some(rest) = behind_word(text, symbols) else {
+        return Err(LineFault::Unexpected);
+    };
     let (found, rest) = register_at(rest)?;
     let targets = last_labels_at(rest)?;
     Ok((found, targets))
@@ -110,10 +137,14 @@ pub fn register_and_labels_at(
 fn last_arguments_at(alloc: Global, symbols: &[Symbol]) -> Result<Seq<Argument>, LineFault>
     ensures { Gives (λ found. (found, tt)) result (gaps_of (mark 40 ∷ gap arguments ∷ []) symbols.now) }
 {
-    let rest = mark_at(b'(', symbols)?;
+    let Some(rest) = behind_mark(b'(', symbols) else {
+        return Err(LineFault::Unexpected);
+    };
     let (found, rest) = arguments_at(alloc, rest)?;
-    end_at(rest)?;
-    Ok(found)
+    match rest {
+        [] => Ok(found),
+        _ => Err(LineFault::Unexpected),
+    }
 }
 
 /// A type and `@f(ARG, ..)`
@@ -125,7 +156,9 @@ pub fn callee_at(
     ensures { Gives (λ found. (found.0, (found.1, tt))) result
         (gaps_of (word text.now ∷ space ∷ gap function ∷ mark 40 ∷ gap arguments ∷ []) symbols.now) }
 {
-    let rest = word_at(text, symbols)?;
+    let Some(rest) = behind_word(text, symbols) else {
+        return Err(LineFault::Unexpected);
+    };
     let (callee, rest) = global_at(rest)?;
     let found = last_arguments_at(alloc, rest)?;
     Ok((callee, found))
@@ -135,10 +168,14 @@ pub fn callee_at(
 fn last_cases_at(alloc: Global, symbols: &[Symbol]) -> Result<Seq<SpelledCase>, LineFault>
     ensures { Gives (λ found. (found, tt)) result (gaps_of (mark 91 ∷ space ∷ gap cases ∷ []) symbols.now) }
 {
-    let rest = mark_at(b'[', symbols)?;
+    let Some(rest) = behind_mark(b'[', symbols) else {
+        return Err(LineFault::Unexpected);
+    };
     let (found, rest) = all_cases_at(alloc, rest)?;
-    end_at(rest)?;
-    Ok(found)
+    match rest {
+        [] => Ok(found),
+        _ => Err(LineFault::Unexpected),
+    }
 }
 
 /// `, label %l [ T N, label %l .. ]`
@@ -149,7 +186,9 @@ pub fn last_targets_at(
     ensures { Gives (λ found. (found.0, (found.1, tt))) result
         (gaps_of (mark 44 ∷ space ∷ gap label ∷ space ∷ mark 91 ∷ space ∷ gap cases ∷ []) symbols.now) }
 {
-    let rest = mark_at(b',', symbols)?;
+    let Some(rest) = behind_mark(b',', symbols) else {
+        return Err(LineFault::Unexpected);
+    };
     let (default, rest) = label_at(rest)?;
     let spelled = last_cases_at(alloc, rest)?;
     Ok((default, spelled))

@@ -1,7 +1,7 @@
 //! What stands at the front of the rest of a line, and what is left behind it.
 
 ghost use Rattle.std.specs.Prelude.{◌≡◌, codes};
-ghost use Rattle.ir_instruction.specs.Outcome.{Gives, ◌>>=◌ as ◌▷◌};
+ghost use Rattle.ir_instruction.specs.Outcome.{Finds, Gives, ◌>>=◌ as ◌▷◌};
 ghost use Rattle.ir_instruction.specs.Fronts.{mark_at, word_at, named_at, end_at, is_word, is_mark, behind, register_at, global_at, label_at, numeral_at};
 ghost use Rattle.ir_instruction.specs.Fronts.{operand_at, address_at, pointer_at, count_at, array_at, bytes_at, width_at, result_type_at};
 
@@ -11,31 +11,51 @@ use crate::symbol::{Numeral, Symbol};
 use lists::Name;
 use syntax::{Address, Operand, ResultType, Width};
 
+/// What is behind this mark.
+pub fn behind_mark(mark: u8, symbols: &[Symbol]) -> Option<&[Symbol]>
+    ensures { Finds (λ rest. rest.now) result (mark_at mark symbols.now) }
+{
+    match symbols {
+        [Symbol::Mark(found), rest @ ..] if *found == mark => Some(rest),
+        _ => None,
+    }
+}
+
 pub fn mark_at(mark: u8, symbols: &[Symbol]) -> Result<&[Symbol], LineFault>
     ensures { Gives (λ rest. rest.now) result (mark_at mark symbols.now) }
 {
+    match behind_mark(mark, symbols) {
+        Some(rest) => Ok(rest),
+        None => Err(LineFault::Unexpected),
+    }
+}
+
+/// What is behind this word.
+pub fn behind_word<'a>(text: &[u8], symbols: &'a [Symbol]) -> Option<&'a [Symbol]>
+    ensures { Finds (λ rest. rest.now) result (word_at text.now symbols.now) }
+{
     match symbols {
-        [Symbol::Mark(found), rest @ ..] if *found == mark => Ok(rest),
-        _ => Err(LineFault::Unexpected),
+        [Symbol::Word(found), rest @ ..] if found.as_bytes() == text => Some(rest),
+        _ => None,
     }
 }
 
 pub fn word_at<'a>(text: &[u8], symbols: &'a [Symbol]) -> Result<&'a [Symbol], LineFault>
     ensures { Gives (λ rest. rest.now) result (word_at text.now symbols.now) }
 {
-    match symbols {
-        [Symbol::Word(found), rest @ ..] if found.as_bytes() == text => Ok(rest),
-        _ => Err(LineFault::Unexpected),
+    match behind_word(text, symbols) {
+        Some(rest) => Ok(rest),
+        None => Err(LineFault::Unexpected),
     }
 }
 
-/// This global and no other.
-pub fn named_at<'a>(text: &[u8], symbols: &'a [Symbol]) -> Result<&'a [Symbol], LineFault>
-    ensures { Gives (λ rest. rest.now) result (named_at text.now symbols.now) }
+/// What is behind this global and no other.
+pub fn behind_name<'a>(text: &[u8], symbols: &'a [Symbol]) -> Option<&'a [Symbol]>
+    ensures { Finds (λ rest. rest.now) result (named_at text.now symbols.now) }
 {
     match symbols {
-        [Symbol::Global(found), rest @ ..] if found.as_bytes() == text => Ok(rest),
-        _ => Err(LineFault::Unexpected),
+        [Symbol::Global(found), rest @ ..] if found.as_bytes() == text => Some(rest),
+        _ => None,
     }
 }
 
@@ -98,7 +118,9 @@ pub fn global_at(symbols: &[Symbol]) -> Result<(Name, &[Symbol]), LineFault>
 pub fn label_at(symbols: &[Symbol]) -> Result<(Name, &[Symbol]), LineFault>
     ensures { Gives (λ found. (found.0, found.1.now)) result (label_at symbols.now) }
 {
-    let rest = word_at(b"label", symbols)?;
+    let Some(rest) = behind_word(b"label", symbols) else {
+        return Err(LineFault::Unexpected);
+    };
     register_at(rest)
 }
 
@@ -136,63 +158,75 @@ fn address_at(symbols: &[Symbol]) -> Result<(Address, &[Symbol]), LineFault>
 pub fn pointer_at(symbols: &[Symbol]) -> Result<(Address, &[Symbol]), LineFault>
     ensures { Gives (λ found. (found.0, found.1.now)) result (pointer_at symbols.now) }
 {
-    let rest = word_at(b"ptr", symbols)?;
+    let Some(rest) = behind_word(b"ptr", symbols) else {
+        return Err(LineFault::Unexpected);
+    };
     address_at(rest)
 }
 
-fn count_at(symbols: &[Symbol]) -> Result<(u64, &[Symbol]), LineFault>
-    ensures { Gives (λ found. (found.0, found.1.now)) result (count_at symbols.now) }
+fn count_at(symbols: &[Symbol]) -> Option<(u64, &[Symbol])>
+    ensures { Finds (λ found. (found.0, found.1.now)) result (count_at symbols.now) }
 {
     match symbols {
         [Symbol::Number(n), rest @ ..] => match count_of(n) {
-            Some(count) => Ok((count, rest)),
-            None => Err(LineFault::Unexpected),
+            Some(count) => Some((count, rest)),
+            None => None,
         },
-        _ => Err(LineFault::Unexpected),
+        _ => None,
     }
 }
 
 /// `x i64]`
-fn array_ends(symbols: &[Symbol]) -> Result<&[Symbol], LineFault>
-    ensures { Gives (λ rest. rest.now) result ((word_at (codes "x") symbols.now ▷ word_at (codes "i64")) ▷ mark_at 93) }
+fn array_ends(symbols: &[Symbol]) -> Option<&[Symbol]>
+    ensures { Finds (λ rest. rest.now) result ((word_at (codes "x") symbols.now ▷ word_at (codes "i64")) ▷ mark_at 93) }
 {
-    let rest = word_at(b"x", symbols)?;
-    let rest = word_at(b"i64", rest)?;
-    mark_at(b']', rest)
+    let Some(rest) = behind_word(b"x", symbols) else {
+        return None;
+    };
+    let Some(rest) = behind_word(b"i64", rest) else {
+        return None;
+    };
+    behind_mark(b']', rest)
 }
 
 /// `[N x i64]`
 pub fn array_at(symbols: &[Symbol]) -> Result<(u64, &[Symbol]), LineFault>
     ensures { Gives (λ found. (found.0, found.1.now)) result (array_at symbols.now) }
 {
-    let rest = mark_at(b'[', symbols)?;
-    let (cells, rest) = count_at(rest)?;
-    let rest = array_ends(rest)?;
+    let Some(rest) = behind_mark(b'[', symbols) else {
+        return Err(LineFault::Unexpected);
+    };
+    let Some((cells, rest)) = count_at(rest) else {
+        return Err(LineFault::Unexpected);
+    };
+    let Some(rest) = array_ends(rest) else {
+        return Err(LineFault::Unexpected);
+    };
     Ok((cells, rest))
 }
 
 /// So many bytes, as cells.
-pub fn bytes_at(symbols: &[Symbol]) -> Result<(u64, &[Symbol]), LineFault>
-    ensures { Gives (λ found. (found.0, found.1.now)) result (bytes_at symbols.now) }
+pub fn bytes_at(symbols: &[Symbol]) -> Option<(u64, &[Symbol])>
+    ensures { Finds (λ found. (found.0, found.1.now)) result (bytes_at symbols.now) }
 {
     match symbols {
         [Symbol::Number(n), rest @ ..] => match cells_of_bytes(n) {
-            Some(cells) => Ok((cells, rest)),
-            None => Err(LineFault::Unexpected),
+            Some(cells) => Some((cells, rest)),
+            None => None,
         },
-        _ => Err(LineFault::Unexpected),
+        _ => None,
     }
 }
 
-pub fn width_at(symbols: &[Symbol]) -> Result<(Width, &[Symbol]), LineFault>
-    ensures { Gives (λ found. (found.0, found.1.now)) result (width_at symbols.now) }
+pub fn width_at(symbols: &[Symbol]) -> Option<(Width, &[Symbol])>
+    ensures { Finds (λ found. (found.0, found.1.now)) result (width_at symbols.now) }
 {
     if is_word(b"i64", symbols) {
-        Ok((Width::Bits64, behind(symbols)))
+        Some((Width::Bits64, behind(symbols)))
     } else if is_word(b"i32", symbols) {
-        Ok((Width::Bits32, behind(symbols)))
+        Some((Width::Bits32, behind(symbols)))
     } else {
-        Err(LineFault::Unexpected)
+        None
     }
 }
 

@@ -2,14 +2,15 @@
 
 ghost use Rattle.std.specs.Prelude.{◌≡◌, List, length, codes, Option, option_map};
 ghost use Rattle.ir_instruction.specs.declared.symbol.Symbol.{Symbol};
-ghost use Rattle.ir_instruction.specs.Outcome.{Gives, ◌>>=◌ as ◌▷◌};
+ghost use Rattle.ir_instruction.specs.Outcome.{Finds, Gives, ◌>>=◌ as ◌▷◌};
 ghost use Rattle.ir_instruction.specs.Fronts.{mark_at, word_at, register_at, operand_at};
 ghost use Rattle.ir_instruction.specs.Lists.{list_at, comma_at, pointer_parameter_at, number_parameter_at, parameter_at, pointer_argument_at};
 ghost use Rattle.ir_instruction.specs.Lists.{number_argument_at, argument_at, entry_at, all_at, all_entries_at};
 
 use crate::fault::LineFault;
 use crate::front::{
-    behind, bytes_at, is_mark, is_word, mark_at, operand_at, pointer_at, register_at, word_at,
+    behind, behind_mark, behind_word, bytes_at, is_mark, is_word, operand_at, pointer_at,
+    register_at,
 };
 use crate::symbol::Symbol;
 use lists::{Name, Seq};
@@ -61,29 +62,41 @@ fn comma_at(symbols: &[Symbol]) -> Option<&[Symbol]>
 }
 
 /// `ptr noalias dereferenceable`
-fn pointer_words_at(symbols: &[Symbol]) -> Result<&[Symbol], LineFault>
-    ensures { Gives (λ rest. rest.now) result
+fn pointer_words_at(symbols: &[Symbol]) -> Option<&[Symbol]>
+    ensures { Finds (λ rest. rest.now) result
         ((word_at (codes "ptr") symbols.now ▷ word_at (codes "noalias")) ▷ word_at (codes "dereferenceable")) }
 {
-    let rest = word_at(b"ptr", symbols)?;
-    let rest = word_at(b"noalias", rest)?;
-    word_at(b"dereferenceable", rest)
+    let Some(rest) = behind_word(b"ptr", symbols) else {
+        return None;
+    };
+    let Some(rest) = behind_word(b"noalias", rest) else {
+        return None;
+    };
+    behind_word(b"dereferenceable", rest)
 }
 
 /// A mark and `%x`
 fn register_behind(mark: u8, symbols: &[Symbol]) -> Result<(Name, &[Symbol]), LineFault>
     ensures { Gives (λ found. (found.0, found.1.now)) result (mark_at mark symbols.now ▷ register_at) }
 {
-    let rest = mark_at(mark, symbols)?;
+    let Some(rest) = behind_mark(mark, symbols) else {
+        return Err(LineFault::Unexpected);
+    };
     register_at(rest)
 }
 
 fn pointer_parameter_at(symbols: &[Symbol]) -> Result<(Parameter, &[Symbol]), LineFault>
     ensures { Gives (λ found. (found.0, found.1.now)) result (pointer_parameter_at symbols.now) }
 {
-    let rest = pointer_words_at(symbols)?;
-    let rest = mark_at(b'(', rest)?;
-    let (cells, rest) = bytes_at(rest)?;
+    let Some(rest) = pointer_words_at(symbols) else {
+        return Err(LineFault::Unexpected);
+    };
+    let Some(rest) = behind_mark(b'(', rest) else {
+        return Err(LineFault::Unexpected);
+    };
+    let Some((cells, rest)) = bytes_at(rest) else {
+        return Err(LineFault::Unexpected);
+    };
     let (name, rest) = register_behind(b')', rest)?;
     Ok((Parameter::Pointer { name, cells }, rest))
 }
@@ -91,7 +104,9 @@ fn pointer_parameter_at(symbols: &[Symbol]) -> Result<(Parameter, &[Symbol]), Li
 fn number_parameter_at(symbols: &[Symbol]) -> Result<(Parameter, &[Symbol]), LineFault>
     ensures { Gives (λ found. (found.0, found.1.now)) result (number_parameter_at symbols.now) }
 {
-    let rest = word_at(b"i64", symbols)?;
+    let Some(rest) = behind_word(b"i64", symbols) else {
+        return Err(LineFault::Unexpected);
+    };
     let (name, rest) = register_at(rest)?;
     Ok((Parameter::Number { name }, rest))
 }
@@ -124,7 +139,9 @@ fn pointer_argument_at(symbols: &[Symbol]) -> Result<(Argument, &[Symbol]), Line
 fn number_argument_at(symbols: &[Symbol]) -> Result<(Argument, &[Symbol]), LineFault>
     ensures { Gives (λ found. (found.0, found.1.now)) result (number_argument_at symbols.now) }
 {
-    let rest = word_at(b"i64", symbols)?;
+    let Some(rest) = behind_word(b"i64", symbols) else {
+        return Err(LineFault::Unexpected);
+    };
     let (value, rest) = operand_at(rest)?;
     Ok((Argument::Number(value), rest))
 }
@@ -151,7 +168,9 @@ impl Listed for Argument {
 fn entry_value_at(symbols: &[Symbol]) -> Result<(Operand, &[Symbol]), LineFault>
     ensures { Gives (λ found. (found.0, found.1.now)) result (mark_at 91 symbols.now ▷ operand_at) }
 {
-    let rest = mark_at(b'[', symbols)?;
+    let Some(rest) = behind_mark(b'[', symbols) else {
+        return Err(LineFault::Unexpected);
+    };
     operand_at(rest)
 }
 
@@ -163,7 +182,9 @@ impl Listed for PhiEntry {
     fn at(symbols: &[Symbol]) -> Result<(PhiEntry, &[Symbol]), LineFault> {
         let (value, rest) = entry_value_at(symbols)?;
         let (predecessor, rest) = register_behind(b',', rest)?;
-        let rest = mark_at(b']', rest)?;
+        let Some(rest) = behind_mark(b']', rest) else {
+            return Err(LineFault::Unexpected);
+        };
         Ok((PhiEntry { value, predecessor }, rest))
     }
 
@@ -183,7 +204,9 @@ pub fn parameters_at(
         return Ok((Seq::new(alloc), behind(symbols)));
     }
     let (found, rest) = list_at::<Parameter>(alloc, symbols)?;
-    let rest = mark_at(b')', rest)?;
+    let Some(rest) = behind_mark(b')', rest) else {
+        return Err(LineFault::Unexpected);
+    };
     Ok((found, rest))
 }
 
@@ -198,7 +221,9 @@ pub fn arguments_at(
         return Ok((Seq::new(alloc), behind(symbols)));
     }
     let (found, rest) = list_at::<Argument>(alloc, symbols)?;
-    let rest = mark_at(b')', rest)?;
+    let Some(rest) = behind_mark(b')', rest) else {
+        return Err(LineFault::Unexpected);
+    };
     Ok((found, rest))
 }
 

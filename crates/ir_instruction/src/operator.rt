@@ -1,7 +1,7 @@
 //! The words of operations.
 
 ghost use Rattle.std.specs.Prelude.{◌≡◌};
-ghost use Rattle.ir_instruction.specs.Outcome.{Gives};
+ghost use Rattle.ir_instruction.specs.Outcome.{Finds};
 ghost use Rattle.ir_instruction.specs.Operators.{operator_of, without_wrap, predicate_of, predicate_at};
 
 use crate::fault::LineFault;
@@ -86,14 +86,14 @@ fn predicate_of(word: &[u8]) -> Option<Predicate>
     }
 }
 
-pub fn predicate_at(symbols: &[Symbol]) -> Result<(Predicate, &[Symbol]), LineFault>
-    ensures { Gives (λ found. (found.0, found.1.now)) result (predicate_at symbols.now) }
+pub fn predicate_at(symbols: &[Symbol]) -> Option<(Predicate, &[Symbol])>
+    ensures { Finds (λ found. (found.0, found.1.now)) result (predicate_at symbols.now) }
 {
     match symbols {
         [Symbol::Word(word), rest @ ..] => match predicate_of(word.as_bytes()) {
-            Some(predicate) => Ok((predicate, rest)),
-            None => Err(LineFault::Unexpected),
+            Some(predicate) => Some((predicate, rest)),
+            None => None,
         },
-        _ => Err(LineFault::Unexpected),
+        _ => None,
     }
 }

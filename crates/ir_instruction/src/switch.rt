@@ -9,7 +9,7 @@ ghost use Rattle.ir_instruction.specs.Cases.{share_number_or_label, are_distinct
 ghost use Rattle.syntax.specs.Widths.{is_same_width};
 
 use crate::fault::LineFault;
-use crate::front::{is_mark, label_at, mark_at, numeral_at, width_at};
+use crate::front::{behind_mark, is_mark, label_at, numeral_at, width_at};
 use crate::list::{Listed, list_at};
 use crate::numeral::{is_same_name, is_same_number, value_of};
 use crate::symbol::{Numeral, Symbol};
@@ -29,7 +29,9 @@ pub struct SpelledCase {
 fn target_at(symbols: &[Symbol]) -> Result<(Name, &[Symbol]), LineFault>
     ensures { Gives (λ found. (found.0, found.1.now)) result (mark_at 44 symbols.now ▷ label_at) }
 {
-    let rest = mark_at(b',', symbols)?;
+    let Some(rest) = behind_mark(b',', symbols) else {
+        return Err(LineFault::Unexpected);
+    };
     label_at(rest)
 }
 
@@ -39,7 +41,9 @@ impl Listed for SpelledCase {
     ghost follows = { case_follows };
 
     fn at(symbols: &[Symbol]) -> Result<(SpelledCase, &[Symbol]), LineFault> {
-        let (width, rest) = width_at(symbols)?;
+        let Some((width, rest)) = width_at(symbols) else {
+            return Err(LineFault::Unexpected);
+        };
         let (number, rest) = numeral_at(rest)?;
         let (target, rest) = target_at(rest)?;
         Ok((
@@ -69,7 +73,9 @@ pub fn all_cases_at(
     ensures { Gives (λ found. (found.0, found.1.now)) result (all_cases_at symbols.now) }
 {
     let (cases, rest) = list_at::<SpelledCase>(alloc, symbols)?;
-    let rest = mark_at(b']', rest)?;
+    let Some(rest) = behind_mark(b']', rest) else {
+        return Err(LineFault::Unexpected);
+    };
     Ok((cases, rest))
 }
 

@@ -11,7 +11,7 @@ use crate::ends::{
     last_operand_at, last_targets_at, last_word_at, register_and_label_at, register_and_labels_at,
 };
 use crate::fault::LineFault;
-use crate::front::{end_at, is_word, label_at, operand_at, width_at, word_at};
+use crate::front::{behind_word, is_word, label_at, operand_at, width_at};
 use crate::numeral::is_same_name;
 use crate::switch::{SpelledCase, are_cases_of, cases_from};
 use crate::symbol::Symbol;
@@ -24,8 +24,10 @@ fn jump_at(symbols: &[Symbol]) -> Result<Terminator, LineFault>
     ensures { Gives (λ made. made) result (option_map jump_from (gaps_of jump_shape symbols.now)) }
 {
     let (target, rest) = label_at(symbols)?;
-    end_at(rest)?;
-    Ok(Terminator::Jump { target })
+    match rest {
+        [] => Ok(Terminator::Jump { target }),
+        _ => Err(LineFault::Unexpected),
+    }
 }
 
 fn branch_at(symbols: &[Symbol]) -> Result<Terminator, LineFault>
@@ -73,7 +75,9 @@ fn judged_cases(
 fn switch_at(alloc: Global, symbols: &[Symbol]) -> Result<Terminator, LineFault>
     ensures { Gives (λ made. made) result (switch_in symbols.now) }
 {
-    let (width, rest) = width_at(symbols)?;
+    let Some((width, rest)) = width_at(symbols) else {
+        return Err(LineFault::Unexpected);
+    };
     let (value, rest) = operand_at(rest)?;
     let (default, spelled) = last_targets_at(alloc, rest)?;
     let cases = judged_cases(alloc, width, &default, spelled.as_slice())?;
@@ -88,14 +92,18 @@ fn switch_at(alloc: Global, symbols: &[Symbol]) -> Result<Terminator, LineFault>
 fn return_void_at(symbols: &[Symbol]) -> Result<Terminator, LineFault>
     ensures { Gives (λ made. made) result (option_map return_void_from (gaps_of return_void_shape symbols.now)) }
 {
-    last_word_at(b"void", symbols)?;
-    Ok(Terminator::Return { value: None })
+    match last_word_at(b"void", symbols) {
+        Some(()) => Ok(Terminator::Return { value: None }),
+        None => Err(LineFault::Unexpected),
+    }
 }
 
 fn return_number_at(symbols: &[Symbol]) -> Result<Terminator, LineFault>
     ensures { Gives (λ made. made) result (option_map return_from (gaps_of return_shape symbols.now)) }
 {
-    let rest = word_at(b"i64", symbols)?;
+    let Some(rest) = behind_word(b"i64", symbols) else {
+        return Err(LineFault::Unexpected);
+    };
     let value = last_operand_at(rest)?;
     Ok(Terminator::Return { value: Some(value) })
 }

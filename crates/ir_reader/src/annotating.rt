@@ -77,10 +77,16 @@ pub fn annotated_function(
     ensures { IfOk result (λ h. h ≡ annotated_function head annotation) }
 {
     let mut head = head;
-    if annotate_function_head(&mut head, annotation)? {
-        Ok(Some(head))
-    } else {
-        Ok(None)
+    match annotate_function_head(&mut head, annotation) {
+        Ok(true) => Ok(Some(head)),
+        Ok(false) => {
+            drop(head);
+            Ok(None)
+        }
+        Err(OutOfMemory) => {
+            drop(head);
+            Err(OutOfMemory)
+        }
     }
 }
 
@@ -121,9 +127,15 @@ pub fn annotated_block(
     ensures { IfOk result (λ h. h ≡ annotated_block head annotation) }
 {
     let mut head = head;
-    if annotate_block_head(&mut head, annotation)? {
-        Ok(Some(head))
-    } else {
-        Ok(None)
+    match annotate_block_head(&mut head, annotation) {
+        Ok(true) => Ok(Some(head)),
+        Ok(false) => {
+            drop(head);
+            Ok(None)
+        }
+        Err(OutOfMemory) => {
+            drop(head);
+            Err(OutOfMemory)
+        }
     }
 }

@@ -5,6 +5,7 @@ ghost use Rattle.ir_reader.specs.Opening.{zero_form, new_function, new_block, wi
 
 use lists::{Name, OutOfMemory, Seq};
 use std::alloc::Global;
+use std::mem::replace;
 use syntax::{
     Block, BlockNotes, Budget, Ending, Form, Function, FunctionNotes, Inequality, Instruction,
     Left, Measure, Module, Parameter, Phi, ResultType, Step, Terminator,
@@ -159,10 +160,11 @@ pub fn with_ending(
 ) -> Block
     ensures { result ≡ with_ending block line shows terminator }
 {
-    block.ending = Some(Ending {
+    let ending = Ending {
         line,
         shows,
         terminator,
-    });
+    };
+    drop(replace(&mut block.ending, Some(ending)));
     block
 }

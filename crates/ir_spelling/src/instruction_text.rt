@@ -1,16 +1,13 @@
 //! How instructions are spelled.
 
-ghost use Rattle.std.specs.Prelude.{◌≡◌, ◌++◌, OnOk, string_bytes, codes, flat_map};
+ghost use Rattle.std.specs.Prelude.{◌≡◌, ◌++◌, OnOk, string_bytes, flat_map};
 ghost use Rattle.ir_spelling.specs.InstructionText.{conversion_texts, binary_text, compare_text, convert_text, alloca_text, element_pointer_text};
 ghost use Rattle.ir_spelling.specs.InstructionText.{load_text, store_text, store_zeros_text, atomic_add_text, call_text, call_void_text};
 ghost use Rattle.ir_spelling.specs.InstructionText.{start_region_text, instruction_text, entry_text, entries_text, phi_text};
-ghost use Rattle.ir_spelling.specs.Spelling.{operand_text, arguments_text, behind_comma};
-ghost use Rattle.ir_instruction.specs.Spelling.{width_word};
+ghost use Rattle.ir_spelling.specs.Spelling.{behind_comma};
 
-use crate::spelling::{
-    operator_text, predicate_word, push_address, push_arguments, push_array, push_operand,
-    push_register, push_typed, width_word,
-};
+use crate::pieces::{Piece, push_pieces};
+use crate::spelling::{operator_text, predicate_word, push_arguments};
 use lists::Name;
 use std::alloc::AllocError;
 use syntax::{
@@ -18,52 +15,58 @@ use syntax::{
     Predicate, Width,
 };
 
-/// ` T V, V`
-fn push_operands(
+fn push_binary<'a>(
     out: &mut String,
-    width: Width,
-    left: &Operand,
-    right: &Operand,
-) -> Result<(), AllocError>
-    ensures { OnOk result (string_bytes out.new ≡ string_bytes out.old
-        ++ codes " " ++ width_word width ++ codes " " ++ operand_text left.now ++ codes ", " ++ operand_text right.now) }
-{
-    out.push_str(" ")?;
-    push_typed(out, width, left)?;
-    out.push_str(", ")?;
-    push_operand(out, right)
-}
-
-fn push_binary(
-    out: &mut String,
-    register: &Name,
+    register: &'a Name,
     operator: BinaryOperator,
     width: Width,
-    left: &Operand,
-    right: &Operand,
+    left: &'a Operand,
+    right: &'a Operand,
 ) -> Result<(), AllocError>
     ensures { OnOk result (string_bytes out.new ≡ string_bytes out.old ++ binary_text register.now operator width left.now right.now) }
 {
-    push_register(out, register)?;
-    out.push_str(" = ")?;
-    out.push_str(operator_text(operator))?;
-    push_operands(out, width, left, right)
+    push_pieces(
+        out,
+        &[
+            Piece::Text("%"),
+            Piece::Name(register),
+            Piece::Text(" = "),
+            Piece::Text(operator_text(operator)),
+            Piece::Text(" "),
+            Piece::Width(width),
+            Piece::Text(" "),
+            Piece::Value(left),
+            Piece::Text(", "),
+            Piece::Value(right),
+        ],
+    )
 }
 
-fn push_compare(
+fn push_compare<'a>(
     out: &mut String,
-    register: &Name,
+    register: &'a Name,
     predicate: Predicate,
     width: Width,
-    left: &Operand,
-    right: &Operand,
+    left: &'a Operand,
+    right: &'a Operand,
 ) -> Result<(), AllocError>
     ensures { OnOk result (string_bytes out.new ≡ string_bytes out.old ++ compare_text register.now predicate width left.now right.now) }
 {
-    push_register(out, register)?;
-    out.push_str(" = icmp ")?;
-    out.push_str(predicate_word(predicate))?;
-    push_operands(out, width, left, right)
+    push_pieces(
+        out,
+        &[
+            Piece::Text("%"),
+            Piece::Name(register),
+            Piece::Text(" = icmp "),
+            Piece::Text(predicate_word(predicate)),
+            Piece::Text(" "),
+            Piece::Width(width),
+            Piece::Text(" "),
+            Piece::Value(left),
+            Piece::Text(", "),
+            Piece::Value(right),
+        ],
+    )
 }
 
 /// What stands before and behind the value.
@@ -78,120 +81,192 @@ fn conversion_texts(conversion: Conversion) -> (&'static str, &'static str)
     }
 }
 
-fn push_convert(
+fn push_convert<'a>(
     out: &mut String,
-    register: &Name,
+    register: &'a Name,
     conversion: Conversion,
-    value: &Operand,
+    value: &'a Operand,
 ) -> Result<(), AllocError>
     ensures { OnOk result (string_bytes out.new ≡ string_bytes out.old ++ convert_text register.now conversion value.now) }
 {
     let (before, behind) = conversion_texts(conversion);
-    push_register(out, register)?;
-    out.push_str(before)?;
-    push_operand(out, value)?;
-    out.push_str(behind)
+    push_pieces(
+        out,
+        &[
+            Piece::Text("%"),
+            Piece::Name(register),
+            Piece::Text(before),
+            Piece::Value(value),
+            Piece::Text(behind),
+        ],
+    )
 }
 
 fn push_alloca(out: &mut String, register: &Name, size: AllocaSize) -> Result<(), AllocError>
     ensures { OnOk result (string_bytes out.new ≡ string_bytes out.old ++ alloca_text register.now size) }
 {
-    push_register(out, register)?;
-    out.push_str(" = alloca ")?;
     match size {
-        AllocaSize::One => out.push_str("i64"),
-        AllocaSize::Array(cells) => push_array(out, cells),
+        AllocaSize::One => push_pieces(
+            out,
+            &[
+                Piece::Text("%"),
+                Piece::Name(register),
+                Piece::Text(" = alloca i64"),
+            ],
+        ),
+        AllocaSize::Array(cells) => push_pieces(
+            out,
+            &[
+                Piece::Text("%"),
+                Piece::Name(register),
+                Piece::Text(" = alloca ["),
+                Piece::Cells(cells),
+                Piece::Text(" x i64]"),
+            ],
+        ),
     }
 }
 
-fn push_element_pointer(
+fn push_element_pointer<'a>(
     out: &mut String,
-    register: &Name,
-    base: &Address,
-    index: &Operand,
+    register: &'a Name,
+    base: &'a Address,
+    index: &'a Operand,
 ) -> Result<(), AllocError>
     ensures { OnOk result (string_bytes out.new ≡ string_bytes out.old ++ element_pointer_text register.now base.now index.now) }
 {
-    push_register(out, register)?;
-    out.push_str(" = getelementptr inbounds i64, ")?;
-    push_address(out, base)?;
-    out.push_str(", i64 ")?;
-    push_operand(out, index)
+    push_pieces(
+        out,
+        &[
+            Piece::Text("%"),
+            Piece::Name(register),
+            Piece::Text(" = getelementptr inbounds i64, "),
+            Piece::Pointer(base),
+            Piece::Text(", i64 "),
+            Piece::Value(index),
+        ],
+    )
 }
 
-fn push_load(out: &mut String, register: &Name, address: &Address) -> Result<(), AllocError>
+fn push_load<'a>(
+    out: &mut String,
+    register: &'a Name,
+    address: &'a Address,
+) -> Result<(), AllocError>
     ensures { OnOk result (string_bytes out.new ≡ string_bytes out.old ++ load_text register.now address.now) }
 {
-    push_register(out, register)?;
-    out.push_str(" = load i64, ")?;
-    push_address(out, address)
+    push_pieces(
+        out,
+        &[
+            Piece::Text("%"),
+            Piece::Name(register),
+            Piece::Text(" = load i64, "),
+            Piece::Pointer(address),
+        ],
+    )
 }
 
-fn push_store(out: &mut String, value: &Operand, address: &Address) -> Result<(), AllocError>
+fn push_store<'a>(
+    out: &mut String,
+    value: &'a Operand,
+    address: &'a Address,
+) -> Result<(), AllocError>
     ensures { OnOk result (string_bytes out.new ≡ string_bytes out.old ++ store_text value.now address.now) }
 {
-    out.push_str("store i64 ")?;
-    push_operand(out, value)?;
-    out.push_str(", ")?;
-    push_address(out, address)
+    push_pieces(
+        out,
+        &[
+            Piece::Text("store i64 "),
+            Piece::Value(value),
+            Piece::Text(", "),
+            Piece::Pointer(address),
+        ],
+    )
 }
 
 fn push_store_zeros(out: &mut String, cells: u64, address: &Address) -> Result<(), AllocError>
     ensures { OnOk result (string_bytes out.new ≡ string_bytes out.old ++ store_zeros_text cells address.now) }
 {
-    out.push_str("store ")?;
-    push_array(out, cells)?;
-    out.push_str(" zeroinitializer, ")?;
-    push_address(out, address)
+    push_pieces(
+        out,
+        &[
+            Piece::Text("store ["),
+            Piece::Cells(cells),
+            Piece::Text(" x i64] zeroinitializer, "),
+            Piece::Pointer(address),
+        ],
+    )
 }
 
-fn push_atomic_add(out: &mut String, address: &Address, value: &Operand) -> Result<(), AllocError>
+fn push_atomic_add<'a>(
+    out: &mut String,
+    address: &'a Address,
+    value: &'a Operand,
+) -> Result<(), AllocError>
     ensures { OnOk result (string_bytes out.new ≡ string_bytes out.old ++ atomic_add_text address.now value.now) }
 {
-    out.push_str("atomicrmw add ")?;
-    push_address(out, address)?;
-    out.push_str(", i64 ")?;
-    push_operand(out, value)?;
-    out.push_str(" seq_cst")
-}
-
-/// `f(ARG, ..)`
-fn push_callee(out: &mut String, callee: &Name, arguments: &[Argument]) -> Result<(), AllocError>
-    ensures { OnOk result (string_bytes out.new ≡ string_bytes out.old ++ callee.now ++ codes "(" ++ arguments_text arguments.now ++ codes ")") }
-{
-    out.push_str(callee.as_str())?;
-    out.push_str("(")?;
-    push_arguments(out, arguments)?;
-    out.push_str(")")
+    push_pieces(
+        out,
+        &[
+            Piece::Text("atomicrmw add "),
+            Piece::Pointer(address),
+            Piece::Text(", i64 "),
+            Piece::Value(value),
+            Piece::Text(" seq_cst"),
+        ],
+    )
 }
 
 #[tactic(auto, unfolding(crate::specs::InstructionText::call_text))]
-fn push_call(
+fn push_call<'a>(
     out: &mut String,
-    register: &Name,
-    callee: &Name,
-    arguments: &[Argument],
+    register: &'a Name,
+    callee: &'a Name,
+    arguments: &'a [Argument],
 ) -> Result<(), AllocError>
     ensures { OnOk result (string_bytes out.new ≡ string_bytes out.old ++ call_text register.now callee.now arguments.now) }
 {
-    push_register(out, register)?;
-    out.push_str(" = call i64 @")?;
-    push_callee(out, callee, arguments)
+    push_pieces(
+        out,
+        &[
+            Piece::Text("%"),
+            Piece::Name(register),
+            Piece::Text(" = call i64 @"),
+            Piece::Name(callee),
+            Piece::Text("("),
+        ],
+    )?;
+    push_arguments(out, arguments)?;
+    out.push_str(")")
 }
 
 #[tactic(auto, unfolding(crate::specs::InstructionText::call_void_text))]
 fn push_call_void(out: &mut String, callee: &Name, arguments: &[Argument]) -> Result<(), AllocError>
     ensures { OnOk result (string_bytes out.new ≡ string_bytes out.old ++ call_void_text callee.now arguments.now) }
 {
-    out.push_str("call void @")?;
-    push_callee(out, callee, arguments)
+    push_pieces(
+        out,
+        &[
+            Piece::Text("call void @"),
+            Piece::Name(callee),
+            Piece::Text("("),
+        ],
+    )?;
+    push_arguments(out, arguments)?;
+    out.push_str(")")
 }
 
 fn push_start_region(out: &mut String, register: &Name) -> Result<(), AllocError>
     ensures { OnOk result (string_bytes out.new ≡ string_bytes out.old ++ start_region_text register.now) }
 {
-    push_register(out, register)?;
-    out.push_str(" = call token @llvm.syncregion.start()")
+    push_pieces(
+        out,
+        &[
+            Piece::Text("%"),
+            Piece::Name(register),
+            Piece::Text(" = call token @llvm.syncregion.start()"),
+        ],
+    )
 }
 
 /// An instruction that is neither a phi nor a terminator.
@@ -242,22 +317,28 @@ pub fn push_instruction(out: &mut String, instruction: &Instruction) -> Result<(
     }
 }
 
-fn push_entry(out: &mut String, entry: &PhiEntry) -> Result<(), AllocError>
-    ensures { OnOk result (string_bytes out.new ≡ string_bytes out.old ++ entry_text entry.now) }
+/// An entry behind what parts it from the one before.
+fn push_entry(out: &mut String, before: &'static str, entry: &PhiEntry) -> Result<(), AllocError>
+    ensures { OnOk result (string_bytes out.new ≡ string_bytes out.old ++ before.now ++ entry_text entry.now) }
 {
-    out.push_str("[ ")?;
-    push_operand(out, &entry.value)?;
-    out.push_str(", ")?;
-    push_register(out, &entry.predecessor)?;
-    out.push_str(" ]")
+    push_pieces(
+        out,
+        &[
+            Piece::Text(before),
+            Piece::Text("[ "),
+            Piece::Value(&entry.value),
+            Piece::Text(", %"),
+            Piece::Name(&entry.predecessor),
+            Piece::Text(" ]"),
+        ],
+    )
 }
 
 fn push_more_entries(out: &mut String, entries: &[PhiEntry]) -> Result<(), AllocError>
     ensures { OnOk result (string_bytes out.new ≡ string_bytes out.old ++ flat_map (behind_comma entry_text) entries.now) }
 {
     for entry in entries {
-        out.push_str(", ")?;
-        push_entry(out, entry)?;
+        push_entry(out, ", ", entry)?;
     }
     Ok(())
 }
@@ -268,7 +349,7 @@ fn push_entries(out: &mut String, entries: &[PhiEntry]) -> Result<(), AllocError
     match entries {
         [] => Ok(()),
         [first, rest @ ..] => {
-            push_entry(out, first)?;
+            push_entry(out, "", first)?;
             push_more_entries(out, rest)
         }
     }
@@ -277,9 +358,15 @@ fn push_entries(out: &mut String, entries: &[PhiEntry]) -> Result<(), AllocError
 pub fn push_phi(out: &mut String, phi: &Phi) -> Result<(), AllocError>
     ensures { OnOk result (string_bytes out.new ≡ string_bytes out.old ++ phi_text phi.now) }
 {
-    push_register(out, &phi.register)?;
-    out.push_str(" = phi ")?;
-    out.push_str(width_word(phi.width))?;
-    out.push_str(" ")?;
+    push_pieces(
+        out,
+        &[
+            Piece::Text("%"),
+            Piece::Name(&phi.register),
+            Piece::Text(" = phi "),
+            Piece::Width(phi.width),
+            Piece::Text(" "),
+        ],
+    )?;
     push_entries(out, phi.entries.as_slice())
 }

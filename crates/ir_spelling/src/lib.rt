@@ -5,6 +5,7 @@
 mod instruction_text;
 mod lines;
 mod note_lines;
+mod pieces;
 mod spelling;
 mod terminator_text;
 

@@ -1,15 +1,15 @@
 //! Lines of globals, heads of functions and steps of blocks.
 
-ghost use Rattle.std.specs.Prelude.{◌≡◌, ◌++◌, OnOk, string_bytes, codes, flat_map};
-ghost use Rattle.ir_spelling.specs.Spelling.{parameters_text};
+ghost use Rattle.std.specs.Prelude.{◌≡◌, ◌++◌, OnOk, string_bytes, flat_map};
 ghost use Rattle.ir_spelling.specs.LineText.{phi_line, step_lines, ending_lines, define_line, global_line};
 
 use crate::instruction_text::{push_instruction, push_phi};
 use crate::note_lines::push_inequalities;
-use crate::spelling::{push_array, push_parameters, result_word};
+use crate::pieces::{Piece, push_pieces};
+use crate::spelling::{push_parameters, result_word};
 use crate::terminator_text::push_terminator;
 use std::alloc::AllocError;
-use syntax::{Ending, Function, Global, Parameter, Phi, Step};
+use syntax::{Ending, Function, Global, Phi, Step};
 
 fn push_phi_line(out: &mut String, phi: &Phi) -> Result<(), AllocError>
     ensures { OnOk result (string_bytes out.new ≡ string_bytes out.old ++ phi_line phi.now) }
@@ -61,34 +61,38 @@ pub fn push_ending(out: &mut String, ending: &Option<Ending>) -> Result<(), Allo
     }
 }
 
-/// `(PARAM, ..) {`
-fn push_parameter_list(out: &mut String, parameters: &[Parameter]) -> Result<(), AllocError>
-    ensures { OnOk result (string_bytes out.new ≡ string_bytes out.old ++ codes "(" ++ parameters_text parameters.now ++ codes ") {\n") }
-{
-    out.push_str("(")?;
-    push_parameters(out, parameters)?;
-    out.push_str(") {\n")
-}
-
 #[tactic(auto, unfolding(crate::specs::LineText::define_line))]
 pub fn push_define(out: &mut String, function: &Function) -> Result<(), AllocError>
     ensures { OnOk result (string_bytes out.new ≡ string_bytes out.old ++ define_line function.now) }
 {
-    out.push_str("define ")?;
-    out.push_str(result_word(function.result_type))?;
-    out.push_str(" @")?;
-    out.push_str(function.name.as_str())?;
-    push_parameter_list(out, function.parameters.as_slice())
+    let result = result_word(function.result_type);
+    push_pieces(
+        out,
+        &[
+            Piece::Text("define "),
+            Piece::Text(result),
+            Piece::Text(" @"),
+            Piece::Name(&function.name),
+            Piece::Text("("),
+        ],
+    )?;
+    push_parameters(out, function.parameters.as_slice())?;
+    out.push_str(") {\n")
 }
 
 fn push_global(out: &mut String, global: &Global) -> Result<(), AllocError>
     ensures { OnOk result (string_bytes out.new ≡ string_bytes out.old ++ global_line global.now) }
 {
-    out.push_str("@")?;
-    out.push_str(global.name.as_str())?;
-    out.push_str(" = global ")?;
-    push_array(out, global.cells)?;
-    out.push_str(" zeroinitializer\n")
+    push_pieces(
+        out,
+        &[
+            Piece::Text("@"),
+            Piece::Name(&global.name),
+            Piece::Text(" = global ["),
+            Piece::Cells(global.cells),
+            Piece::Text(" x i64] zeroinitializer\n"),
+        ],
+    )
 }
 
 pub fn push_globals(out: &mut String, globals: &[Global]) -> Result<(), AllocError>

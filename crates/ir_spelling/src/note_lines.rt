@@ -1,14 +1,14 @@
 //! Lines of annotations, those of one kind together.
 
 ghost use Rattle.std.specs.Prelude.{◌≡◌, ◌++◌, OnOk, string_bytes, flat_map};
-ghost use Rattle.ir_spelling.specs.LineText.{note_line, inequality_line, zone_line, measure_line, budget_line, pending_line, left_line, foot_line};
+ghost use Rattle.ir_spelling.specs.LineText.{note_line, inequality_line, zone_line, pending_line, left_line, foot_line};
+ghost use Rattle.ir_spelling.specs.Pieces.{piece_text};
 ghost use Rattle.ir_spelling.specs.LineText.{function_notes_lines};
 
-use ir_annotation::{
-    push_budget, push_foot, push_inequality, push_left, push_measure, push_pending, push_zone,
-};
+use crate::pieces::{Piece, push_pieces};
+use ir_annotation::push_inequality;
 use std::alloc::AllocError;
-use syntax::{Budget, FunctionNotes, Inequality, Left, Measure, Pending, Zone};
+use syntax::{FunctionNotes, Inequality, Left, Pending, Zone};
 
 fn push_inequality_line(
     out: &mut String,
@@ -22,52 +22,17 @@ fn push_inequality_line(
     out.push_str("\n")
 }
 
-fn push_zone_line(out: &mut String, zone: &Zone) -> Result<(), AllocError>
-    ensures { OnOk result (string_bytes out.new ≡ string_bytes out.old ++ zone_line zone.now) }
+/// A line of one annotation.
+fn push_note(out: &mut String, note: &Piece<'_>) -> Result<(), AllocError>
+    ensures { OnOk result (string_bytes out.new ≡ string_bytes out.old ++ note_line (piece_text note.now)) }
 {
-    out.push_str("  ;! ")?;
-    push_zone(out, zone)?;
-    out.push_str("\n")
-}
-
-fn push_measure_line(out: &mut String, measure: &Measure) -> Result<(), AllocError>
-    ensures { OnOk result (string_bytes out.new ≡ string_bytes out.old ++ measure_line measure.now) }
-{
-    out.push_str("  ;! ")?;
-    push_measure(out, measure)?;
-    out.push_str("\n")
-}
-
-fn push_budget_line(out: &mut String, budget: &Budget) -> Result<(), AllocError>
-    ensures { OnOk result (string_bytes out.new ≡ string_bytes out.old ++ budget_line budget.now) }
-{
-    out.push_str("  ;! ")?;
-    push_budget(out, budget)?;
-    out.push_str("\n")
-}
-
-fn push_pending_line(out: &mut String, pending: &Pending) -> Result<(), AllocError>
-    ensures { OnOk result (string_bytes out.new ≡ string_bytes out.old ++ pending_line pending.now) }
-{
-    out.push_str("  ;! ")?;
-    push_pending(out, pending)?;
-    out.push_str("\n")
+    push_pieces(out, &[Piece::Text("  ;! "), *note, Piece::Text("\n")])
 }
 
 pub fn push_left_line(out: &mut String, left: &Left) -> Result<(), AllocError>
     ensures { OnOk result (string_bytes out.new ≡ string_bytes out.old ++ left_line left.now) }
 {
-    out.push_str("  ;! ")?;
-    push_left(out, left)?;
-    out.push_str("\n")
-}
-
-fn push_foot_line(out: &mut String, foot: &Zone) -> Result<(), AllocError>
-    ensures { OnOk result (string_bytes out.new ≡ string_bytes out.old ++ foot_line foot.now) }
-{
-    out.push_str("  ;! ")?;
-    push_foot(out, foot)?;
-    out.push_str("\n")
+    push_note(out, &Piece::Left(left))
 }
 
 pub fn push_inequalities(
@@ -87,7 +52,7 @@ fn push_zones(out: &mut String, zones: &[Zone]) -> Result<(), AllocError>
     ensures { OnOk result (string_bytes out.new ≡ string_bytes out.old ++ flat_map zone_line zones.now) }
 {
     for zone in zones {
-        push_zone_line(out, zone)?;
+        push_note(out, &Piece::Zone(zone))?;
     }
     Ok(())
 }
@@ -96,7 +61,7 @@ pub fn push_all_pending(out: &mut String, all: &[Pending]) -> Result<(), AllocEr
     ensures { OnOk result (string_bytes out.new ≡ string_bytes out.old ++ flat_map pending_line all.now) }
 {
     for pending in all {
-        push_pending_line(out, pending)?;
+        push_note(out, &Piece::Pending(pending))?;
     }
     Ok(())
 }
@@ -105,7 +70,7 @@ pub fn push_feet(out: &mut String, feet: &[Zone]) -> Result<(), AllocError>
     ensures { OnOk result (string_bytes out.new ≡ string_bytes out.old ++ flat_map foot_line feet.now) }
 {
     for foot in feet {
-        push_foot_line(out, foot)?;
+        push_note(out, &Piece::Foot(foot))?;
     }
     Ok(())
 }
@@ -127,6 +92,6 @@ pub fn push_function_notes(out: &mut String, notes: &FunctionNotes) -> Result<()
     push_inequalities(out, "requires", notes.requirements.as_slice())?;
     push_inequalities(out, "ensures", notes.guarantees.as_slice())?;
     push_function_zones(out, notes)?;
-    push_measure_line(out, &notes.measure)?;
-    push_budget_line(out, &notes.budget)
+    push_note(out, &Piece::Measure(&notes.measure))?;
+    push_note(out, &Piece::Budget(&notes.budget))
 }

@@ -1,23 +1,14 @@
 //! How values, types and the words of operations are spelled.
 
-ghost use Rattle.std.specs.Prelude.{◌≡◌, ◌++◌, ◌*◌, OnOk, string_bytes, codes, flat_map};
-ghost use Rattle.ir_instruction.specs.Spelling.{width_word, result_word, predicate_word};
-ghost use Rattle.ir_spelling.specs.Spelling.{operator_text, operand_text, address_text, array_text, label_text, pointer_parameter_text, parameter_text};
+ghost use Rattle.std.specs.Prelude.{◌≡◌, ◌++◌, OnOk, string_bytes, flat_map};
+ghost use Rattle.ir_instruction.specs.Spelling.{result_word, predicate_word};
+ghost use Rattle.ir_spelling.specs.Spelling.{operator_text, pointer_parameter_text, parameter_text};
 ghost use Rattle.ir_spelling.specs.Spelling.{parameters_text, argument_text, arguments_text, behind_comma};
 
-use itoa::Buffer;
+use crate::pieces::{Piece, push_pieces};
 use lists::Name;
 use std::alloc::AllocError;
-use syntax::{Address, Argument, BinaryOperator, Operand, Parameter, Predicate, ResultType, Width};
-
-pub fn width_word(width: Width) -> &'static str
-    ensures { result.now ≡ width_word width }
-{
-    match width {
-        Width::Bits64 => "i64",
-        Width::Bits32 => "i32",
-    }
-}
+use syntax::{Argument, BinaryOperator, Parameter, Predicate, ResultType};
 
 pub fn result_word(result_type: ResultType) -> &'static str
     ensures { result.now ≡ result_word result_type }
@@ -68,97 +59,41 @@ pub fn predicate_word(predicate: Predicate) -> &'static str
     }
 }
 
-pub fn push_register(out: &mut String, name: &Name) -> Result<(), AllocError>
-    ensures { OnOk result (string_bytes out.new ≡ string_bytes out.old ++ codes "%" ++ name.now) }
-{
-    out.push_str("%")?;
-    out.push_str(name.as_str())
-}
-
-pub fn push_label(out: &mut String, name: &Name) -> Result<(), AllocError>
-    ensures { OnOk result (string_bytes out.new ≡ string_bytes out.old ++ label_text name.now) }
-{
-    out.push_str("label %")?;
-    out.push_str(name.as_str())
-}
-
-/// `, label %l`
-pub fn push_target(out: &mut String, name: &Name) -> Result<(), AllocError>
-    ensures { OnOk result (string_bytes out.new ≡ string_bytes out.old ++ codes ", " ++ label_text name.now) }
-{
-    out.push_str(", ")?;
-    push_label(out, name)
-}
-
-pub fn push_operand(out: &mut String, operand: &Operand) -> Result<(), AllocError>
-    ensures { OnOk result (string_bytes out.new ≡ string_bytes out.old ++ operand_text operand.now) }
-{
-    match operand {
-        Operand::Number(number) => out.push_str(Buffer::new().format(*number)),
-        Operand::Register(name) => push_register(out, name),
-    }
-}
-
-/// `T V`
-pub fn push_typed(out: &mut String, width: Width, value: &Operand) -> Result<(), AllocError>
-    ensures { OnOk result (string_bytes out.new ≡ string_bytes out.old ++ width_word width ++ codes " " ++ operand_text value.now) }
-{
-    out.push_str(width_word(width))?;
-    out.push_str(" ")?;
-    push_operand(out, value)
-}
-
-/// `ptr P`
-pub fn push_address(out: &mut String, address: &Address) -> Result<(), AllocError>
-    ensures { OnOk result (string_bytes out.new ≡ string_bytes out.old ++ address_text address.now) }
-{
-    match address {
-        Address::Register(name) => {
-            out.push_str("ptr %")?;
-            out.push_str(name.as_str())
-        }
-        Address::Global(name) => {
-            out.push_str("ptr @")?;
-            out.push_str(name.as_str())
-        }
-    }
-}
-
-/// `[N x i64]`
-pub fn push_array(out: &mut String, cells: u64) -> Result<(), AllocError>
-    ensures { OnOk result (string_bytes out.new ≡ string_bytes out.old ++ array_text cells) }
-{
-    out.push_str("[")?;
-    out.push_str(Buffer::new().format(cells))?;
-    out.push_str(" x i64]")
-}
-
-/// A cell has eight bytes.
-fn bytes_of(cells: u64) -> u128
-    ensures { result ≡ cells * 8 }
-{
-    u128::from(cells) * 8
-}
-
 #[tactic(auto, unfolding(crate::specs::Spelling::pointer_parameter_text))]
-fn push_pointer_parameter(out: &mut String, name: &Name, cells: u64) -> Result<(), AllocError>
-    ensures { OnOk result (string_bytes out.new ≡ string_bytes out.old ++ pointer_parameter_text name.now cells) }
+fn push_pointer_parameter(
+    out: &mut String,
+    before: &'static str,
+    name: &Name,
+    cells: u64,
+) -> Result<(), AllocError>
+    ensures { OnOk result (string_bytes out.new ≡ string_bytes out.old ++ before.now ++ pointer_parameter_text name.now cells) }
 {
-    out.push_str("ptr noalias dereferenceable(")?;
-    out.push_str(Buffer::new().format(bytes_of(cells)))?;
-    out.push_str(") %")?;
-    out.push_str(name.as_str())
+    push_pieces(
+        out,
+        &[
+            Piece::Text(before),
+            Piece::Text("ptr noalias dereferenceable("),
+            Piece::BytesOf(cells),
+            Piece::Text(") %"),
+            Piece::Name(name),
+        ],
+    )
 }
 
-fn push_parameter(out: &mut String, parameter: &Parameter) -> Result<(), AllocError>
-    ensures { OnOk result (string_bytes out.new ≡ string_bytes out.old ++ parameter_text parameter.now) }
+/// A parameter behind what parts it from the one before.
+fn push_parameter(
+    out: &mut String,
+    before: &'static str,
+    parameter: &Parameter,
+) -> Result<(), AllocError>
+    ensures { OnOk result (string_bytes out.new ≡ string_bytes out.old ++ before.now ++ parameter_text parameter.now) }
 {
     match parameter {
-        Parameter::Number { name } => {
-            out.push_str("i64 %")?;
-            out.push_str(name.as_str())
-        }
-        Parameter::Pointer { name, cells } => push_pointer_parameter(out, name, *cells),
+        Parameter::Number { name } => push_pieces(
+            out,
+            &[Piece::Text(before), Piece::Text("i64 %"), Piece::Name(name)],
+        ),
+        Parameter::Pointer { name, cells } => push_pointer_parameter(out, before, name, *cells),
     }
 }
 
@@ -166,8 +101,7 @@ fn push_more_parameters(out: &mut String, parameters: &[Parameter]) -> Result<()
     ensures { OnOk result (string_bytes out.new ≡ string_bytes out.old ++ flat_map (behind_comma parameter_text) parameters.now) }
 {
     for parameter in parameters {
-        out.push_str(", ")?;
-        push_parameter(out, parameter)?;
+        push_parameter(out, ", ", parameter)?;
     }
     Ok(())
 }
@@ -178,21 +112,33 @@ pub fn push_parameters(out: &mut String, parameters: &[Parameter]) -> Result<(),
     match parameters {
         [] => Ok(()),
         [first, rest @ ..] => {
-            push_parameter(out, first)?;
+            push_parameter(out, "", first)?;
             push_more_parameters(out, rest)
         }
     }
 }
 
-fn push_argument(out: &mut String, argument: &Argument) -> Result<(), AllocError>
-    ensures { OnOk result (string_bytes out.new ≡ string_bytes out.old ++ argument_text argument.now) }
+/// An argument behind what parts it from the one before.
+fn push_argument(
+    out: &mut String,
+    before: &'static str,
+    argument: &Argument,
+) -> Result<(), AllocError>
+    ensures { OnOk result (string_bytes out.new ≡ string_bytes out.old ++ before.now ++ argument_text argument.now) }
 {
     match argument {
-        Argument::Number(operand) => {
-            out.push_str("i64 ")?;
-            push_operand(out, operand)
-        }
-        Argument::Pointer(address) => push_address(out, address),
+        Argument::Number(operand) => push_pieces(
+            out,
+            &[
+                Piece::Text(before),
+                Piece::Text("i64 "),
+                Piece::Value(operand),
+            ],
+        ),
+        Argument::Pointer(address) => push_pieces(
+            out,
+            &[Piece::Text(before), Piece::Pointer(address)],
+        ),
     }
 }
 
@@ -200,8 +146,7 @@ fn push_more_arguments(out: &mut String, arguments: &[Argument]) -> Result<(), A
     ensures { OnOk result (string_bytes out.new ≡ string_bytes out.old ++ flat_map (behind_comma argument_text) arguments.now) }
 {
     for argument in arguments {
-        out.push_str(", ")?;
-        push_argument(out, argument)?;
+        push_argument(out, ", ", argument)?;
     }
     Ok(())
 }
@@ -212,7 +157,7 @@ pub fn push_arguments(out: &mut String, arguments: &[Argument]) -> Result<(), Al
     match arguments {
         [] => Ok(()),
         [first, rest @ ..] => {
-            push_argument(out, first)?;
+            push_argument(out, "", first)?;
             push_more_arguments(out, rest)
         }
     }

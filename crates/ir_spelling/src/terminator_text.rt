@@ -1,13 +1,10 @@
 //! How terminators are spelled.
 
-ghost use Rattle.std.specs.Prelude.{◌≡◌, ◌++◌, OnOk, string_bytes, codes, flat_map};
+ghost use Rattle.std.specs.Prelude.{◌≡◌, ◌++◌, OnOk, string_bytes, flat_map};
 ghost use Rattle.ir_spelling.specs.TerminatorText.{jump_text, branch_text, case_text, switch_text, return_text, detach_text, reattach_text, sync_text};
 ghost use Rattle.ir_spelling.specs.TerminatorText.{terminator_text};
 
-use crate::spelling::{
-    push_label, push_operand, push_register, push_target, push_typed, width_word,
-};
-use itoa::Buffer;
+use crate::pieces::{Piece, push_pieces};
 use lists::Name;
 use std::alloc::AllocError;
 use syntax::{Case, Operand, Terminator, Width};
@@ -15,33 +12,45 @@ use syntax::{Case, Operand, Terminator, Width};
 fn push_jump(out: &mut String, target: &Name) -> Result<(), AllocError>
     ensures { OnOk result (string_bytes out.new ≡ string_bytes out.old ++ jump_text target.now) }
 {
-    out.push_str("br ")?;
-    push_label(out, target)
+    push_pieces(out, &[Piece::Text("br label %"), Piece::Name(target)])
 }
 
-fn push_branch(
+fn push_branch<'a>(
     out: &mut String,
-    condition: &Name,
-    when_true: &Name,
-    when_false: &Name,
+    condition: &'a Name,
+    when_true: &'a Name,
+    when_false: &'a Name,
 ) -> Result<(), AllocError>
     ensures { OnOk result (string_bytes out.new ≡ string_bytes out.old ++ branch_text condition.now when_true.now when_false.now) }
 {
-    out.push_str("br i1 ")?;
-    push_register(out, condition)?;
-    push_target(out, when_true)?;
-    push_target(out, when_false)
+    push_pieces(
+        out,
+        &[
+            Piece::Text("br i1 %"),
+            Piece::Name(condition),
+            Piece::Text(", label %"),
+            Piece::Name(when_true),
+            Piece::Text(", label %"),
+            Piece::Name(when_false),
+        ],
+    )
 }
 
 /// ` T N, label %l`
 fn push_case(out: &mut String, width: Width, case: &Case) -> Result<(), AllocError>
     ensures { OnOk result (string_bytes out.new ≡ string_bytes out.old ++ case_text width case.now) }
 {
-    out.push_str(" ")?;
-    out.push_str(width_word(width))?;
-    out.push_str(" ")?;
-    out.push_str(Buffer::new().format(case.number))?;
-    push_target(out, &case.target)
+    push_pieces(
+        out,
+        &[
+            Piece::Text(" "),
+            Piece::Width(width),
+            Piece::Text(" "),
+            Piece::Number(case.number),
+            Piece::Text(", label %"),
+            Piece::Name(&case.target),
+        ],
+    )
 }
 
 fn push_cases(out: &mut String, width: Width, cases: &[Case]) -> Result<(), AllocError>
@@ -53,28 +62,29 @@ fn push_cases(out: &mut String, width: Width, cases: &[Case]) -> Result<(), Allo
     Ok(())
 }
 
-/// ` [ T N, label %l .. ]`
-fn push_case_list(out: &mut String, width: Width, cases: &[Case]) -> Result<(), AllocError>
-    ensures { OnOk result (string_bytes out.new ≡ string_bytes out.old ++ codes " [" ++ flat_map (case_text width) cases.now ++ codes " ]") }
-{
-    out.push_str(" [")?;
-    push_cases(out, width, cases)?;
-    out.push_str(" ]")
-}
-
-fn push_switch(
+fn push_switch<'a>(
     out: &mut String,
     width: Width,
-    value: &Operand,
-    default: &Name,
-    cases: &[Case],
+    value: &'a Operand,
+    default: &'a Name,
+    cases: &'a [Case],
 ) -> Result<(), AllocError>
     ensures { OnOk result (string_bytes out.new ≡ string_bytes out.old ++ switch_text width value.now default.now cases.now) }
 {
-    out.push_str("switch ")?;
-    push_typed(out, width, value)?;
-    push_target(out, default)?;
-    push_case_list(out, width, cases)
+    push_pieces(
+        out,
+        &[
+            Piece::Text("switch "),
+            Piece::Width(width),
+            Piece::Text(" "),
+            Piece::Value(value),
+            Piece::Text(", label %"),
+            Piece::Name(default),
+            Piece::Text(" ["),
+        ],
+    )?;
+    push_cases(out, width, cases)?;
+    out.push_str(" ]")
 }
 
 fn push_return(out: &mut String, value: &Option<Operand>) -> Result<(), AllocError>
@@ -82,42 +92,62 @@ fn push_return(out: &mut String, value: &Option<Operand>) -> Result<(), AllocErr
 {
     match value {
         None => out.push_str("ret void"),
-        Some(value) => {
-            out.push_str("ret i64 ")?;
-            push_operand(out, value)
-        }
+        Some(value) => push_pieces(out, &[Piece::Text("ret i64 "), Piece::Value(value)]),
     }
 }
 
-fn push_detach(
+fn push_detach<'a>(
     out: &mut String,
-    region: &Name,
-    body: &Name,
-    continuation: &Name,
+    region: &'a Name,
+    body: &'a Name,
+    continuation: &'a Name,
 ) -> Result<(), AllocError>
     ensures { OnOk result (string_bytes out.new ≡ string_bytes out.old ++ detach_text region.now body.now continuation.now) }
 {
-    out.push_str("detach within ")?;
-    push_register(out, region)?;
-    push_target(out, body)?;
-    push_target(out, continuation)
+    push_pieces(
+        out,
+        &[
+            Piece::Text("detach within %"),
+            Piece::Name(region),
+            Piece::Text(", label %"),
+            Piece::Name(body),
+            Piece::Text(", label %"),
+            Piece::Name(continuation),
+        ],
+    )
 }
 
 #[tactic(auto, unfolding(crate::specs::TerminatorText::reattach_text))]
-fn push_reattach(out: &mut String, region: &Name, continuation: &Name) -> Result<(), AllocError>
+fn push_reattach<'a>(
+    out: &mut String,
+    region: &'a Name,
+    continuation: &'a Name,
+) -> Result<(), AllocError>
     ensures { OnOk result (string_bytes out.new ≡ string_bytes out.old ++ reattach_text region.now continuation.now) }
 {
-    out.push_str("reattach within ")?;
-    push_register(out, region)?;
-    push_target(out, continuation)
+    push_pieces(
+        out,
+        &[
+            Piece::Text("reattach within %"),
+            Piece::Name(region),
+            Piece::Text(", label %"),
+            Piece::Name(continuation),
+        ],
+    )
 }
 
-fn push_sync(out: &mut String, region: &Name, target: &Name) -> Result<(), AllocError>
+fn push_sync<'a>(out: &mut String, region: &'a Name, target: &'a Name) -> Result<(), AllocError>
     ensures { OnOk result (string_bytes out.new ≡ string_bytes out.old ++ sync_text region.now target.now) }
 {
-    out.push_str("sync within ")?;
-    push_register(out, region)?;
-    push_target(out, target)
+    push_pieces(
+        out,
+        &[
+            Piece::Text("sync within %"),
+            Piece::Name(region),
+            Piece::Text(", label %"),
+            Piece::Name(target),
+        ],
+    )
 }
 
 pub fn push_terminator(out: &mut String, terminator: &Terminator) -> Result<(), AllocError>

@@ -1,6 +1,9 @@
 //! The version of the calls.
 
-ghost use Rattle.std.specs.Prelude.{◌≡◌};
+ghost use Rattle.std.specs.Prelude.{◌≡◌, codes};
+ghost use Rattle.kernel_calls.specs.Words.{StandsIn};
+
+use kernel_calls::put;
 
 /// A call that is changed or taken away raises it.
 const MAJOR: u32 = 3;
@@ -9,7 +12,7 @@ const MAJOR: u32 = 3;
 const MINOR: u32 = 0;
 
 /// Both as text.
-pub const VERSION: &[u8] = b"3.0";
+const VERSION: &[u8] = b"3.0";
 
 /// The major number of the version of the header that the library meets: hosts of a shared library compare it with their own.
 #[unsafe(no_mangle)]
@@ -25,4 +28,12 @@ pub extern "C" fn tapirvm_minor() -> u32
     ensures { result ≡ 0 }
 {
     MINOR
+}
+
+/// Writes the library's version.
+#[unsafe(no_mangle)]
+pub extern "C" fn tapirvm_version(out: &mut [u8], needed: &mut usize)
+    ensures { StandsIn out.old (codes "3.0") out.new needed.new }
+{
+    put(VERSION, out, needed);
 }

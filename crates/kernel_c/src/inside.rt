@@ -1,104 +1,45 @@
 //! The calls by which a host looks up what a module that is kept has.
 
-ghost use Rattle.std.specs.Prelude.{◌≡◌, ◌≢◌, ◌≤◌, IfNone, IfSome, List, None, Some, length, slice_get, ℕ};
-ghost use Rattle.program.specs.declared.function.Global.{Global};
-ghost use Rattle.kernel_c.specs.Held.{OfHeld, closed};
-ghost use Rattle.kernel_c.specs.Inside.{HasFrames, IsFoundStatus, IsGlobalAt, IsGlobalOf, LacksName, arguments_in, globals_in};
-ghost use Rattle.kernel_c.specs.Told.{cells_of, done};
-ghost use Rattle.kernel_c.specs.Words.{StandsIn, not_found};
+ghost use Rattle.std.specs.Prelude.{◌≡◌, ◌≢◌, ◌≤◌, List, None, Some, length, ℕ};
+ghost use Rattle.kernel_calls.specs.Held.{OfHeld, closed};
+ghost use Rattle.kernel_calls.specs.Inside.{HasFrames, HasNoBound, IsArgumentRange, IsFoundStatus, IsGlobalAt, IsGlobalOf, LacksName, arguments_in, globals_in};
+ghost use Rattle.kernel_calls.specs.Told.{done};
+ghost use Rattle.kernel_calls.specs.Words.{StandsIn, not_found};
 
-use crate::cells::{cells_of, most_frame_cells};
-use crate::handle::Handle;
-use crate::told::{CLOSED, DONE, NOT_FOUND};
-use crate::words::put;
-use program::{Global, Program};
-use std::alloc::Global as Heap;
-use std::mem::replace;
+use kernel_calls::{Handle, Range};
+use std::alloc::Global;
 
 /// How many globals the module has.
-#[tactic(auto, using(crate::proofs::Holding::globals_held, crate::proofs::Holding::globals_none))]
 #[unsafe(no_mangle)]
-pub extern "C" fn tapirvm_globals(alloc: Heap, handle: &mut Handle) -> usize
+pub extern "C" fn tapirvm_globals(alloc: Global, handle: &mut Handle) -> usize
     ensures count { result ≡ globals_in handle.old.kernel.program }
     ensures same { handle.new.kernel.program ≡ handle.old.kernel.program }
 {
-    let Some(block) = replace(handle, Handle::closed(alloc)).taken() else {
-        return 0;
-    };
-    let count = block.as_ref().verified().program().globals.len();
-    *handle = Handle::kept(block);
-    count
-}
-
-/// How many arguments `main` takes.
-#[tactic(auto, using(crate::proofs::Holding::parameters_held, crate::proofs::Holding::parameters_none))]
-fn count_arguments(program: &Program) -> usize
-    ensures { result ≡ arguments_in (Some program.now) }
-{
-    match program.functions.as_slice().get(program.main.0) {
-        Some(main) => main.parameters.len(),
-        None => 0,
-    }
+    kernel_calls::count_globals(alloc, handle)
 }
 
 /// How many arguments the module's `main` takes.
-#[tactic(auto, using(crate::proofs::Holding::arguments_held, crate::proofs::Holding::arguments_none))]
 #[unsafe(no_mangle)]
-pub extern "C" fn tapirvm_arguments(alloc: Heap, handle: &mut Handle) -> usize
+pub extern "C" fn tapirvm_arguments(alloc: Global, handle: &mut Handle) -> usize
     ensures count { result ≡ arguments_in handle.old.kernel.program }
     ensures same { handle.new.kernel.program ≡ handle.old.kernel.program }
 {
-    let Some(block) = replace(handle, Handle::closed(alloc)).taken() else {
-        return 0;
-    };
-    let count = count_arguments(block.as_ref().verified().program());
-    *handle = Handle::kept(block);
-    count
+    kernel_calls::count_arguments(alloc, handle)
 }
 
 /// How many cells of its own a frame of the module has at most.
-#[tactic(auto, using(crate::proofs::Holding::frames_held, crate::proofs::Holding::frames_none))]
 #[unsafe(no_mangle)]
-pub extern "C" fn tapirvm_frame_cells(alloc: Heap, handle: &mut Handle) -> u64
+pub extern "C" fn tapirvm_frame_cells(alloc: Global, handle: &mut Handle) -> u64
     ensures most { HasFrames handle.old.kernel.program result }
     ensures same { handle.new.kernel.program ≡ handle.old.kernel.program }
 {
-    let Some(block) = replace(handle, Handle::closed(alloc)).taken() else {
-        return 0;
-    };
-    let most = most_frame_cells(block.as_ref().verified().program());
-    *handle = Handle::kept(block);
-    most
-}
-
-/// The number of the global of this name.
-fn find(globals: &[Global], name: &[u8]) -> Option<usize>
-    ensures found { IfSome result (λ k. (g : Global) × (slice_get globals.now k ≡ Some g) × (g.name ≡ name.now)) }
-    ensures none { IfNone result (LacksName globals.now name.now) }
-{
-    for number in 0..globals.len() {
-        if globals[number].name.as_bytes() == name {
-            return Some(number);
-        }
-    }
-    None
-}
-
-/// Finds a global by its name: where its cells begin, and how many it has.
-#[tactic(auto, using(crate::proofs::Finding::global_found, std::proofs::lemmas::Option::slice_get_within))]
-fn global_of(program: &Program, name: &[u8]) -> Option<(u64, u64)>
-    ensures found { IfSome result (λ place. IsGlobalOf program.now name.now place.0 place.1) }
-    ensures none { IfNone result (LacksName program.now.globals name.now) }
-{
-    let globals = program.globals.as_slice();
-    let number = find(globals, name)?;
-    Some((cells_of(&globals[..number]), globals[number].cells))
+    kernel_calls::count_frame_cells(alloc, handle)
 }
 
 /// Finds a global of the module by its name.
 #[unsafe(no_mangle)]
 pub extern "C" fn tapirvm_global(
-    alloc: Heap,
+    alloc: Global,
     handle: &mut Handle,
     name: &[u8],
     first: &mut u64,
@@ -111,42 +52,13 @@ pub extern "C" fn tapirvm_global(
     ensures same { handle.new.kernel.program ≡ handle.old.kernel.program }
     ensures statuses { IsFoundStatus result }
 {
-    *first = 0;
-    *cells = 0;
-    let Some(block) = replace(handle, Handle::closed(alloc)).taken() else {
-        return CLOSED;
-    };
-    let status = match global_of(block.as_ref().verified().program(), name) {
-        Some((begins, count)) => {
-            *first = begins;
-            *cells = count;
-            DONE
-        }
-        None => NOT_FOUND,
-    };
-    *handle = Handle::kept(block);
-    status
-}
-
-/// Tells the global of this number: its name is written as far as there is room.
-#[tactic(auto, using(crate::proofs::Finding::global_at))]
-fn told(program: &Program, number: usize, out: &mut [u8], needed: &mut usize) -> Option<(u64, u64)>
-    ensures found { IfSome result (λ place. (name : List ℕ) × IsGlobalAt program.now number name place.0 place.1 × StandsIn out.old name out.new needed.new) }
-    ensures none { IfNone result ((length program.now.globals ≤ number) × (out.new ≡ out.old) × (needed.new ≡ needed.old)) }
-{
-    let globals = program.globals.as_slice();
-    if globals.len() <= number {
-        return None;
-    }
-    let global = &globals[number];
-    put(global.name.as_bytes(), out, needed);
-    Some((cells_of(&globals[..number]), global.cells))
+    kernel_calls::find_global(alloc, handle, name, first, cells)
 }
 
 /// Tells the global of this number, from 0.
 #[unsafe(no_mangle)]
 pub extern "C" fn tapirvm_global_at(
-    alloc: Heap,
+    alloc: Global,
     handle: &mut Handle,
     number: usize,
     out: &mut [u8],
@@ -162,20 +74,25 @@ pub extern "C" fn tapirvm_global_at(
     ensures same { handle.new.kernel.program ≡ handle.old.kernel.program }
     ensures statuses { IsFoundStatus result }
 {
-    *first = 0;
-    *cells = 0;
-    *needed = 0;
-    let Some(block) = replace(handle, Handle::closed(alloc)).taken() else {
-        return CLOSED;
-    };
-    let status = match told(block.as_ref().verified().program(), number, out, needed) {
-        Some((begins, count)) => {
-            *first = begins;
-            *cells = count;
-            DONE
-        }
-        None => NOT_FOUND,
-    };
-    *handle = Handle::kept(block);
-    status
+    kernel_calls::tell_global(alloc, handle, number, out, needed, first, cells)
+}
+
+/// Tells the argument of this number, from 0: its name is written as far as there is room.
+#[unsafe(no_mangle)]
+pub extern "C" fn tapirvm_argument_at(
+    alloc: Global,
+    handle: &mut Handle,
+    number: usize,
+    out: &mut [u8],
+    needed: &mut usize,
+    range: &mut Range,
+) -> u32
+    ensures found { result ≡ done → OfHeld handle.old.kernel.program (λ p. IsArgumentRange p number range.new) }
+    ensures lacks { result ≡ not_found → OfHeld handle.old.kernel.program (λ p. arguments_in (Some p) ≤ number) }
+    ensures none { result ≢ done → HasNoBound range.new × (needed.new ≡ 0) × (out.new ≡ out.old) }
+    ensures closed { result ≡ closed → handle.old.kernel.program ≡ None }
+    ensures same { handle.new.kernel.program ≡ handle.old.kernel.program }
+    ensures statuses { IsFoundStatus result }
+{
+    kernel_calls::tell_argument(alloc, handle, number, out, needed, range)
 }

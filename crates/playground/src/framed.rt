@@ -1,7 +1,7 @@
 //! An answer as bytes: a line of decimal numbers, which are the status and the size of each part, and then the parts. They are what is printed, what stands on
 //! standard error, and of each file that is to be written its name and what it holds.
 
-use cli_requests::Beside;
+use cli_words::Beside;
 use lists::TextBuffer;
 use std::alloc::{AllocError, Global};
 

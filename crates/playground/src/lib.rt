@@ -4,6 +4,7 @@
 //! There are no threads, files or clocks here. So a run on workers is drawn by a seed, `--load` finds no file, and `--speedup` and `--time` do nothing.
 #![tactic(auto)]
 
+mod answers;
 mod framed;
 mod play;
 mod seed;

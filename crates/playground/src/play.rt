@@ -1,8 +1,9 @@
 //! One call of the program.
 
+use crate::answers::answer;
 use crate::framed::framed;
 use crate::seed::Seed;
-use cli_requests::{Beside, Question, Request, Status, WordsFault, answer, fail, words};
+use cli_words::{Beside, Question, Request, Status, WordsFault, fail, words};
 use std::alloc::{AllocError, Global};
 use std::hash::RandomState;
 

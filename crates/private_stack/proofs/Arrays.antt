@@ -31,9 +31,9 @@ use Rattle.frame_engine.proofs.Texts.{behind_step, frame_stands, located}
 use Rattle.private_stack.proofs.frame_strand.Walking.{one_way}
 use Rattle.private_stack.specs.frame_strand.declared.cells.Change.TheVariants.{Stored}
 use Rattle.private_stack.specs.frame_strand.declared.cells.Stop.{Stop}
-use Rattle.private_stack.specs.pages.Logs.{IsWider, Log, is_open}
-use Rattle.private_stack.specs.pages.Tables.{Table, log_of}
-use Rattle.private_stack.proofs.pages.Opening.{has_place_open, open_changed}
+use Rattle.stack_pages.specs.Logs.{IsWider, Log, is_open}
+use Rattle.stack_pages.specs.Tables.{Table, log_of}
+use Rattle.stack_pages.proofs.Opening.{has_place_open, open_changed}
 use Rattle.serial_stack.specs.Shown.{item_here}
 use Rattle.laws_strands.specs.stacks.Deep.{DeepStrand, IsDeep}
 use Rattle.laws_strands.specs.stacks.Footprint.{Footprint}

@@ -8,8 +8,8 @@ use Rattle.frame_engine.specs.Activation.{FrameFits}
 use Rattle.frame_engine.specs.Shows.{Layout}
 use Rattle.private_stack.specs.frame_strand.Standing.{IsCopy}
 use Rattle.private_stack.proofs.frame_strand.Beginning.{copied_again, copy_back, copy_fits, copy_shows}
-use Rattle.private_stack.specs.pages.Logs.{empty_log}
-use Rattle.private_stack.specs.pages.Tables.{log_of}
+use Rattle.stack_pages.specs.Logs.{empty_log}
+use Rattle.stack_pages.specs.Tables.{log_of}
 use Rattle.laws_strands.specs.stacks.Footprint.{untouched}
 use Rattle.laws_strands.specs.stacks.Deep.{is_loaded, loaded}
 use Rattle.private_stack.specs.Along.{GoesDeep, IsUnderWay, MayBegin}

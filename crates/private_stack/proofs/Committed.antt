@@ -11,8 +11,8 @@ use Rattle.frame_engine.specs.Flat.{cell_in, is_cell}
 use Rattle.frame_engine.specs.Shows.{Layout, IsIn, ShowsCells, address}
 use Rattle.private_stack.specs.frame_strand.declared.cells.Change.{Change}
 use Rattle.private_stack.specs.frame_strand.declared.cells.Change.TheVariants.{Stored, Delta}
-use Rattle.private_stack.specs.pages.Known.{put_change}
-use Rattle.private_stack.specs.pages.Tables.{log_of}
+use Rattle.stack_pages.specs.Known.{put_change}
+use Rattle.stack_pages.specs.Tables.{log_of}
 use Rattle.private_stack.specs.Kept.{ShowsKept, write_of}
 use Rattle.private_stack.specs.Layouts.{IsOutside, Segment}
 use Rattle.private_stack.specs.OwnCells.{segment_of}

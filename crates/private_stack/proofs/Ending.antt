@@ -45,7 +45,7 @@ use Rattle.private_stack.proofs.Bordering.{function_of, left_shown, on_same, som
 use Rattle.private_stack.proofs.Coming.{AreClear, IsClear, all_clear, new_to_come}
 use Rattle.private_stack.proofs.Unmet.{begins_same, met_same, none_met}
 use Rattle.private_stack.proofs.Over.{apart_of, lies_over, owns_none, room_below, same_end, same_layout}
-use Rattle.private_stack.specs.pages.Tables.{log_of}
+use Rattle.stack_pages.specs.Tables.{log_of}
 use Rattle.private_stack.proofs.Logged.{off_logged}
 use Rattle.private_stack.proofs.Owned.{same_own}
 

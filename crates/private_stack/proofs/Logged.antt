@@ -15,10 +15,10 @@ use Rattle.private_stack.specs.frame_strand.Buffers.{raised_change}
 use Rattle.private_stack.specs.frame_strand.Showing.{AreApart}
 use Rattle.private_stack.specs.frame_strand.declared.cells.Change.{Change}
 use Rattle.private_stack.specs.frame_strand.declared.cells.Change.TheVariants.{Stored, Delta}
-use Rattle.private_stack.specs.pages.Doing.{IsChanged}
-use Rattle.private_stack.specs.pages.Known.{at_address, first_of, read_after, settled_change, value_of}
-use Rattle.private_stack.specs.pages.Logs.{Log, empty_log, filled_log, loaded_log, place_of, same_page, value_at}
-use Rattle.private_stack.proofs.pages.Addresses.{address_tells}
+use Rattle.stack_pages.specs.Doing.{IsChanged}
+use Rattle.stack_pages.specs.Known.{at_address, first_of, read_after, settled_change, value_of}
+use Rattle.stack_pages.specs.Logs.{Log, empty_log, filled_log, loaded_log, place_of, same_page, value_at}
+use Rattle.stack_pages.proofs.Addresses.{address_tells}
 use Rattle.private_stack.specs.Kept.{ShowsLog, write_of}
 
 at_here : {X : Type 0} (a : ℤ) (n : X) (g : ℤ → X) → at_address a n g a ≡ n

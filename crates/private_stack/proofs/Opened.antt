@@ -1,7 +1,7 @@
 -- What can be stored to can be so while more pages are put in use.
-use Rattle.std.proofs.Common.{◌≡◌, ◌∙◌, ℤ, None, ap, sym}
-use Rattle.private_stack.specs.pages.Logs.{IsWider}
-use Rattle.private_stack.specs.pages.Tables.{log_of}
+use Rattle.std.proofs.Common.{◌≡◌, ◌∙◌, ℤ, ap, sym}
+use Rattle.stack_pages.specs.Logs.{IsWider}
+use Rattle.stack_pages.specs.Tables.{log_of}
 use Rattle.private_stack.specs.OwnCells.{CanStore, own_cell}
 use Rattle.private_stack.specs.declared.cells.PileCells.{PileCells}
 

@@ -1,5 +1,5 @@
 -- The layout of a pile lies over that of the machine: cells of its own frames are in the segment, all others where they were.
-use Rattle.std.proofs.Common.{◌≡◌, ℕ, zero, suc, ◌+◌, ◌-◌, ◌≤◌, ◌<◌, List, [], ◌∷◌, length, refl, ap, sym, ◌∙◌, subst, arith, false, inl, inr, ◌⊎◌, ℤ, pos, ◌+ℤ◌}
+use Rattle.std.proofs.Common.{◌≡◌, ℕ, suc, ◌+◌, ◌-◌, ◌≤◌, ◌<◌, List, [], ◌∷◌, length, refl, ap, sym, ◌∙◌, subst, arith, false, inl, inr, ◌⊎◌, ℤ, pos, ◌+ℤ◌}
 use Rattle.std.specs.Prelude.{sum}
 use Rattle.std.specs.Int.{w64}
 use Rattle.std.proofs.lemmas.Int.{ints, int_wrap_fits}
@@ -13,7 +13,7 @@ use Rattle.semantics.specs.Frames.{Role, Body, Child}
 use Rattle.semantics.proofs.Places.{same_path_is}
 use Rattle.program.specs.declared.function.Program.{Program}
 use Rattle.frame_engine.specs.Shows.{IsIn, Layout, address}
-use Rattle.serial_stack.specs.Layouts.{alloca_sizes, for_body, size_in, start_in, with_allocas}
+use Rattle.serial_stack.specs.Layouts.{alloca_sizes, for_body, start_in, with_allocas}
 use Rattle.serial_stack.proofs.Owners.{IsApart, address_apart, in_apart}
 use Rattle.serial_stack.proofs.Rows.{IsOlder, IsOwn, cell_is, either_one, same_place, same_pos, start_below}
 use Rattle.private_stack.specs.frame_strand.Showing.{AreApart}

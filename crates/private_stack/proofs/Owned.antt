@@ -15,8 +15,8 @@ use Rattle.frame_engine.specs.Shows.{Layout, IsIn, address}
 use Rattle.private_stack.specs.frame_strand.Buffers.{raised_change}
 use Rattle.private_stack.specs.frame_strand.Showing.{AreApart}
 use Rattle.private_stack.specs.frame_strand.declared.cells.Change.TheVariants.{Stored}
-use Rattle.private_stack.specs.pages.Doing.{IsChanged}
-use Rattle.private_stack.specs.pages.Tables.{Table, log_of}
+use Rattle.stack_pages.specs.Doing.{IsChanged}
+use Rattle.stack_pages.specs.Tables.{Table, log_of}
 use Rattle.private_stack.specs.Kept.{HoldsOwn, ShowsKept, ShowsLog}
 use Rattle.private_stack.specs.OwnCells.{IsOwnPut, own_cell}
 use Rattle.private_stack.specs.declared.cells.PileCells.{PileCells}

@@ -8,9 +8,9 @@ use Rattle.semantics.specs.Arithmetic.{cell_sum}
 use Rattle.frame_engine.specs.Access.{Access}
 use Rattle.frame_engine.specs.Flat.{cell_in}
 use Rattle.private_stack.specs.frame_strand.declared.cells.Stop.{Stop}
-use Rattle.private_stack.specs.pages.Accessing.{CellHolds, TableDoes, TableRefuses}
-use Rattle.private_stack.specs.pages.Logs.{value_at}
-use Rattle.private_stack.specs.pages.Tables.{Table, log_of}
+use Rattle.stack_pages.specs.Accessing.{CellHolds, TableDoes, TableRefuses}
+use Rattle.stack_pages.specs.Logs.{value_at}
+use Rattle.stack_pages.specs.Tables.{Table, log_of}
 use Rattle.private_stack.specs.OwnCells.{CellsDo, CellsRefuse, DoBy, IsOwnPut, OwnDo, RefuseBy, address_of, may_be, own_cell, own_or}
 use Rattle.private_stack.specs.declared.cells.PileCells.{PileCells}
 

@@ -4,8 +4,8 @@ use Rattle.std.specs.Prelude.{slice_get, slice_set}
 use Rattle.std.proofs.lemmas.Bool.Decides.{eqb_tells}
 use Rattle.frame.proofs.Changes.{get_other, get_set}
 use Rattle.frame_engine.specs.Flat.{cell_in}
-use Rattle.private_stack.specs.pages.Committing.{IsPutInto}
-use Rattle.private_stack.specs.pages.Tables.{log_of}
+use Rattle.stack_pages.specs.Committing.{IsPutInto}
+use Rattle.stack_pages.specs.Tables.{log_of}
 use Rattle.private_stack.specs.OwnCells.{own_cell}
 use Rattle.private_stack.specs.Putting.{ArePutInto, IsCopiedTo, IsOwnBelow}
 use Rattle.private_stack.specs.declared.cells.PileCells.{PileCells}

@@ -10,9 +10,9 @@ use Rattle.frame_engine.specs.Shows.{Layout, IsIn, ShowsCells, address}
 use Rattle.private_stack.specs.frame_strand.Alone.{IsFull}
 use Rattle.private_stack.specs.frame_strand.declared.cells.Change.{Change}
 use Rattle.private_stack.specs.frame_strand.declared.cells.Change.TheVariants.{Stored, Delta}
-use Rattle.private_stack.specs.pages.Known.{value_of}
-use Rattle.private_stack.specs.pages.Logs.{Log, value_at}
-use Rattle.private_stack.specs.pages.Tables.{log_of}
+use Rattle.stack_pages.specs.Known.{value_of}
+use Rattle.stack_pages.specs.Logs.{Log, value_at}
+use Rattle.stack_pages.specs.Tables.{log_of}
 use Rattle.private_stack.specs.Kept.{ShowsKept, write_of}
 use Rattle.private_stack.specs.Layouts.{IsOutside}
 use Rattle.private_stack.specs.OwnCells.{any_cell, held_at, may_be, own_cell, own_or, segment_of}

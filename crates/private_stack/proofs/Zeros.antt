@@ -2,20 +2,19 @@
 use Rattle.std.proofs.Common.{◌≡◌, ℕ, zero, suc, ◌≤◌, ◌<◌, refl, ap, sym, ◌∙◌, subst, arith, cond, eqb, eqb-true, ◌&&◌, ℤ, pos, Bool, true, false, Option, Some, None, inl, inr}
 use Rattle.std.specs.Prelude.{IsSome, nat_lt}
 use Rattle.std.proofs.lemmas.Bool.Decides.{eqb_tells, leb_tells}
-use Rattle.std.proofs.lemmas.Bool.{and_parts, false_from_ne_true, ltb-true, lt-ltb}
-use Rattle.semantics.specs.Cells.{Cell, Memory, Object, same_cell, same_object}
+use Rattle.std.proofs.lemmas.Bool.{false_from_ne_true, ltb-true, lt-ltb}
+use Rattle.semantics.specs.Cells.{Cell, Memory, Object, same_object}
 use Rattle.semantics.specs.Effect.{stores, stores_zeros}
 use Rattle.semantics.specs.Frames.{Frame, first_cell}
-use Rattle.semantics.proofs.SameCells.{same_object_is}
 use Rattle.laws_strands.specs.stacks.Footprint.{Footprint, Write, stored, with_writes}
 use Rattle.laws_strands.proofs.stacks.Keeping.{Agrees}
 use Rattle.frame_engine.specs.Access.{Stores}
 use Rattle.frame_engine.specs.Accesses.{Zeroed}
 use Rattle.frame_engine.specs.Shows.{Layout, IsIn, address}
 use Rattle.frame_engine.proofs.Values.{cells_on}
-use Rattle.private_stack.specs.pages.Accessing.{TableDoes}
-use Rattle.private_stack.specs.pages.Logs.{Log}
-use Rattle.private_stack.specs.pages.Tables.{Table, log_of}
+use Rattle.stack_pages.specs.Accessing.{TableDoes}
+use Rattle.stack_pages.specs.Logs.{Log}
+use Rattle.stack_pages.specs.Tables.{Table, log_of}
 use Rattle.private_stack.specs.Kept.{ShowsKept}
 use Rattle.private_stack.specs.Layouts.{IsOutside, Segment}
 use Rattle.private_stack.specs.OwnCells.{CellsDo, DoBy, own_cell, segment_of}

@@ -7,8 +7,8 @@ use Rattle.laws_strands.specs.stacks.Footprint as deep
 use Rattle.frame_engine.specs.Shows.{Layout, IsIn, address}
 use Rattle.private_stack.specs.frame_strand.declared.cells.Change.{Change}
 use Rattle.private_stack.specs.frame_strand.declared.cells.Change.TheVariants.{Stored, Delta}
-use Rattle.private_stack.specs.pages.Logs.{Log}
-use Rattle.private_stack.specs.pages.Tables.{log_of}
+use Rattle.stack_pages.specs.Logs.{Log}
+use Rattle.stack_pages.specs.Tables.{log_of}
 use Rattle.private_stack.specs.OwnCells.{own_cell}
 use Rattle.private_stack.specs.declared.cells.PileCells.{PileCells}
 

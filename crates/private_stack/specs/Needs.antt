@@ -12,8 +12,8 @@ use Rattle.frame_engine.specs.declared.turning.Pause.TheVariants as engine_pause
 use Rattle.frame_engine.specs.Shows.{IsIn, Layout, address}
 use Rattle.private_stack.specs.frame_strand.declared.cells.Stop.{Stop}
 use Rattle.private_stack.specs.frame_strand.declared.cells.Stop.TheVariants as stop
-use Rattle.private_stack.specs.pages.Logs.{has_place, value_at}
-use Rattle.private_stack.specs.pages.Tables.{log_of}
+use Rattle.stack_pages.specs.Logs.{has_place, value_at}
+use Rattle.stack_pages.specs.Tables.{log_of}
 use Rattle.laws_strands.specs.Strands as strands
 use Rattle.laws_strands.specs.Strands.{access_of}
 use Rattle.laws_strands.specs.stacks.Deep.{DeepStrand, IsDeep}

@@ -4,9 +4,9 @@ use Rattle.semantics.specs.Arithmetic.{cell_sum}
 use Rattle.frame_engine.specs.Access.{Access, Loads, Stores, Adds}
 use Rattle.frame_engine.specs.Flat.{cell_in}
 use Rattle.private_stack.specs.frame_strand.declared.cells.Stop.{Stop}
-use Rattle.private_stack.specs.pages.Accessing.{TableDoes, TableRefuses}
-use Rattle.private_stack.specs.pages.Logs.{is_open, value_at}
-use Rattle.private_stack.specs.pages.Tables.{log_of}
+use Rattle.stack_pages.specs.Accessing.{TableDoes, TableRefuses}
+use Rattle.stack_pages.specs.Logs.{is_open, value_at}
+use Rattle.stack_pages.specs.Tables.{log_of}
 use Rattle.private_stack.specs.Layouts.{Segment}
 use Rattle.private_stack.specs.declared.cells.PileCells.{PileCells}
 

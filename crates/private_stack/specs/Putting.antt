@@ -1,8 +1,8 @@
 -- How a pile's cells are compared with a row of the board's cells, and put into one.
 use Rattle.std.specs.Prelude.{◌≡◌, ◌≢◌, ◌≤◌, ◌<◌, ◌+◌, ℕ, ℤ, pos, List, length, slice_get}
 use Rattle.frame_engine.specs.Flat.{cell_in}
-use Rattle.private_stack.specs.pages.Known.{put_change}
-use Rattle.private_stack.specs.pages.Tables.{log_of}
+use Rattle.stack_pages.specs.Known.{put_change}
+use Rattle.stack_pages.specs.Tables.{log_of}
 use Rattle.private_stack.specs.OwnCells.{own_cell}
 use Rattle.private_stack.specs.declared.cells.PileCells.{PileCells}
 

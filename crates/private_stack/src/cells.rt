@@ -1,16 +1,17 @@
 ghost use Rattle.std.specs.Prelude.{◌≡◌, ◌≢◌, ◌<◌, ◌≤◌, ◌+◌, ◌+ℤ◌, ◌↔◌, ℕ, ℤ, pos, false, true, min, IfNone, IfSome, IsTrue, None, Some, length, slice_get};
 ghost use Rattle.frame_engine.specs.Flat.{is_cell};
-ghost use Rattle.private_stack.specs.pages.Committing.{Agrees};
-ghost use Rattle.private_stack.specs.pages.Logs.{IsWider, has_place};
-ghost use Rattle.private_stack.specs.pages.Tables.{log_of};
+ghost use Rattle.stack_pages.specs.Committing.{Agrees};
+ghost use Rattle.stack_pages.specs.Logs.{IsWider, has_place};
+ghost use Rattle.stack_pages.specs.Tables.{log_of};
 ghost use Rattle.semantics.specs.Arithmetic.{wrapped};
 ghost use Rattle.syntax.specs.declared.operator.Width.TheVariants.{Bits64};
 ghost use Rattle.private_stack.specs.Boards.{LacksPages};
 ghost use Rattle.private_stack.specs.OwnCells.{CanStore, CellsDo, CellsRefuse, any_cell, may_be, own_cell};
 ghost use Rattle.private_stack.specs.Putting.{ArePutInto, IsCopiedTo};
 
-use crate::pages::{PageLog, Stop};
 use frame_engine::{Cells, behind, sum};
+use frame_strand::Stop;
+use stack_pages::PageLog;
 
 /// The cells of a pile: those of its own frames' allocas, which are a segment of addresses, and what it read and wrote of others.
 #[derive(Drop)]

@@ -3,16 +3,17 @@ ghost use Rattle.program.specs.declared.function.Program.{Program};
 ghost use Rattle.frame_engine.specs.declared.activation.Places.{Places};
 ghost use Rattle.frame_engine.specs.Activation.{FrameFits};
 ghost use Rattle.private_stack.specs.frame_strand.Standing.{IsCopy};
-ghost use Rattle.private_stack.specs.pages.Logs.{empty_log, pages_of};
-ghost use Rattle.private_stack.specs.pages.Tables.{log_of};
+ghost use Rattle.stack_pages.specs.Logs.{empty_log, pages_of};
+ghost use Rattle.stack_pages.specs.Tables.{log_of};
 ghost use Rattle.private_stack.specs.Along.{IsUnderWay, MayBegin};
 ghost use Rattle.private_stack.specs.OwnCells.{segment_of};
 
 use crate::cells::PileCells;
-use crate::pages::{PageLog, copy_frame};
 use crate::pile::{Base, Pile};
 use frame_engine::{Frame, blank};
+use frame_strand::copy_frame;
 use lists::OutOfMemory;
+use stack_pages::PageLog;
 use std::alloc::Global;
 
 /// Room for so many phi moves.

@@ -1,8 +1,9 @@
-ghost use Rattle.std.specs.Prelude.{◌≡◌, ◌++◌, ◌∷◌, [], List, true, false, negsuc, ◌*ℤ◌, map, IfOk, OnOk};
+ghost use Rattle.std.specs.Prelude.{◌≡◌, ◌++◌, ◌∷◌, [], List, true, false, pos, negsuc, ◌*ℤ◌, map, IfOk, OnOk};
 ghost use Rattle.program.specs.syntax.declared.operator.Predicate.TheVariants.{Equal};
 ghost use Rattle.ranges_owed.specs.cfg.declared.structure.Way.TheVariants.{Branch};
 ghost use Rattle.program.specs.declared.instruction.Case.{Case};
 ghost use Rattle.ranges.specs.Sums.{facts_of};
+ghost use Rattle.ranges_owed.specs.Sums.{one, two};
 ghost use Rattle.ranges.specs.Edges.{compare_of, compared, at_least, above, compare_sums, branch_sums, case_sums, edge_to, edges_out};
 ghost use Rattle.linear.specs.declared.form.Fact.{Fact};
 ghost use Rattle.ranges.specs.Edges.{edge_facts, all_edge_facts, with_known, all_with_known};
@@ -79,22 +80,32 @@ fn compared(register: RegisterId, steps: &[Step]) -> Option<Comparison>
     None
 }
 
+/// One sum: that constant + x - y is at least 0.
+fn difference(
+    alloc: Global,
+    constant: i128,
+    x: Operand,
+    y: Operand,
+) -> Result<Seq<Sum>, OutOfMemory>
+    ensures { IfOk result (λ sums. sums ≡ two constant (pos 1) x (negsuc 0) y ∷ []) }
+{
+    let mut sums = Seq::new(alloc);
+    sums.push(Sum::two(alloc, constant, 1, x, -1, y)?)?;
+    Ok(sums)
+}
+
 /// x >= y
 fn at_least(alloc: Global, x: Operand, y: Operand) -> Result<Seq<Sum>, OutOfMemory>
     ensures { IfOk result (λ sums. sums ≡ at_least x y ∷ []) }
 {
-    let mut sums = Seq::new(alloc);
-    sums.push(Sum::two(alloc, 0, 1, x, -1, y)?)?;
-    Ok(sums)
+    difference(alloc, 0, x, y)
 }
 
 /// x > y
 fn above(alloc: Global, x: Operand, y: Operand) -> Result<Seq<Sum>, OutOfMemory>
     ensures { IfOk result (λ sums. sums ≡ above x y ∷ []) }
 {
-    let mut sums = Seq::new(alloc);
-    sums.push(Sum::two(alloc, -1, 1, x, -1, y)?)?;
-    Ok(sums)
+    difference(alloc, -1, x, y)
 }
 
 /// x = y
@@ -156,14 +167,28 @@ pub fn opposite_number(number: i64) -> i128
     -1 * i128::from(number)
 }
 
+/// Adds that constant + a * x is at least 0.
+fn push_one(
+    alloc: Global,
+    sums: &mut Seq<Sum>,
+    constant: i128,
+    a: i64,
+    x: Operand,
+) -> Result<(), OutOfMemory>
+    ensures { OnOk result (sums.new ≡ sums.old ++ one constant a x ∷ []) }
+{
+    sums.push(Sum::one(alloc, constant, a, x)?)?;
+    Ok(())
+}
+
 /// The register of a switch equals the case's number.
 fn case_sums(alloc: Global, value: Operand, number: i64) -> Result<Seq<Sum>, OutOfMemory>
     ensures { IfOk result (λ sums. sums ≡ case_sums value number) }
 {
     let mut sums = Seq::new(alloc);
     if let Operand::Register(_) = value {
-        sums.push(Sum::one(alloc, opposite_number(number), 1, value)?)?;
-        sums.push(Sum::one(alloc, i128::from(number), -1, value)?)?;
+        push_one(alloc, &mut sums, opposite_number(number), 1, value)?;
+        push_one(alloc, &mut sums, i128::from(number), -1, value)?;
     }
     Ok(sums)
 }
@@ -187,6 +212,24 @@ fn push_cases(
     Ok(())
 }
 
+/// Adds the edge of a branch that is taken where its compare holds, or where it does not.
+fn push_side(
+    alloc: Global,
+    edges: &mut Vec<EdgeSums>,
+    comparison: Option<Comparison>,
+    holds: bool,
+    to: BlockId,
+) -> Result<(), OutOfMemory>
+    ensures { OnOk result (edges.new.items ≡ edges.old.items ++ edge_to to Branch (branch_sums comparison holds) ∷ []) }
+{
+    edges.push(EdgeSums {
+        to,
+        way: Way::Branch,
+        sums: branch_sums(alloc, comparison, holds)?,
+    })?;
+    Ok(())
+}
+
 /// The two edges of a branch.
 fn push_branch(
     alloc: Global,
@@ -199,17 +242,8 @@ fn push_branch(
         ≡ edges.old.items
         ++ (edge_to when_true Branch (branch_sums comparison true) ∷ (edge_to when_false Branch (branch_sums comparison false) ∷ []))) }
 {
-    edges.push(EdgeSums {
-        to: when_true,
-        way: Way::Branch,
-        sums: branch_sums(alloc, comparison, true)?,
-    })?;
-    edges.push(EdgeSums {
-        to: when_false,
-        way: Way::Branch,
-        sums: branch_sums(alloc, comparison, false)?,
-    })?;
-    Ok(())
+    push_side(alloc, edges, comparison, true, when_true)?;
+    push_side(alloc, edges, comparison, false, when_false)
 }
 
 /// Adds an edge whose being taken says nothing.
@@ -229,6 +263,49 @@ fn push_plain(
     Ok(())
 }
 
+/// Adds the edges of a terminator in its order, each with what its being taken makes known.
+fn push_edges(
+    alloc: Global,
+    edges: &mut Vec<EdgeSums>,
+    steps: &[Step],
+    terminator: &Terminator,
+) -> Result<(), OutOfMemory>
+    ensures { OnOk result (edges.new.items ≡ edges.old.items ++ edges_out steps.now terminator.now) }
+{
+    match terminator {
+        Terminator::Jump { target } => push_plain(alloc, edges, *target, Way::Branch),
+        Terminator::Branch {
+            condition,
+            when_true,
+            when_false,
+        } => {
+            let comparison = compared(*condition, steps);
+            push_branch(alloc, edges, comparison, *when_true, *when_false)
+        }
+        Terminator::Switch {
+            value,
+            default,
+            cases,
+            ..
+        } => {
+            push_plain(alloc, edges, *default, Way::Branch)?;
+            push_cases(alloc, edges, *value, cases.as_slice())
+        }
+        Terminator::Detach {
+            body,
+            continuation,
+            ..
+        } => {
+            push_plain(alloc, edges, *body, Way::Detached)?;
+            push_plain(alloc, edges, *continuation, Way::Continued)
+        }
+        Terminator::Sync { region, target } => {
+            push_plain(alloc, edges, *target, Way::Synced(*region))
+        }
+        Terminator::Return { .. } | Terminator::Reattach { .. } => Ok(()),
+    }
+}
+
 /// The edges of a terminator in its order, each with what its being taken makes known.
 pub fn edges_out(
     alloc: Global,
@@ -238,38 +315,7 @@ pub fn edges_out(
     ensures { IfOk result (λ edges. edges.items ≡ edges_out steps.now terminator.now) }
 {
     let mut edges = Vec::new(alloc);
-    match terminator {
-        Terminator::Jump { target } => push_plain(alloc, &mut edges, *target, Way::Branch)?,
-        Terminator::Branch {
-            condition,
-            when_true,
-            when_false,
-        } => {
-            let comparison = compared(*condition, steps);
-            push_branch(alloc, &mut edges, comparison, *when_true, *when_false)?;
-        }
-        Terminator::Switch {
-            value,
-            default,
-            cases,
-            ..
-        } => {
-            push_plain(alloc, &mut edges, *default, Way::Branch)?;
-            push_cases(alloc, &mut edges, *value, cases.as_slice())?;
-        }
-        Terminator::Detach {
-            body,
-            continuation,
-            ..
-        } => {
-            push_plain(alloc, &mut edges, *body, Way::Detached)?;
-            push_plain(alloc, &mut edges, *continuation, Way::Continued)?;
-        }
-        Terminator::Sync { region, target } => {
-            push_plain(alloc, &mut edges, *target, Way::Synced(*region))?;
-        }
-        Terminator::Return { .. } | Terminator::Reattach { .. } => {}
-    }
+    push_edges(alloc, &mut edges, steps, terminator)?;
     Ok(edges)
 }
 

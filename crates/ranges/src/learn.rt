@@ -1,7 +1,7 @@
 ghost use Rattle.std.specs.Prelude.{◌≡◌, ◌++◌, ◌∷◌, [], pos, ◌≤ℤ◌, ◌-ℤ◌, true, IfOk, OnOk, slice_get};
 ghost use Rattle.program.specs.syntax.declared.operator.BinaryOperator.TheVariants.{AddNoWrap, SubtractNoWrap};
 ghost use Rattle.ranges_owed.specs.Scales.{is_scale, scale_of};
-ghost use Rattle.ranges_owed.specs.Sums.{one, three};
+ghost use Rattle.ranges_owed.specs.Sums.{one, two, three};
 ghost use Rattle.ranges.specs.Sums.{shows};
 ghost use Rattle.ranges.specs.Learned.{is_multiple, is_product, is_between, is_quotient, is_divisor, quotient_by};
 ghost use Rattle.ranges.specs.Learned.{remainder_by, masked_by, binary_sums, is_32_bits, conversion_sums, call_sums, learned};
@@ -15,6 +15,22 @@ use program::{Argument, BinaryOperator, Conversion, Function, FunctionId, Instru
 use ranges_owed::{Sum, call_moves, differences_of, opposite, scale_of};
 use std::alloc::Global;
 
+/// Adds that constant + a * x + b * y is at least 0.
+fn push_two(
+    alloc: Global,
+    sums: &mut Vec<Sum>,
+    constant: i128,
+    a: i64,
+    x: Operand,
+    b: i64,
+    y: Operand,
+) -> Result<(), Unanswered>
+    ensures { OnOk result (sums.new.items ≡ sums.old.items ++ two constant a x b y ∷ []) }
+{
+    sums.push(Sum::two(alloc, constant, a, x, b, y)?)?;
+    Ok(())
+}
+
 /// d = factor * x
 fn push_multiple(
     alloc: Global,
@@ -26,8 +42,8 @@ fn push_multiple(
     requires { is_scale factor ≡ true }
     ensures { OnOk result (sums.new.items ≡ sums.old.items ++ is_multiple d factor x) }
 {
-    sums.push(Sum::two(alloc, 0, 1, d, opposite(factor), x)?)?;
-    sums.push(Sum::two(alloc, 0, -1, d, factor, x)?)?;
+    push_two(alloc, sums, 0, 1, d, opposite(factor), x)?;
+    push_two(alloc, sums, 0, -1, d, factor, x)?;
     Ok(())
 }
 
@@ -162,9 +178,9 @@ fn push_quotient(
     requires positive { pos 1 ≤ℤ divisor }
     ensures { OnOk result (sums.new.items ≡ sums.old.items ++ is_quotient d x divisor) }
 {
-    sums.push(Sum::two(alloc, 0, 1, x, opposite(divisor), d)?)?;
-    sums.push(Sum::two(alloc, one_less(divisor), divisor, d, -1, x)?)?;
-    sums.push(Sum::one(alloc, 0, 1, d)?)?;
+    push_two(alloc, sums, 0, 1, x, opposite(divisor), d)?;
+    push_two(alloc, sums, one_less(divisor), divisor, d, -1, x)?;
+    push_one(alloc, sums, 0, 1, d)?;
     Ok(())
 }
 

@@ -17,7 +17,7 @@ use Rattle.laws_strands.specs.stacks.Law.{IsOrderly}
 use Rattle.laws_strands.proofs.stacks.Reached.{orderly}
 use Rattle.schedule_commit.specs.private_stack.Along.{IsLent, LoadsGoDeep, MayBegin}
 use Rattle.schedule_commit.specs.private_stack.Layouts.{Segment}
-use Rattle.laws_workers.proofs.strands.Loading.{loads_go_deep}
+use Rattle.schedule_core.proofs.laws_workers.strands.Loading.{loads_go_deep}
 use Rattle.schedule_core.specs.declared.stage.Stage.{Stage}
 use Rattle.schedule_core.specs.Replaying.{IsMachine, state_after}
 use Rattle.schedule_core.specs.Stages.{IsState, program_of, workers_of}

@@ -6,11 +6,11 @@ use Rattle.std.proofs.lemmas.List.{length-append}
 use Rattle.program.specs.declared.function.Global.{Global}
 use Rattle.program.specs.declared.function.Program.{Program}
 use Rattle.lists.specs.declared.memory.OutOfMemory.{OutOfMemory}
-use Rattle.laws_workers.specs.laws_conditions.theorem.Schedules.{KeepsSchedule}
-use Rattle.laws_workers.specs.verifier.Accepted.{IsAccepted}
-use Rattle.laws_workers.specs.store.Requirements.{unmet_in}
-use Rattle.laws_workers.specs.store.Cells.{NamedCells, cell_at}
-use Rattle.laws_workers.specs.store.Rows.{row_of, sizes_of}
+use Rattle.serial_machine.specs.laws_conditions.theorem.Schedules.{KeepsSchedule}
+use Rattle.serial_machine.specs.verifier.Accepted.{IsAccepted}
+use Rattle.serial_machine.specs.store.Requirements.{unmet_in}
+use Rattle.serial_machine.specs.store.Cells.{NamedCells, cell_at}
+use Rattle.serial_machine.specs.store.Rows.{row_of, sizes_of}
 use Rattle.schedule_workers.specs.Follows.{AreGiven}
 use Rattle.schedule_workers.specs.Stalls.{StallsAgree, no_blocks}
 use Rattle.frame_engine.specs.Fits.{HasMoves}
@@ -18,7 +18,7 @@ use Rattle.schedule_workers.specs.Starts.{ArePlaces, Begins, IsRowOf}
 use Rattle.frame.specs.declared.event.Event.{Event}
 use Rattle.schedule_core.specs.declared.stage.Stage.{Stage}
 use Rattle.schedule_core.specs.Replaying.{IsMachine, KeepsItsSchedule, KeepsSchedules, Replays, first_state}
-use Rattle.laws_workers.specs.store.Made.{IsMadeFor}
+use Rattle.serial_machine.specs.store.Made.{IsMadeFor}
 use Rattle.schedule_core.specs.Stages.{IsState, given, program_of, workers_of}
 use Rattle.schedule_core.proofs.Grounds.{FromStart, laws}
 

@@ -13,7 +13,7 @@ use Rattle.semantics.specs.Events as running
 use Rattle.semantics.specs.Events.{Machine, start}
 use Rattle.semantics.specs.Replay.{or_unchanged, replay}
 use Rattle.program.specs.declared.function.Program.{Program}
-use Rattle.laws_workers.specs.store.Cells.{NamedCells}
+use Rattle.serial_machine.specs.store.Cells.{NamedCells}
 use Rattle.schedule_commit.specs.Absorbing.{DoesStrand, GoesAloneIn, KeepsHand, LeavesStallsBy, StandsAlone, steps_in}
 use Rattle.schedule_commit.specs.frame_strand.declared.outside.Strand.{Strand}
 use Rattle.schedule_commit.specs.laws_strands.Law.{Happen, steps_by}
@@ -26,7 +26,7 @@ use Rattle.schedule_workers.specs.Stalls.{Blocks, StallsAgree, if_enabled, last_
 use Rattle.frame_engine.specs.declared.activation.Places.{Places}
 use Rattle.frame.specs.declared.event.Event.{Event}
 use Rattle.frame.specs.declared.event.Event.TheVariants.{Step}
-use Rattle.laws_workers.proofs.strands.Law.{alone_too}
+use Rattle.schedule_core.proofs.laws_workers.strands.Law.{alone_too}
 use Rattle.schedule_core.specs.declared.stage.Stage.{Stage}
 use Rattle.schedule_core.specs.Replaying.{AreEnabled, IsMachine, LeavesAsBefore, Replays, ReplaysMore, event_of, first_state, state_after}
 use Rattle.schedule_core.specs.Stages.{GoesWell, IsReached, IsState, program_of, workers_of}

@@ -13,9 +13,9 @@ use Rattle.semantics.proofs.Starting.{start_deep, start_tree}
 use Rattle.semantics.proofs.Steps.{Does}
 use Rattle.semantics.proofs.TreeKept.{step_keeps_tree}
 use Rattle.program.specs.declared.function.Program.{Program}
-use Rattle.laws_workers.specs.laws_conditions.theorem.Schedules.{KeepsSchedule}
-use Rattle.laws_workers.proofs.laws_conditions.theorem.Theorem.{not_trapped}
-use Rattle.laws_workers.proofs.laws_schedule.safe.Replayed.{from_later, replay_good}
+use Rattle.serial_machine.specs.laws_conditions.theorem.Schedules.{KeepsSchedule}
+use Rattle.serial_machine.proofs.laws_conditions.theorem.Theorem.{not_trapped}
+use Rattle.serial_machine.proofs.laws_schedule.safe.Replayed.{from_later, replay_good}
 use Rattle.schedule_core.specs.Replaying.{StaysLow}
 
 -- ---- numbers

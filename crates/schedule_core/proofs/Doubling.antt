@@ -7,7 +7,7 @@ use Rattle.std.proofs.Math.IntN.{ℤ_set}
 use mathlib.Core.Sum.{⊎_set}
 use Rattle.frame.proofs.code.Sets.{codes_equal}
 use Rattle.semantics.specs.Events.{Machine}
-use Rattle.laws_workers.specs.store.Cells.{NamedCells}
+use Rattle.serial_machine.specs.store.Cells.{NamedCells}
 use Rattle.frame_engine.specs.declared.activation.Places.{Places}
 use Rattle.schedule_workers.specs.Copying.{IsCopy}
 use Rattle.frame_engine.specs.Fits.{HasMoves}

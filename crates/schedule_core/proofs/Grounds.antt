@@ -6,21 +6,21 @@ use Rattle.semantics.specs.Frames.{global_cells}
 use Rattle.semantics.specs.Replay.{replay}
 use Rattle.program.specs.declared.function.Global.{Global}
 use Rattle.program.specs.declared.function.Program.{Program}
-use Rattle.laws_workers.specs.verifier.Accepted.{IsAccepted}
-use Rattle.laws_workers.specs.store.Requirements.{unmet_in}
-use Rattle.laws_workers.specs.store.Cells.{NamedCells, cell_at}
-use Rattle.laws_workers.specs.store.Made.{HasGlobalCells, IsMadeFor}
-use Rattle.laws_workers.specs.store.Rows.{sizes_of}
-use Rattle.laws_workers.specs.laws_schedule.Promise.{AreTaken, HasGlobals}
-use Rattle.laws_workers.proofs.serial_machine.Arguments.{are_taken}
-use Rattle.laws_workers.proofs.serial_machine.Globals.{globals_given}
-use Rattle.laws_workers.proofs.serial_machine.laws_schedule.Promise.{accepted_programs_keep_their_promise}
-use Rattle.laws_workers.proofs.serial_machine.laws_schedule.safe.Safe.{schedules_are_safe}
-use Rattle.laws_workers.specs.Safe.{StartFits}
-use Rattle.laws_workers.proofs.Going.{runs_are_safe}
-use Rattle.laws_workers.proofs.Texts.{texts_fit, starts_fit}
-use Rattle.laws_workers.specs.strands.Promise.{StaysSafeDeep}
-use Rattle.laws_workers.proofs.strands.Law.{frames_go_deep}
+use Rattle.serial_machine.specs.verifier.Accepted.{IsAccepted}
+use Rattle.serial_machine.specs.store.Requirements.{unmet_in}
+use Rattle.serial_machine.specs.store.Cells.{NamedCells, cell_at}
+use Rattle.serial_machine.specs.store.Made.{HasGlobalCells, IsMadeFor}
+use Rattle.serial_machine.specs.store.Rows.{sizes_of}
+use Rattle.serial_machine.specs.laws_schedule.Promise.{AreTaken, HasGlobals}
+use Rattle.serial_machine.proofs.Arguments.{are_taken}
+use Rattle.serial_machine.proofs.Globals.{globals_given}
+use Rattle.serial_machine.proofs.laws_schedule.Promise.{accepted_programs_keep_their_promise}
+use Rattle.serial_machine.proofs.laws_schedule.safe.Safe.{schedules_are_safe}
+use Rattle.schedule_core.specs.laws_workers.Safe.{StartFits}
+use Rattle.schedule_core.proofs.laws_workers.Going.{runs_are_safe}
+use Rattle.schedule_core.proofs.laws_workers.Texts.{texts_fit, starts_fit}
+use Rattle.schedule_core.specs.laws_workers.strands.Promise.{StaysSafeDeep}
+use Rattle.schedule_core.proofs.laws_workers.strands.Law.{frames_go_deep}
 use Rattle.schedule_workers.specs.Going.{RunsSafely, TextFits}
 use Rattle.frame_engine.specs.Fits.{HasMoves}
 use Rattle.schedule_workers.specs.Starts.{ArePlaces}

@@ -13,7 +13,7 @@ use Rattle.program.specs.declared.identifier.BlockId.{BlockId}
 use Rattle.frame.specs.declared.frame.Wait.{Wait}
 use Rattle.frame.specs.declared.frame.Wait.TheVariants as wait
 use Rattle.frame.specs.declared.path.Path.{Path}
-use Rattle.laws_workers.specs.store.Cells.{NamedCells}
+use Rattle.serial_machine.specs.store.Cells.{NamedCells}
 use Rattle.frame_engine.specs.declared.activation.Frame.{Frame}
 use Rattle.schedule_workers.specs.Shown.{place_of}
 use Rattle.schedule_workers.specs.Stalls.{Blocks, StallsAgree, last_blocks, no_blocks}

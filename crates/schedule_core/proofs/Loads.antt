@@ -31,7 +31,7 @@ use Rattle.schedule_workers.specs.Layouts.{layout_of, object_at}
 use Rattle.schedule_workers.specs.Scheduling.{hand_of}
 use Rattle.schedule_workers.specs.Shown.{place_of}
 use Rattle.schedule_workers.proofs.Onward.{fits_prop, seen}
-use Rattle.laws_workers.proofs.strands.Law.{alone_too}
+use Rattle.schedule_core.proofs.laws_workers.strands.Law.{alone_too}
 use Rattle.schedule_core.specs.declared.stage.Stage.{Stage}
 use Rattle.schedule_core.specs.Replaying.{IsMachine, KeepsItsSchedule, state_after}
 use Rattle.schedule_core.specs.Stages.{program_of, workers_of}

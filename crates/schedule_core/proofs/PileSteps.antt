@@ -12,7 +12,7 @@ use Rattle.schedule_workers.specs.declared.run.Run.{Run}
 use Rattle.schedule_workers.specs.Follows.{Follows}
 use Rattle.schedule_workers.specs.Lent.{IsPartFor}
 use Rattle.schedule_workers.specs.Scheduling.{hand_of}
-use Rattle.schedule_commit.specs.private_stack.pages.Tables.{log_of}
+use Rattle.schedule_commit.specs.private_stack.stack_pages.Tables.{log_of}
 use Rattle.laws_strands.specs.stacks.Law.{absorbed}
 use Rattle.schedule_commit.specs.private_stack.Along.{IsUnderWay}
 use Rattle.schedule_commit.specs.private_stack.declared.pile.Pile.{Pile}

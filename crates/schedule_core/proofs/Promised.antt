@@ -14,7 +14,7 @@ use Rattle.semantics.specs.Events as running
 use Rattle.semantics.specs.Events.{Machine}
 use Rattle.semantics.specs.Replay.{has_ended}
 use Rattle.program.specs.declared.function.Program.{Program}
-use Rattle.laws_workers.specs.verifier.Accepted.{IsAccepted}
+use Rattle.serial_machine.specs.verifier.Accepted.{IsAccepted}
 use Rattle.cactus.specs.Frames.{Frames}
 use Rattle.schedule_workers.specs.declared.activation.Activation.{Activation}
 use Rattle.schedule_workers.specs.declared.run.Run.{Run}

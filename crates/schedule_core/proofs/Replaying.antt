@@ -4,7 +4,7 @@ use Rattle.semantics.specs.Events as running
 use Rattle.semantics.specs.Events.{Machine}
 use Rattle.semantics.specs.Replay.{or_unchanged, replay}
 use Rattle.program.specs.declared.function.Program.{Program}
-use Rattle.laws_workers.specs.store.Cells.{NamedCells}
+use Rattle.serial_machine.specs.store.Cells.{NamedCells}
 use Rattle.schedule_workers.specs.declared.run.Run.{Run}
 use Rattle.schedule_workers.specs.Events.{DoesEvent, LeavesStalls}
 use Rattle.schedule_workers.specs.Going as crew

@@ -1,10 +1,10 @@
 -- Whether a run may begin, and why it has no answer where it has none.
 use Rattle.std.specs.Prelude.{◌≡◌, ◌<◌, ◌≤◌, ℕ, List, Some, None, Result, Ok, Err, ℤ}
 use Rattle.program.specs.declared.function.Program.{Program}
-use Rattle.laws_workers.specs.store.Cells.{NamedCells}
-use Rattle.laws_workers.specs.store.Requirements.{unmet_in}
-use Rattle.laws_workers.specs.store.declared.outcome.RunFault.{RunFault}
-use Rattle.laws_workers.specs.store.declared.outcome.RunFault.TheVariants.{BadArguments, BadWorkers, OutOfMemory, Stopped}
+use Rattle.serial_machine.specs.store.Cells.{NamedCells}
+use Rattle.serial_machine.specs.store.Requirements.{unmet_in}
+use Rattle.serial_machine.specs.store.declared.outcome.RunFault.{RunFault}
+use Rattle.serial_machine.specs.store.declared.outcome.RunFault.TheVariants.{BadArguments, BadWorkers, OutOfMemory, Stopped}
 
 abbrev pub IsNumberOfWorkers : ℕ → Type 0
 IsNumberOfWorkers workers = (0 < workers) × (workers ≤ 64)

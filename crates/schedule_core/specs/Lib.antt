@@ -11,11 +11,12 @@ pub mod Piles
 pub mod Resting
 pub mod ReadyBelow
 pub mod FrameViews
+pub mod laws_workers
 -- for the crates above
-pub use Rattle.laws_workers.specs.laws_conditions as laws_conditions
-pub use Rattle.laws_workers.specs.store as store
-pub use Rattle.laws_workers.specs.laws_schedule as laws_schedule
-pub use Rattle.laws_workers.specs.verifier as verifier
+pub use Rattle.serial_machine.specs.laws_conditions as laws_conditions
+pub use Rattle.serial_machine.specs.store as store
+pub use Rattle.serial_machine.specs.laws_schedule as laws_schedule
+pub use Rattle.serial_machine.specs.verifier as verifier
 pub use Rattle.schedule_commit.specs as schedule_commit
 pub use Rattle.schedule_commit.specs.frame_strand as frame_strand
 pub use Rattle.schedule_commit.specs.private_stack as private_stack

@@ -5,7 +5,7 @@ use Rattle.program.specs.declared.function.Program.{Program}
 use Rattle.frame_engine.specs.declared.activation.Places.{Places}
 use Rattle.frame_engine.specs.Fits.{HasMoves}
 use Rattle.schedule_workers.specs.Starts.{ArePlaces}
-use Rattle.schedule_commit.specs.private_stack.pages.Tables.{log_of}
+use Rattle.schedule_commit.specs.private_stack.stack_pages.Tables.{log_of}
 use Rattle.schedule_commit.specs.private_stack.Along.{IsUnderWay}
 use Rattle.schedule_commit.specs.private_stack.declared.pile.Pile.{Pile}
 use Rattle.schedule_workers.specs.Lent.{IsPartFor}

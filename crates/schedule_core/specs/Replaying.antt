@@ -5,13 +5,13 @@ use Rattle.semantics.specs.Frames.{Frame}
 use Rattle.semantics.specs.Events as running
 use Rattle.semantics.specs.Replay.{or_unchanged, replay}
 use Rattle.semantics.specs.SerialMeaning.{Outcome, IsSerialMeaning}
-use Rattle.laws_workers.specs.laws_conditions.theorem.Schedules.{KeepsSchedule}
-use Rattle.laws_workers.specs.verifier.Accepted.{IsAccepted}
-use Rattle.laws_workers.specs.verifier.Budgets.{budget_of, IsDepthOf}
+use Rattle.serial_machine.specs.laws_conditions.theorem.Schedules.{KeepsSchedule}
+use Rattle.serial_machine.specs.verifier.Accepted.{IsAccepted}
+use Rattle.serial_machine.specs.verifier.Budgets.{budget_of, IsDepthOf}
 use Rattle.program.specs.declared.function.Program.{Program}
-use Rattle.laws_workers.specs.store.Requirements.{unmet_in}
-use Rattle.laws_workers.specs.store.Cells.{NamedCells}
-use Rattle.laws_workers.specs.store.Rows.{sizes_of}
+use Rattle.serial_machine.specs.store.Requirements.{unmet_in}
+use Rattle.serial_machine.specs.store.Cells.{NamedCells}
+use Rattle.serial_machine.specs.store.Rows.{sizes_of}
 use Rattle.schedule_workers.specs.Events.{GrowsAtStep}
 use Rattle.schedule_workers.specs.Follows.{AreGiven, KeepsUses}
 use Rattle.schedule_workers.specs.Stalls.{StallsAgree, last_blocks, no_blocks}
@@ -19,7 +19,7 @@ use Rattle.frame_engine.specs.Fits.{HasMoves}
 use Rattle.schedule_workers.specs.Starts.{ArePlaces}
 use Rattle.schedule_core.specs.Spots.{KeepsSpots}
 use Rattle.schedule_core.specs.Lines.{line_after, line_or_zero}
-use Rattle.laws_workers.specs.store.Made.{IsMadeFor}
+use Rattle.serial_machine.specs.store.Made.{IsMadeFor}
 use Rattle.schedule_core.specs.Stages.{given, program_of, workers_of, IsState}
 use Rattle.frame.specs.declared.event.Event.{Event}
 use Rattle.frame.specs.declared.event.Event.TheVariants.{Step, Steal}

@@ -5,9 +5,9 @@ use Rattle.semantics.specs.Events.{Machine, Event, start}
 use Rattle.semantics.specs.Replay.{replay}
 use Rattle.program.specs.declared.function.Global.{Global}
 use Rattle.program.specs.declared.function.Program.{Program}
-use Rattle.laws_workers.specs.store.Cells.{NamedCells, cell_at, number_of}
-use Rattle.laws_workers.specs.store.Rows.{sizes_of}
-use Rattle.laws_workers.specs.strands.Promise.{StaysSafeDeep}
+use Rattle.serial_machine.specs.store.Cells.{NamedCells, cell_at, number_of}
+use Rattle.serial_machine.specs.store.Rows.{sizes_of}
+use Rattle.schedule_core.specs.laws_workers.strands.Promise.{StaysSafeDeep}
 use Rattle.schedule_workers.specs.Going.{RunsSafely}
 use Rattle.schedule_workers.specs.Shown.{IsShown}
 use Rattle.schedule_core.specs.declared.stage.Stage.{Stage}

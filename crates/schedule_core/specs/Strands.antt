@@ -9,7 +9,7 @@ use Rattle.schedule_commit.specs.frame_strand.declared.outside.Strand.{Strand}
 use Rattle.schedule_commit.specs.frame_strand.declared.standing.Pause.TheVariants.{Blank}
 use Rattle.schedule_commit.specs.laws_strands.Law.{steps_by}
 use Rattle.schedule_workers.specs.Starts.{ArePlaces}
-use Rattle.laws_workers.specs.verifier.Budgets.{IsDepthOf}
+use Rattle.serial_machine.specs.verifier.Budgets.{IsDepthOf}
 use Rattle.frame.specs.declared.event.Event.TheVariants.{Step}
 use Rattle.schedule_core.specs.declared.stage.Stage.{Stage}
 use Rattle.schedule_core.specs.Replaying.{AreEnabled, ReplaysMore}

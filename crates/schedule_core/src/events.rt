@@ -1,11 +1,11 @@
 ghost use Rattle.std.specs.Prelude.{◌≡◌, ◌≢◌, ◌<◌, [], Err, None, Ok, false, IfOk, OnOk, OnErr};
 ghost use Rattle.semantics.specs.Events.{Machine};
-ghost use Rattle.laws_workers.specs.store.Requirements.{unmet_in};
+ghost use Rattle.serial_machine.specs.store.Requirements.{unmet_in};
 ghost use Rattle.schedule_core.specs.Admission.{IsAdmitted};
 ghost use Rattle.schedule_workers.specs.Follows.{Follows};
 ghost use Rattle.schedule_core.specs.Replaying.{GrowsOnly, Happens, IsMachine, LeavesAsBefore};
 ghost use Rattle.schedule_core.specs.Replaying.{Replays, ReplaysMore, ReplaysOneMore, StandsAsWell, event_of};
-ghost use Rattle.laws_workers.specs.store.Made.{IsMadeFor};
+ghost use Rattle.serial_machine.specs.store.Made.{IsMadeFor};
 ghost use Rattle.schedule_core.specs.Stages.{IsState, program_of};
 
 use crate::shared_places::SharedPlaces;

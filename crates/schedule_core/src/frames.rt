@@ -79,7 +79,8 @@ impl Machine<'_> {
         word_in(self.stage.run.cells.cells.as_slice(), address)
     }
 
-    /// What a cell of an alloca holds, of the frame of this path; none where there is no such cell. A cell without a value may hold any.
+    /// What a cell of an alloca holds, of the frame of this path; none where no such frame lives, or its function has no such alloca. A cell without a
+    /// value may hold any, and an index behind the last cell gives what stands there.
     pub fn alloca_cell(&self, path: &Path, alloca: usize, index: u64) -> Option<i64>
         ensures { (m : running.Machine) → IsState self.now.stage m → IsHeldBy self.now.stage m path.now alloca index result }
     {

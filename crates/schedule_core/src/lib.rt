@@ -8,6 +8,7 @@ mod events;
 mod frames;
 mod globals;
 mod laws;
+pub mod laws_workers;
 mod lending;
 mod machine;
 mod parent;

@@ -5,7 +5,7 @@ ghost use Rattle.schedule_core.specs.Admission.{IsAdmitted};
 ghost use Rattle.schedule_core.specs.Spots.{KeepsSpots};
 ghost use Rattle.schedule_core.specs.Replaying.{GrowsOnly, Happens, IsMachine, KeepsItsSchedule, KeepsSchedules, LeavesAsBefore};
 ghost use Rattle.schedule_core.specs.Replaying.{Replays, ReplaysOneMore, StandsAsWell, event_of};
-ghost use Rattle.laws_workers.specs.store.Made.{IsMadeFor};
+ghost use Rattle.serial_machine.specs.store.Made.{IsMadeFor};
 ghost use Rattle.schedule_core.specs.Stages.{IsState, program_of};
 
 use crate::events::{apply_to, begin, copied};

@@ -3,8 +3,8 @@ ghost use Rattle.std.specs.Prelude.{◌≡◌, ◌↔◌, ◌≤◌, IfNone, IfO
 ghost use Rattle.schedule_workers.specs.Follows.{Follows};
 ghost use Rattle.schedule_workers.specs.Starts.{ArePlaces};
 ghost use Rattle.frame_engine.specs.Flat.{cell_in};
-ghost use Rattle.schedule_commit.specs.private_stack.pages.Logs.{filled_log, page_around};
-ghost use Rattle.schedule_commit.specs.private_stack.pages.Tables.{log_of};
+ghost use Rattle.schedule_commit.specs.private_stack.stack_pages.Logs.{filled_log, page_around};
+ghost use Rattle.schedule_commit.specs.private_stack.stack_pages.Tables.{log_of};
 ghost use Rattle.schedule_commit.specs.private_stack.Along.{IsUnderWay};
 ghost use Rattle.schedule_commit.specs.private_stack.Boards.{NeedsBoard};
 ghost use Rattle.schedule_commit.specs.private_stack.Going.{IsGoing};

@@ -1,7 +1,7 @@
 ghost use Rattle.std.specs.Prelude.{◌≢◌, Err, IfOk, OnOk};
 ghost use Rattle.schedule_core.specs.Admission.{IsAdmitted};
 ghost use Rattle.schedule_core.specs.Replaying.{KeepsItsSchedule, Replays};
-ghost use Rattle.laws_workers.specs.store.Made.{IsMadeFor};
+ghost use Rattle.serial_machine.specs.store.Made.{IsMadeFor};
 
 use crate::events::{apply_all, begin};
 use crate::machine::Machine;

@@ -5,6 +5,8 @@ use Rattle.frame.specs.declared.event.Event.{Event}
 use Rattle.frame.specs.declared.event.Event.TheVariants as event
 use Rattle.shared_run.specs.declared.history.Entry.{Entry}
 use Rattle.shared_run.specs.declared.history.Entry.TheVariants.{Steps}
+use Rattle.shared_run.specs.declared.history.Keeping.{Keeping}
+use Rattle.shared_run.specs.declared.history.Keeping.TheVariants as keeping
 use Rattle.shared_run.specs.Spelled.{spelled, events_of}
 
 pub spelled_push : (es : List Entry) (e : Entry) → spelled (es ++ e ∷ []) ≡ spelled es ++ events_of e
@@ -39,3 +41,21 @@ pub spelled_next : (es : List Entry) (i : ℕ) (e : Entry) (now new : List Event
 spelled_next es i e now new low read before is =
     is ∙ (ap (λ l. l ++ events_of e) before
     ∙ (sym (spelled_push (take i es) e) ∙ ap spelled (ap (λ x. take i es ++ x ∷ []) read ∙ sym (take_more es i e low))))
+
+-- an entry more, where events are kept
+pub grown : (k : Keeping) (total count : ℕ) (entries more story after : List Entry) (e : Entry) → (total ≡ length (spelled story)) × (k ≡ keeping.Events → spelled entries ≡ spelled story) →
+    after ≡ story ++ e ∷ [] → length (events_of e) ≡ count → spelled more ≡ spelled entries ++ events_of e →
+    (total + count ≡ length (spelled after)) × (k ≡ keeping.Events → spelled more ≡ spelled after)
+grown k total count entries more story after e (sum, alike) is long grew = (
+  let all = ap (λ l. length (spelled l)) is ∙ length_push story e in omega (arith, sum, long, all),
+  λ events. grew ∙ (ap (λ l. l ++ events_of e) (alike events) ∙ (sym (spelled_push story e) ∙ ap spelled (sym is))),
+)
+
+-- and where they are not
+pub told : (k : Keeping) (total count : ℕ) (entries story after : List Entry) (e : Entry) → (total ≡ length (spelled story)) × (k ≡ keeping.Events → spelled entries ≡ spelled story) →
+    after ≡ story ++ e ∷ [] → length (events_of e) ≡ count → k ≡ keeping.Nothing →
+    (total + count ≡ length (spelled after)) × (k ≡ keeping.Events → spelled entries ≡ spelled after)
+told k total count entries story after e (sum, alike) is long none = (
+  let all = ap (λ l. length (spelled l)) is ∙ length_push story e in omega (arith, sum, long, all),
+  λ events. absurd (let both : keeping.Nothing ≡ keeping.Events = sym none ∙ events in cc),
+)

@@ -1,13 +1,18 @@
 -- What a private stack keeps, and what a publication answers.
-use Rattle.std.proofs.Common.{◌≡◌, ◌≢◌, ℕ, ℤ, refl, sym, ap, ◌∙◌, subst, length, Bool, true, false, List}
+use Rattle.std.proofs.Common.{◌≡◌, ◌≢◌, ℕ, zero, suc, ℤ, refl, sym, ap, ◌∙◌, subst, length, Bool, true, false, List, [], ◌∷◌, Option, Some, None}
 use Rattle.std.specs.Prelude.{◌↔◌, IsSome}
 use Rattle.std.proofs.Math.Logic.{∥∥₁_map}
+use Rattle.program.specs.declared.function.Block.{Block}
 use Rattle.program.specs.declared.function.Program.{Program}
+use Rattle.program.specs.declared.instruction.Ending.{Ending}
+use Rattle.program.specs.declared.instruction.Step.{Step}
+use Rattle.semantics.specs.Frames.{Ends, and_then, block_at, item_of}
 use Rattle.schedule_workers.specs.Starts.{ArePlaces}
+use Rattle.schedule_core.specs.frame_engine.declared.activation.Frame.{Frame}
 use Rattle.schedule_core.specs.frame_engine.declared.activation.Places.{Places}
 use Rattle.schedule_core.specs.frame_engine.Flat.{cell_in}
-use Rattle.schedule_core.specs.private_stack.pages.Logs.{filled_log, page_around}
-use Rattle.schedule_core.specs.private_stack.pages.Tables.{log_of}
+use Rattle.schedule_core.specs.private_stack.stack_pages.Logs.{filled_log, page_around}
+use Rattle.schedule_core.specs.private_stack.stack_pages.Tables.{log_of}
 use Rattle.schedule_core.specs.private_stack.Along.{IsUnderWay}
 use Rattle.schedule_core.specs.private_stack.Boards.{NeedsBoard}
 use Rattle.schedule_core.specs.private_stack.Going.{IsGoing}
@@ -18,7 +23,7 @@ use Rattle.schedule_core.specs.private_stack.declared.going.Pause.TheVariants as
 use Rattle.schedule_core.specs.Piles.{HasRoomFor, IsPileOf}
 use Rattle.shared_run.specs.declared.stack.Standing.{Standing}
 use Rattle.shared_run.specs.declared.stack.Standing.TheVariants.{Blank, Going, Border, Full, Need, Spoilt}
-use Rattle.shared_run.specs.Stacks.{Apart, FillsAhead, Holds, IsUp, Onward, StandsSo}
+use Rattle.shared_run.specs.Stacks.{Apart, FillsAhead, Holds, IsUp, Onward, StandsSo, is_reattach}
 use Rattle.shared_run.specs.Story.{Story}
 
 module _ (prog : Program) (places : Places) (x : Pile) where
@@ -59,6 +64,47 @@ goes_at pause.Border s n limit is at = (λ e. absurd (let h : Border ≡ Going =
 goes_at pause.Limit s n limit is at = (λ e. at.0 refl, λ e. is)
 goes_at pause.Full s n limit is at = (λ e. absurd (let h : Full ≡ Going = sym is ∙ e in cc), λ e. absurd (let h : pause.Full ≡ pause.Limit = at.1 e in cc))
 goes_at (pause.Need a) s n limit is at = (λ e. absurd (let h : Need a ≡ Going = sym is ∙ e in cc), λ e. absurd (let h : pause.Need a ≡ pause.Limit = at.1 e in cc))
+
+-- ---- what comes next
+
+item_end : (steps : List Step) (ending : Ending) → item_of steps (Some ending) (length steps) ≡ Some (Ends ending.terminator)
+item_end [] ending = refl
+item_end (step ∷ steps) ending = item_end steps ending
+
+pub at_end : (result : Bool) (steps : List Step) (ending : Option Ending) (last : Ending) (index count : ℕ) → ending ≡ Some last → index ≡ count → count ≡ length steps →
+    result ≡ is_reattach (Some (Ends last.terminator)) → result ≡ is_reattach (item_of steps ending index)
+at_end result steps ending last index count is at all e =
+    e ∙ sym (ap is_reattach (ap (λ (o : Option Ending). item_of steps o index) is ∙ ap (item_of steps (Some last)) (at ∙ all) ∙ item_end steps last))
+
+before_end : (steps : List Step) (ending : Option Ending) (index : ℕ) → index ≢ length steps → false ≡ is_reattach (item_of steps ending index)
+before_end [] None index off = refl
+before_end [] (Some ending) zero off = absurd (off refl)
+before_end [] (Some ending) (suc index) off = refl
+before_end (step ∷ steps) ending zero off = refl
+before_end (step ∷ steps) ending (suc index) off = before_end steps ending index (λ e. off (ap suc e))
+
+pub none_before : (steps : List Step) (ending : Option Ending) (index count : ℕ) → index ≢ count → count ≡ length steps → false ≡ is_reattach (item_of steps ending index)
+none_before steps ending index count off all = before_end steps ending index (λ e. off (e ∙ sym all))
+
+no_end : (steps : List Step) (index : ℕ) → false ≡ is_reattach (item_of steps None index)
+no_end [] index = refl
+no_end (step ∷ steps) zero = refl
+no_end (step ∷ steps) (suc index) = no_end steps index
+
+pub none_without : (steps : List Step) (ending : Option Ending) (index : ℕ) → ending ≡ None → false ≡ is_reattach (item_of steps ending index)
+none_without steps ending index is = no_end steps index ∙ ap (λ (o : Option Ending). is_reattach (item_of steps o index)) (sym is)
+
+-- by the block that stands there
+pub next_at : (result : Bool) (own code : Program) (f g : Frame) (b : Block) → own ≡ code → g ≡ f → Some b ≡ block_at own g.function.0 g.place.block.0 →
+    result ≡ is_reattach (item_of b.steps b.ending g.place.index) → result ≡ is_reattach (item_here code f)
+next_at result own code f g b is same at e =
+    subst (λ (p : Program). result ≡ is_reattach (item_here p f)) is (subst (λ (h : Frame). result ≡ is_reattach (item_here own h)) same
+    (e ∙ ap (λ (o : Option Block). is_reattach (and_then o (λ (x : Block). item_of x.steps x.ending g.place.index))) at))
+
+pub next_nowhere : (own code : Program) (f g : Frame) → own ≡ code → g ≡ f → None ≡ block_at own g.function.0 g.place.block.0 → false ≡ is_reattach (item_here code f)
+next_nowhere own code f g is same at =
+    subst (λ (p : Program). false ≡ is_reattach (item_here p f)) is (subst (λ (h : Frame). false ≡ is_reattach (item_here own h)) same
+    (ap (λ (o : Option Block). is_reattach (and_then o (λ (x : Block). item_of x.steps x.ending g.place.index))) at))
 
 -- ---- a page that is given ahead
 

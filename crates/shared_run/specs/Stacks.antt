@@ -1,11 +1,15 @@
 -- A worker's private stack, and what the calls of a board do with it.
-use Rattle.std.specs.Prelude.{◌≡◌, ◌≢◌, ◌≤◌, ◌↔◌, ◌+◌, ⊤, ℕ, ℤ, ◌++◌, min, replicate, IsSome, None, Bool, true, false, List, reverse}
+use Rattle.std.specs.Prelude.{◌≡◌, ◌≢◌, ◌≤◌, ◌↔◌, ◌+◌, ⊤, ℕ, ℤ, ◌++◌, min, replicate, IsSome, Option, Some, None, Bool, true, false, List, reverse}
 use Rattle.program.specs.declared.function.Program.{Program}
+use Rattle.program.specs.declared.instruction.Terminator.TheVariants as terminator
+use Rattle.semantics.specs.Frames.{Item, Does, Ends}
+use Rattle.frame.specs.declared.frame.Wait.{Wait}
+use Rattle.frame.specs.declared.frame.Wait.TheVariants.{Nothing, Region, Call}
 use Rattle.frame.specs.declared.event.Event.TheVariants.{Step}
 use Rattle.schedule_core.specs.frame_engine.declared.activation.Places.{Places}
 use Rattle.schedule_core.specs.frame_engine.Flat.{cell_in}
-use Rattle.schedule_core.specs.private_stack.pages.Logs.{filled_log, page_around}
-use Rattle.schedule_core.specs.private_stack.pages.Tables.{log_of}
+use Rattle.schedule_core.specs.private_stack.stack_pages.Logs.{filled_log, page_around}
+use Rattle.schedule_core.specs.private_stack.stack_pages.Tables.{log_of}
 use Rattle.schedule_core.specs.private_stack.Along.{IsUnderWay}
 use Rattle.schedule_core.specs.private_stack.Boards.{NeedsBoard}
 use Rattle.schedule_core.specs.private_stack.Going.{IsGoing}
@@ -51,6 +55,19 @@ Holds prog places x Full = HasRoomFor prog x × ∥ IsGoing prog places x pause.
 Holds prog places x (Need at) = HasRoomFor prog x × ∥ IsGoing prog places x (pause.Need at) ∥₁
 Holds prog places x Spoilt = ⊤
 
+-- a frame behind a detach waits for nothing
+abbrev pub waits_for_nothing : Wait → Bool
+waits_for_nothing Nothing = true
+waits_for_nothing (Region region) = false
+waits_for_nothing (Call child register) = false
+
+-- a reattach stands there
+abbrev pub is_reattach : Option Item → Bool
+is_reattach None = false
+is_reattach (Some (Does instruction)) = false
+is_reattach (Some (Ends (terminator.Reattach region continuation))) = true
+is_reattach (Some (Ends other)) = false
+
 -- wherever the module's objects begin, the stack stands so
 abbrev pub StandsSo : Program → Apart → Type 0
 StandsSo prog y = (places : Places) × ArePlaces prog places × Holds prog places y.pile y.standing
@@ -72,11 +89,11 @@ Onward (pause.Need at) s = s ≡ Need at
 
 -- ---- what the board gives
 
--- the frame that the worker runs next, before its first instruction
+-- the frame that the worker runs next, before its first instruction; or it holds none
 abbrev pub Loads : Story → Place → Apart → Loaded → Type 0
 Loads s p y loaded.Frame = (y.standing ≡ Going) × IsBegun s.stage p.worker y.pile
-Loads s p y loaded.Idle = (state_of s).hands p.worker ≡ None
-Loads s p y loaded.OutOfMemory = ⊤
+Loads s p y loaded.Idle = (¬ IsUp y.standing) × ((state_of s).hands p.worker ≡ None)
+Loads s p y loaded.OutOfMemory = ¬ IsUp y.standing
 
 -- it goes on with the page of the address, as the board has it
 pub record IsFilled (s : Story) (at : ℤ) (x y : Apart) : Type 0 where

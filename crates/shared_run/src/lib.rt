@@ -14,6 +14,7 @@ mod answers;
 mod bench;
 mod board;
 mod deep;
+mod frames;
 mod history;
 mod outside;
 mod rest;
@@ -26,7 +27,7 @@ mod ticket;
 pub use answers::{Claimed, Committed, Fetched, Loaded, Published, Stepped};
 pub use bench::Bench;
 pub use board::Board;
-pub use history::{Entry, History};
+pub use history::{Entry, History, Keeping};
 pub use outside::{advance, blank_strand, clear};
 pub use rest::{BoardRest, StackRest};
 pub use schedule_core::{

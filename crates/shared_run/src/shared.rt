@@ -7,7 +7,7 @@ ghost use Rattle.shared_run.specs.Story.{AreSeats, origin, state_of};
 
 use crate::bench::Bench;
 use crate::board::Board;
-use crate::history::History;
+use crate::history::{History, Keeping};
 use crate::seat::Seat;
 use schedule_core::{Finished, Memory, Places, RunFault, SharedPlaces, Verified};
 use std::alloc::Global;
@@ -56,6 +56,7 @@ impl<'a, L: Bench> Shared<'a, L> {
         arguments: &[i64],
         memory: Memory,
         workers: usize,
+        keeping: Keeping,
         blank: Blank,
     ) -> Result<(Shared<'a, L>, Vec<Seat<L>>), RunFault>
         requires made { IsMadeFor verified.now memory }
@@ -71,7 +72,9 @@ impl<'a, L: Bench> Shared<'a, L> {
         ensures admitted { IsAdmitted verified.now arguments.now memory workers result }
         ensures not_stopped { result ≢ Err RunFault.Stopped }
     {
-        let (board, seats) = Board::new(alloc, verified, arguments, memory, workers, blank)?;
+        let (board, seats) = Board::new(
+            alloc, verified, arguments, memory, workers, keeping, blank,
+        )?;
         let Ok(places) = board.machine().share_places() else {
             return Err(RunFault::OutOfMemory);
         };

@@ -15,9 +15,8 @@ const MOST_PAUSES: u32 = 1_000;
 
 /// Whether others wait for a task that the strand would leave ready, and it is not too soon.
 fn is_asked<L: Bench, H: Hunger>(wanted: &H, stack: &PrivateStack<'_, L>, habits: &Habits) -> bool {
-    wanted.is_there()
-        && stack.has_ready_frame()
-        && (DEEP <= stack.frames_below() || habits.pace.is_due(stack.done()))
+    let is_deep = DEEP <= stack.frames_below();
+    wanted.is_there() && stack.has_ready_frame() && habits.pace.is_due(stack.done(), is_deep)
 }
 
 /// Goes on to where something is wanted of the board: what that is.

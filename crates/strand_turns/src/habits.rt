@@ -53,6 +53,11 @@ impl Habits {
         }
     }
 
+    /// It offers no task in its next so many instructions, where it is not made to by a border or a limit.
+    pub fn keep_quiet(&mut self, instructions: u64) {
+        self.pace.keep_quiet(instructions);
+    }
+
     /// Whether a strand begins: its frame was loaded, and it has not gone on since.
     pub fn is_new(&self) -> bool {
         self.is_new

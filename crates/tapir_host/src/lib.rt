@@ -13,8 +13,8 @@
 //! let other = serial_run_by(alloc, &kernel, &code, &[8], memory)?;               // of other memory
 //! ```
 //!
-//! - [`verify_within`] judges within an [`Effort`], for texts of strangers; [`verify`] takes as long as it takes. [`explain`] says in words why a text
-//!   is refused, and [`rule_text`] what a rule asks.
+//! - [`verify_within`] judges within an [`Effort`], for texts of strangers; [`verify`] takes as long as it takes. Why a text is refused the crate
+//!   `explain` says in words; who wants that names it beside this one.
 //! - [`serial_run`] runs serially, and [`serial_run_within`] within some fuel. [`serial_run_by`] and [`serial_run_within_by`] do the same by what was
 //!   [`Decoded`] once for all runs. [`run`] runs on threads, whose [`Gate`] may hold or stop them, and
 //!   [`run_recorded`] hands out what they did. [`replay`] runs a list of [`Event`]s, and a [`Machine`] does one event at a time.
@@ -24,7 +24,6 @@
 pub use deque_pool::{
     Event, Figures, Gate, Go, History, Machine, OpenGate, Recorded, replay, run, run_recorded,
 };
-pub use explain::{Explanation, explain, rule_text, told};
 pub use frame::Path;
 pub use serial_machine::{
     Decoded, Unfinished, serial_run, serial_run_by, serial_run_within, serial_run_within_by,

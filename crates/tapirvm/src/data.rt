@@ -1,7 +1,7 @@
 //! The files of globals.
 
 use crate::host::complain;
-use cli_requests::{Beside, Request, Status, read_data, write_bytes};
+use cli_words::{Beside, Request, Status, read_data, write_bytes};
 use std::io;
 use std::io::ErrorKind;
 use std::rt::Files;

@@ -4,7 +4,7 @@ use crate::clocks::microseconds_since;
 use crate::data::{read_load, write_dumps};
 use crate::requests::act;
 use crate::times::tell_times;
-use cli_requests::{
+use cli_words::{
     Beside, Question, Request, Status, WordsFault, read_file, text_of, words, write_file,
 };
 use std::env::FillError;

@@ -1,20 +1,23 @@
 //! Runs on threads of which more is told than the answer.
 
 use crate::clocks::microseconds_since;
-use cli_requests::{
-    Beside, Course, Crew, Effort, Event, Job, Machine, Status, prepared, print_run,
+use cli_runs::{
+    Course, Event, Finished, Job, Machine, page_of, prepared, print_run, print_told,
     print_unprepared, tell_course,
 };
+use cli_words::{Beside, Status};
 use deque_pool::{Entry, Figures, OpenGate, Recorded, run_recorded};
-use lists::{ListBuffer, OutOfMemory};
+use lists::{ListBuffer, OutOfMemory, TextBuffer};
 use std::alloc::{AllocError, Global};
 use std::io;
 use std::io::Write;
 use std::sync::Wait;
 use std::thread::Threads;
 use std::time::{Clock, Instant};
+use strand_rounds::{Told as Replayed, run_again};
+use view_events::{Crew, Effort, Figures as Table, MOST_EVENTS, Script, Told, Whole, picture_of};
 
-/// The events of a run that was recorded.
+/// The events of a run that was recorded, or so many of them.
 #[derive(Drop)]
 struct Kept<'e> {
     alloc: Global,
@@ -22,9 +25,22 @@ struct Kept<'e> {
     next: usize,
     /// How many steps of that entry were done.
     done: u64,
+    /// How many events are left.
+    left: u64,
 }
 
-impl Kept<'_> {
+impl<'e> Kept<'e> {
+    /// The first events of these, at most so many.
+    fn of(alloc: Global, entries: &'e [Entry], most: u64) -> Kept<'e> {
+        Kept {
+            alloc,
+            entries,
+            next: 0,
+            done: 0,
+            left: most,
+        }
+    }
+
     /// Goes on to the next entry.
     fn go_on(&mut self) {
         self.next = self.next.saturating_add(1);
@@ -34,6 +50,10 @@ impl Kept<'_> {
 
 impl Course for Kept<'_> {
     fn next(&mut self, _machine: &Machine<'_>) -> Result<Option<Event>, OutOfMemory> {
+        if self.left == 0 {
+            return Ok(None);
+        }
+        self.left = self.left.saturating_sub(1);
         for _entry in 0..=self.entries.len() {
             match self.entries.get(self.next) {
                 Some(Entry::Steps { worker, count }) if self.done < *count => {
@@ -75,11 +95,69 @@ fn efforts_of(alloc: Global, figures: &[Figures]) -> Result<Vec<Effort>, AllocEr
     efforts.finish()
 }
 
-/// Tells of a run that was recorded: its events are done once more.
-fn tell_recorded<W: Write>(
+/// The events as a schedule, if that is not too long.
+fn script_of(alloc: Global, entries: &[Entry]) -> Result<Option<String>, AllocError> {
+    let mut script = Script::new(alloc);
+    for entry in entries {
+        match entry {
+            Entry::Steps { worker, count } => script.add_steps(*worker, *count),
+            Entry::Steal { worker, path } => script.add_steal(*worker, path),
+        }
+    }
+    script.into_text()
+}
+
+/// The lines of the figures and the picture, as far as they are asked for: the strands are done once more.
+fn drawn<W: Write>(
     job: &Job<'_>,
-    run: &Recorded,
-    microseconds: u64,
+    entries: &[Entry],
+    crew: Crew<'_>,
+    shown: &mut Told,
+    output: &mut W,
+    beside: &mut Beside,
+) -> io::Result<Status> {
+    let telling = &job.request.telling;
+    let memory = match prepared(job, beside) {
+        Ok(memory) => memory,
+        Err(status) => return print_unprepared(status, output),
+    };
+    let (args, workers) = (job.request.args.as_slice(), job.request.workers);
+    let has_scene = telling.picture.is_some();
+    let run = match run_again(
+        job.alloc,
+        job.verified,
+        args,
+        memory,
+        workers,
+        entries,
+        has_scene,
+    ) {
+        Ok(run) => run,
+        Err(fault) => return job.print_run_fault(&fault, output, beside),
+    };
+    let Replayed {
+        tallies,
+        rounds,
+        scene,
+    } = run;
+    let Ok(picture) = picture_of(job.alloc, scene) else {
+        return Err(io::Error::from(AllocError));
+    };
+    shown.picture = picture;
+    if telling.stats {
+        let mut lines = TextBuffer::new(job.alloc);
+        Table::of(tallies, rounds).push_lines(&mut lines, crew);
+        shown.stats = lines.finish()?;
+    }
+    Ok(Status::Done)
+}
+
+/// The page, which tells the first events.
+fn paged<W: Write>(
+    job: &Job<'_>,
+    entries: &[Entry],
+    finished: &Finished,
+    shown: &mut Told,
     output: &mut W,
     beside: &mut Beside,
 ) -> io::Result<Status> {
@@ -87,17 +165,80 @@ fn tell_recorded<W: Write>(
         Ok(memory) => memory,
         Err(status) => return print_unprepared(status, output),
     };
+    let mut events = Kept::of(job.alloc, entries, MOST_EVENTS);
+    let whole = Whole {
+        untold: shown.events.saturating_sub(MOST_EVENTS),
+        result: finished.result,
+        instructions: finished.instructions,
+        peak: finished.peak,
+    };
+    match page_of(job, memory, &mut events, whole, output)? {
+        Ok(page) => {
+            shown.page = page;
+            Ok(Status::Done)
+        }
+        Err(fault) => job.print_run_fault(&fault, output, beside),
+    }
+}
+
+/// Tells of a run of which not each event is shown.
+fn tell_strands<W: Write>(
+    job: &Job<'_>,
+    run: Recorded,
+    crew: Crew<'_>,
+    output: &mut W,
+    beside: &mut Beside,
+) -> io::Result<Status> {
+    let telling = &job.request.telling;
+    let entries = run.history.entries().unwrap_or(&[]);
+    let mut shown = Told {
+        script: None,
+        events: run.history.total(),
+        stats: String::new(job.alloc),
+        picture: None,
+        json: String::new(job.alloc),
+        page: None,
+    };
+    if telling.page.is_some() {
+        match paged(job, entries, &run.finished, &mut shown, output, beside)? {
+            Status::Done => {}
+            status => return Ok(status),
+        }
+    }
+    if telling.stats || telling.picture.is_some() {
+        match drawn(job, entries, crew, &mut shown, output, beside)? {
+            Status::Done => {}
+            status => return Ok(status),
+        }
+    }
+    if telling.save.is_some() {
+        shown.script = script_of(job.alloc, entries)?;
+    }
+    print_told(job, run.finished, shown, output, beside)
+}
+
+/// Tells of a run that was recorded: its events are done once more, strand by strand where none is shown by itself.
+fn tell_recorded<W: Write>(
+    job: &Job<'_>,
+    run: Recorded,
+    microseconds: u64,
+    output: &mut W,
+    beside: &mut Beside,
+) -> io::Result<Status> {
     let efforts = efforts_of(job.alloc, run.figures.as_slice())?;
     let crew = Crew {
         efforts: efforts.as_slice(),
         microseconds,
     };
-    let mut events = Kept {
-        alloc: job.alloc,
-        entries: run.history.entries(),
-        next: 0,
-        done: 0,
+    if !job.request.telling.trace && job.request.telling.json.is_none() {
+        return tell_strands(job, run, crew, output, beside);
+    }
+    let memory = match prepared(job, beside) {
+        Ok(memory) => memory,
+        Err(status) => return print_unprepared(status, output),
     };
+    let entries = run.history.entries().unwrap_or(&[]);
+    let mut events = Kept::of(job.alloc, entries, u64::MAX);
     tell_course(job, memory, &mut events, crew, output, beside)
 }
 
@@ -126,7 +267,7 @@ pub fn run_told<T: Threads + Wait + Clock + Sync, W: Write>(
     );
     let took = microseconds_since(rt, begun)?;
     match run {
-        Ok(recorded) => tell_recorded(job, &recorded, took, output, beside),
+        Ok(recorded) => tell_recorded(job, recorded, took, output, beside),
         Err(fault) => print_run(job, &Err(fault), output, beside),
     }
 }

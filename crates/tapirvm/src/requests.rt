@@ -3,21 +3,18 @@
 use crate::clocks::microseconds_since;
 use crate::recorded::run_told;
 use crate::speedup::run_speedup;
-use cli_requests::{
-    Beside, Job, Judgement, Question, Request, Status, Verb, answer_verified, fail, is_told,
-    judged, prepared, print_run, print_unprepared,
+use cli_answers::{Judgement, judged};
+use cli_debug::answer_commands;
+use cli_runs::{
+    Job, Verified, answer_run, debugger_of, is_told, prepared, print_run, print_unprepared,
 };
+use cli_words::{Beside, Question, Status, Verb, fail};
 use deque_pool::OpenGate;
 use std::io;
 use std::io::{Read, Write};
 use std::sync::Wait;
 use std::thread::Threads;
 use std::time::{Clock, Instant};
-
-/// Whether a request is for a run on workers: one that no seed draws.
-fn is_on_workers(request: &Request) -> bool {
-    request.verb == Verb::Run && request.telling.seed.is_none()
-}
 
 /// Runs the module on workers, each on a thread of its own.
 fn run_on_workers<T: Threads + Wait + Clock + Sync, W: Write>(
@@ -60,20 +57,47 @@ fn run_asked<T: Threads + Wait + Clock + Sync, W: Write>(
     }
 }
 
-/// Runs a module that the verifier took, and notes what that took.
-fn run_timed<T: Threads + Wait + Clock + Sync, R: Read, W: Write>(
-    rt: &T,
+/// Goes through the schedule by the commands of the input.
+fn debug<R: Read, W: Write>(
+    question: Question<'_>,
     job: &Job<'_>,
     input: &mut R,
     output: &mut W,
     beside: &mut Beside,
 ) -> io::Result<Status> {
+    match debugger_of(job, output, beside)? {
+        Ok(mut debugger) => {
+            answer_commands(
+                question,
+                job.text,
+                job.verified,
+                &mut debugger,
+                input,
+                output,
+            )
+        }
+        Err(status) => Ok(status),
+    }
+}
+
+/// Runs a module that the verifier took, and notes what that took. A run on workers is one that no seed draws.
+fn run_timed<T: Threads + Wait + Clock + Sync, R: Read, W: Write>(
+    rt: &T,
+    question: Question<'_>,
+    text: &[u8],
+    verified: &Verified,
+    input: &mut R,
+    output: &mut W,
+    beside: &mut Beside,
+) -> io::Result<Status> {
+    let job = Job::of(question, text, verified);
     let begun = Instant::now(rt)?;
-    let status = if is_on_workers(job.request) {
-        run_asked(rt, job, output, beside)?
-    } else {
-        answer_verified(job, input, output, beside)?
+    let run = match job.request.verb {
+        Verb::Run if job.request.telling.seed.is_none() => run_asked(rt, &job, output, beside),
+        Verb::Debug => debug(question, &job, input, output, beside),
+        _ => answer_run(&job, output, beside),
     };
+    let status = run?;
     beside.times.running = microseconds_since(rt, begun)?;
     Ok(status)
 }
@@ -91,7 +115,16 @@ fn answer<T: Threads + Wait + Clock + Sync, R: Read, W: Write>(
         Judgement::Answered(status) => Ok(status),
         Judgement::Accepted(accepted) => {
             beside.times.verifying = microseconds_since(rt, begun)?;
-            run_timed(rt, &accepted.job(question), input, output, beside)
+            let text = accepted.text.as_slice();
+            run_timed(
+                rt,
+                question,
+                text,
+                &accepted.verified,
+                input,
+                output,
+                beside,
+            )
         }
     }
 }

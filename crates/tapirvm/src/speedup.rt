@@ -1,7 +1,8 @@
 //! How long runs on threads take by the number of their workers.
 
 use crate::clocks::microseconds_since;
-use cli_requests::{Beside, Finished, Job, Status, prepared, print_run, print_unprepared};
+use cli_runs::{Finished, Job, prepared, print_run, print_unprepared};
+use cli_words::{Beside, Status};
 use deque_pool::OpenGate;
 use lists::TextBuffer;
 use std::io;

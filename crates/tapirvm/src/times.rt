@@ -1,6 +1,6 @@
 //! What a request took.
 
-use cli_requests::Times;
+use cli_words::Times;
 use std::fmt;
 
 /// Microseconds, as seconds.

@@ -1,9 +1,10 @@
 //! An event as JSON.
 
+use crate::change::{Change, Settings, Written};
+use crate::moment::{Moment, Outcome, Place, TaskName};
 use crate::names::{Names, NumberName, ThingName, ValueName};
 use frame::Event;
 use lists::TextBuffer;
-use view_run::{Change, Moment, Outcome, Place, Settings, TaskName, Written};
 
 /// An event of a run with its number, from 1, and its round.
 #[derive(Clone, Copy)]

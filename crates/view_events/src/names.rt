@@ -1,18 +1,45 @@
 //! The names of a module's text.
 
-use explain_facts::Scene;
-use lists::OutOfMemory;
-use program::{Program, RegisterId};
-use std::alloc::Global;
+use crate::change::{Thing, Value};
+use crate::moment::TaskName;
+use lists::{ListBuffer, Name, OutOfMemory};
+use program::Program;
+use std::alloc::{AllocError, Global};
 use std::fmt;
-use syntax::Module;
-use view_run::{TaskName, Thing, Value};
+use syntax::{Block, Function, Module, Parameter};
 
-/// The functions of a program, each beside its text.
+/// A program beside the names of its text.
 #[derive(Drop)]
 pub struct Names<'a> {
     program: &'a Program,
-    scenes: Vec<Scene<'a>>,
+    /// By function: the names of its registers, parameters first, then in the order of the text.
+    registers: Vec<Vec<&'a Name>>,
+}
+
+/// Adds the names of the registers that a block defines.
+fn push_block_names<'a>(names: &mut ListBuffer<&'a Name>, block: &'a Block) {
+    for phi in block.phis.as_slice() {
+        names.push(&phi.register);
+    }
+    for step in block.steps.as_slice() {
+        if let Some(name) = step.instruction.register() {
+            names.push(name);
+        }
+    }
+}
+
+/// The names of a function's registers.
+fn register_names<'a>(alloc: Global, function: &'a Function) -> Result<Vec<&'a Name>, AllocError> {
+    let mut names: ListBuffer<&'a Name> = ListBuffer::new(alloc);
+    for parameter in function.parameters.as_slice() {
+        match parameter {
+            Parameter::Number { name } | Parameter::Pointer { name, .. } => names.push(name),
+        }
+    }
+    for block in function.blocks.as_slice() {
+        push_block_names(&mut names, block);
+    }
+    names.finish()
 }
 
 impl<'a> Names<'a> {
@@ -22,24 +49,25 @@ impl<'a> Names<'a> {
         program: &'a Program,
         module: &'a Module,
     ) -> Result<Names<'a>, OutOfMemory> {
-        let mut scenes = Vec::new(alloc);
-        for index in 0..program.functions.len() {
-            if let Some(scene) = Scene::of(alloc, program, module, index)? {
-                scenes.push(scene)?;
-            }
+        let mut registers = Vec::new(alloc);
+        for function in module.functions.as_slice() {
+            registers.push(register_names(alloc, function)?)?;
         }
-        Ok(Names { program, scenes })
+        Ok(Names { program, registers })
     }
 
     pub fn program(&self) -> &'a Program {
         self.program
     }
 
-    /// The name of a function's register, without its sigil.
+    /// The name of a function's register, without its sigil. The result of the function stands after the last one.
     pub fn register(&self, function: usize, register: usize) -> &str {
-        match self.scenes.as_slice().get(function) {
-            Some(scene) => scene.register(RegisterId(register)),
-            None => "?",
+        let Some(names) = self.registers.get(function) else {
+            return "?";
+        };
+        match names.get(register) {
+            Some(name) => name.as_str(),
+            None => ".ret",
         }
     }
 

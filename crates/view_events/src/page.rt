@@ -1,13 +1,13 @@
 //! The page's text.
 
+use crate::change::Settings;
 use crate::event::{Numbered, push_event, push_settings};
 use crate::names::Names;
 use crate::script::SCRIPT;
-use crate::spelling::quoted;
 use crate::style::STYLE;
 use lists::TextBuffer;
 use std::alloc::{AllocError, Global};
-use view_run::Settings;
+use view_module::quoted;
 
 /// The most events that a page tells.
 pub const MOST_EVENTS: u64 = 20_000;
@@ -141,6 +141,11 @@ impl Page {
             push_event(&mut self.text, names, numbered);
         }
         self.events = self.events.saturating_add(1);
+    }
+
+    /// So many events more, which the page does not tell.
+    pub fn skip(&mut self, events: u64) {
+        self.events = self.events.saturating_add(events);
     }
 
     /// The whole page; `answer` is what the run came to.

@@ -1,3 +1,2 @@
-pub mod Rounds
 -- for the crates above
 pub use Rattle.schedule_core.specs.store as store

@@ -1,39 +1,30 @@
-//! Runs that are recorded: a replay of their events comes to their answer, and each worker's figures are what its events and its gate tell.
+//! Runs that are recorded: a replay of their events comes to their answer, and each worker's figures are what its events and its gate tell. Beside them the
+//! list by which workers hand one another their tasks: no run tells whether a ticket was refused, since its task is found at the board too.
 
-use crate::threads::endings::{Ending, is_so};
-use cases::{Report, verified_file};
-use deque_pool::{Figures, Gate, Go, OpenGate, Recorded, run_recorded};
+use crate::endings::{Ending, is_so, leads_to};
+use crate::report::Report;
+use crate::threads::gates::Tally;
+use deque_pool::{Figures, Gate, Hands, OpenGate, Recorded, Taken, run_recorded};
 use lists::OutOfMemory;
-use shared_run::{Event, Memory, Verified, replay};
+use shared_run::{Event, Memory, Ticket, Verified, replay};
 use std::alloc::Global;
-use std::hash::RandomState;
-use std::io;
-use std::rt::Files;
 use std::sync::Wait;
-use std::sync::atomic::{AtomicU64, Ordering};
 use std::thread::Threads;
 use std::time::Clock;
 
-/// Whether these events lead to the answer.
-fn replays_to(
+/// A recorded run, with its events one by one.
+fn recorded<G: Gate + Sync, R: Threads + Wait + Clock + Sync>(
+    rt: &R,
     alloc: Global,
     verified: &Verified,
     arguments: &[i64],
     workers: usize,
-    events: &[Event],
-    wanted: Ending,
-) -> bool {
-    let Ok(memory) = Memory::zeroed(alloc, verified) else {
-        return false;
-    };
-    match replay(alloc, verified, arguments, memory, workers, events) {
-        Ok(machine) => {
-            machine.result() == Some(wanted.0)
-                && machine.instructions() == wanted.1
-                && machine.peak() == wanted.2
-        }
-        Err(_) => false,
-    }
+    gate: &G,
+) -> Option<(Recorded, Vec<Event>)> {
+    let memory = Memory::zeroed(alloc, verified).ok()?;
+    let run = run_recorded(rt, alloc, verified, arguments, memory, workers, gate).ok()?;
+    let events = run.history.events(alloc).ok()?;
+    Some((run, events))
 }
 
 /// The instructions of all workers.
@@ -68,68 +59,29 @@ fn is_recorded<R: Threads + Wait + Clock + Sync>(
     workers: usize,
     wanted: Ending,
 ) -> bool {
+    let Some((run, events)) = recorded(rt, alloc, verified, arguments, workers, &OpenGate) else {
+        return false;
+    };
     let Ok(memory) = Memory::zeroed(alloc, verified) else {
         return false;
     };
-    let run = run_recorded(rt, alloc, verified, arguments, memory, workers, &OpenGate);
-    let Ok(
-        Recorded {
-            finished,
-            history,
-            figures,
-        },
-    ) = run
-    else {
+    let replayed = replay(
+        alloc,
+        verified,
+        arguments,
+        memory,
+        workers,
+        events.as_slice(),
+    );
+    let Ok(machine) = replayed else {
         return false;
     };
-    let Ok(events) = history.events(alloc) else {
-        return false;
-    };
-    is_so(&finished, wanted)
-        && replays_to(
-            alloc,
-            verified,
-            arguments,
-            workers,
-            events.as_slice(),
-            wanted,
-        )
+    let figures = run.figures.as_slice();
+    is_so(&run.finished, wanted)
+        && leads_to(machine, &run.finished)
         && figures.len() == workers
-        && instructions_of(figures.as_slice()) == wanted.1
-        && have_reasons(figures.as_slice())
-}
-
-/// Counts how often each worker passes it.
-#[derive(Drop)]
-struct Tally {
-    passes: Vec<AtomicU64>,
-}
-
-impl Gate for Tally {
-    fn pass(&self, worker: u8, _strand: u64) -> Go {
-        if let Some(passes) = self.passes.get(worker as usize) {
-            let _before = passes.fetch_add(1, Ordering::SeqCst);
-        }
-        Go::On
-    }
-}
-
-impl Tally {
-    fn new(alloc: Global, workers: usize) -> Result<Tally, OutOfMemory> {
-        let mut passes = Vec::new(alloc);
-        for _worker in 0..workers {
-            passes.push(AtomicU64::new(0))?;
-        }
-        Ok(Tally { passes })
-    }
-
-    /// How often the worker passed it.
-    fn of(&self, worker: u8) -> u64 {
-        match self.passes.get(worker as usize) {
-            Some(passes) => passes.load(Ordering::SeqCst),
-            None => 0,
-        }
-    }
+        && instructions_of(figures) == wanted.1
+        && have_reasons(figures)
 }
 
 /// The worker's steps among the events, and its steals.
@@ -146,22 +98,15 @@ fn moves_of(events: &[Event], worker: u8) -> (u64, u64) {
     (steps, steals)
 }
 
-/// Whether the figures of the worker are what events and gate tell: its instructions are steps, its tasks but the first were stolen, and each of its strands
-/// was after its gate.
-fn fit(figures: &Figures, worker: u8, events: &[Event], tally: &Tally) -> bool {
-    let (steps, steals) = moves_of(events, worker);
-    figures.instructions == steps && figures.steals == steals && figures.strands == tally.of(worker)
-}
-
 /// How the strands of a worker that is alone end: `main` returns, which the board does; a page too many is needed; or they have done what a strand may do.
-#[derive(Drop)]
+#[derive(Clone, Copy)]
 struct Ends {
     full_logs: u64,
     limits: u64,
 }
 
 /// Whether a worker that is alone did its strands so. It takes no task, looks for none, gives none away, and does no strand for nothing.
-fn is_alone(own: &Figures, ends: &Ends) -> bool {
+fn is_alone(own: &Figures, ends: Ends) -> bool {
     let strands = ends.full_logs.saturating_add(ends.limits).saturating_add(1);
     own.strands == strands
         && own.publications == strands
@@ -174,11 +119,13 @@ fn is_alone(own: &Figures, ends: &Ends) -> bool {
         && own.strangers == 0
 }
 
-/// Whether each worker's figures are so.
+/// Whether each worker's figures are what events and gate tell: its instructions are steps, its tasks but the first were stolen, and each of its strands was
+/// after its gate.
 fn all_fit(figures: &[Figures], events: &[Event], tally: &Tally) -> bool {
     let mut worker: u8 = 0;
     for own in figures {
-        if !fit(own, worker, events, tally) {
+        let (steps, steals) = moves_of(events, worker);
+        if own.instructions != steps || own.steals != steals || own.strands != tally.of(worker) {
             return false;
         }
         worker = worker.saturating_add(1);
@@ -193,78 +140,84 @@ fn has_figures<R: Threads + Wait + Clock + Sync>(
     verified: &Verified,
     arguments: &[i64],
     workers: usize,
-    ends: &Ends,
+    ends: Ends,
 ) -> bool {
-    let Ok(memory) = Memory::zeroed(alloc, verified) else {
-        return false;
-    };
     let Ok(tally) = Tally::new(alloc, workers) else {
         return false;
     };
-    let run = run_recorded(rt, alloc, verified, arguments, memory, workers, &tally);
-    let Ok(
-        Recorded {
-            history,
-            figures,
-            ..
-        },
-    ) = run
-    else {
+    let Some((run, events)) = recorded(rt, alloc, verified, arguments, workers, &tally) else {
         return false;
     };
-    let Ok(events) = history.events(alloc) else {
-        return false;
+    let figures = run.figures.as_slice();
+    let is_so = match figures {
+        [own] => is_alone(own, ends),
+        _ => have_reasons(figures),
     };
-    let is_so = match figures.first() {
-        Some(own) if workers == 1 => is_alone(own, ends),
-        _ => have_reasons(figures.as_slice()),
+    is_so && figures.len() == workers && all_fit(figures, events.as_slice(), &tally)
+}
+
+/// Whether three tickets that are offered are taken: the oldest by a thief, the newest by their owner.
+fn are_handed_on(alloc: Global) -> Result<bool, OutOfMemory> {
+    let (mut hands, mut thieves) = Hands::new(alloc, 1)?;
+    for slot in 0..3 {
+        let ticket = Ticket {
+            slot,
+            generation: 0,
+        };
+        if hands.offer(ticket).is_err() {
+            return Ok(false);
+        }
+    }
+    let Some(thief) = thieves.get_mut(0) else {
+        return Ok(false);
     };
-    is_so && figures.len() == workers && all_fit(figures.as_slice(), events.as_slice(), &tally)
+    match (thief.take_oldest(), hands.take_newest()) {
+        (Taken::Ticket(oldest), Some(newest)) => Ok(oldest.slot == 0 && newest.slot == 2),
+        _ => Ok(false),
+    }
+}
+
+/// Answers the cases of runs that are recorded.
+pub fn answer<R: Threads + Wait + Clock + Sync>(
+    rt: &R,
+    alloc: Global,
+    steps: &Verified,
+    report: &mut Report,
+) {
+    let ends = Ends {
+        full_logs: 0,
+        limits: 0,
+    };
+    for workers in [1usize, 2, 4] {
+        let is_recorded = is_recorded(rt, alloc, steps, &[64], workers, (64, 518, 2));
+        report.holds("a recorded run is replayed to its answer", is_recorded);
+        let has_figures = has_figures(rt, alloc, steps, &[64], workers, ends);
+        report.holds("its figures are those of its history", has_figures);
+    }
+    let are_handed_on = matches!(are_handed_on(alloc), Ok(true));
+    report.holds("tickets that are offered are taken", are_handed_on);
 }
 
 /// Whether one worker alone ends its strands as is said, in a module that fills their pages and in a loop that goes past their limit.
-fn answer_ends<R: AllocGlobal + Files + Threads + Wait + Clock + Sync>(
+pub fn answer_ends<R: Threads + Wait + Clock + Sync>(
     rt: &R,
-    state: RandomState,
+    alloc: Global,
+    pages: &Verified,
+    long: &Verified,
     report: &mut Report,
-) -> io::Result<()> {
-    let alloc = rt.alloc();
-    let pages = verified_file(rt, state, "modules/pages.ll")?;
+) {
     // It stores into 513 pages, and a strand has 512.
     let ends = Ends {
         full_logs: 1,
         limits: 0,
     };
-    let is_full = has_figures(rt, alloc, &pages, &[], 1, &ends);
+    let is_full = has_figures(rt, alloc, pages, &[], 1, ends);
     report.holds("a strand ends before a page too many", is_full);
-    let long = verified_file(rt, state, "modules/long-loop.ll")?;
     // 200,005 instructions are three strands of 65,536 and one of 3,397.
     let ends = Ends {
         full_logs: 0,
         limits: 3,
     };
-    let is_long = has_figures(rt, alloc, &long, &[50_000], 1, &ends);
+    let is_long = has_figures(rt, alloc, long, &[50_000], 1, ends);
     report.holds("and at its most instructions", is_long);
-    Ok(())
-}
-
-/// Answers the cases of runs that are recorded.
-pub fn answer<R: AllocGlobal + Files + Threads + Wait + Clock + Sync>(
-    rt: &R,
-    state: RandomState,
-    report: &mut Report,
-) -> io::Result<()> {
-    report.title("records");
-    let verified = verified_file(rt, state, "examples/parallel-for.ll")?;
-    for workers in [1usize, 2, 4] {
-        let is_recorded = is_recorded(rt, rt.alloc(), &verified, &[64], workers, (64, 518, 2));
-        report.holds("a recorded run is replayed to its answer", is_recorded);
-        let ends = Ends {
-            full_logs: 0,
-            limits: 0,
-        };
-        let has_figures = has_figures(rt, rt.alloc(), &verified, &[64], workers, &ends);
-        report.holds("its figures are those of its history", has_figures);
-    }
-    answer_ends(rt, state, report)
 }

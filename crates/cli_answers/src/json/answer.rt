@@ -25,10 +25,6 @@ struct Asked<'a> {
     text: &'a [u8],
 }
 
-fn refused_memory<E: Drop>(_error: E) -> io::Error {
-    io::Error::from(AllocError)
-}
-
 /// Writes what was made, and answers the status.
 fn write_made<W: Write>(made: &str, status: Status, output: &mut W) -> io::Result<Status> {
     output.write_all(made.as_bytes())?;
@@ -55,7 +51,9 @@ impl Asked<'_> {
                 beside,
             )?;
         }
-        let made = refusal_json(self.alloc, self.text, *number, *line).map_err(refused_memory)?;
+        let Ok(made) = refusal_json(self.alloc, self.text, *number, *line) else {
+            return Err(io::Error::from(AllocError));
+        };
         write_made(made.as_str(), Status::Refused, output)
     }
 
@@ -72,13 +70,13 @@ impl Asked<'_> {
     }
 
     fn answer_known<W: Write>(self, verified: &Verified, output: &mut W) -> io::Result<Status> {
-        match show(self.alloc, self.state, self.text, verified) {
-            Ok(shown) => {
-                let made = known_json(self.alloc, shown.as_str()).map_err(refused_memory)?;
-                write_made(made.as_str(), Status::Done, output)
-            }
-            Err(_) => stop_for_memory(output),
-        }
+        let Ok(shown) = show(self.alloc, self.state, self.text, verified) else {
+            return stop_for_memory(output);
+        };
+        let Ok(made) = known_json(self.alloc, shown.as_str()) else {
+            return Err(io::Error::from(AllocError));
+        };
+        write_made(made.as_str(), Status::Done, output)
     }
 
     /// The verdict, or what is known by block.
@@ -129,11 +127,13 @@ impl Asked<'_> {
         output: &mut W,
         beside: &mut Beside,
     ) -> io::Result<Status> {
-        let explanation = explain(self.alloc, self.state, self.text, effort).map_err(
-            refused_memory,
-        )?;
+        let Ok(explanation) = explain(self.alloc, self.state, self.text, effort) else {
+            return Err(io::Error::from(AllocError));
+        };
         self.note_explained(&explanation, beside)?;
-        let made = explanation_json(self.alloc, self.text, &explanation).map_err(refused_memory)?;
+        let Ok(made) = explanation_json(self.alloc, self.text, &explanation) else {
+            return Err(io::Error::from(AllocError));
+        };
         write_made(made.as_str(), status_of(&explanation), output)
     }
 }

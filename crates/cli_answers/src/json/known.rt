@@ -6,7 +6,7 @@ use std::alloc::{AllocError, Global};
 use std::mem;
 
 /// What stands around the line of a function or a block.
-#[derive(Clone, Copy, PartialEq, Eq)]
+#[derive(Clone, Copy)]
 enum Inside {
     Module,
     Function,
@@ -83,10 +83,10 @@ impl Reading {
 
     /// Closes what is open, down to the module.
     fn close(&mut self) -> Result<(), AllocError> {
-        if self.inside == Inside::Block {
+        if matches!(self.inside, Inside::Block) {
             self.close_block()?;
         }
-        if self.inside != Inside::Module {
+        if !matches!(self.inside, Inside::Module) {
             self.out.push_str("]}");
         }
         self.inside = Inside::Module;
@@ -108,7 +108,7 @@ impl Reading {
 
     /// `block %b line 3`
     fn block(&mut self, rest: &str) -> Result<(), AllocError> {
-        if self.inside == Inside::Block {
+        if matches!(self.inside, Inside::Block) {
             self.close_block()?;
         }
         let (label, line) = rest.split_once(" line ").unwrap_or((rest, "0"));

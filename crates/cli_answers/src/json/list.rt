@@ -3,7 +3,7 @@
 use lists::TextBuffer;
 use std::alloc::{AllocError, Global};
 use std::fmt;
-use view_events::quoted;
+use view_module::quoted;
 
 /// A text, printed as JSON spells it. Where memory is refused for that, nothing is printed, and the print says so.
 #[derive(Clone, Copy)]

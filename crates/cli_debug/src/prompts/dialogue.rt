@@ -9,13 +9,6 @@ use std::alloc::AllocError;
 use std::io;
 use std::io::{BufRead, BufReader, Read, Write};
 
-/// Whether the dialogue goes on.
-#[derive(Clone, Copy, PartialEq, Eq)]
-enum Goes {
-    On,
-    Away,
-}
-
 /// What is said where a command does not find what it looks for.
 fn note_of(command: &Command<'_>) -> &'static str {
     match command {
@@ -24,6 +17,12 @@ fn note_of(command: &Command<'_>) -> &'static str {
         Command::Until(_) => "it does not end before the schedule does",
         _ => "no worker comes to that line any more: this is the end",
     }
+}
+
+/// A position that is there is found, where memory was not refused.
+fn arrived(gone: Result<(), OutOfMemory>) -> Result<bool, OutOfMemory> {
+    gone?;
+    Ok(true)
 }
 
 impl Session<'_, '_> {
@@ -37,40 +36,19 @@ impl Session<'_, '_> {
         self.push_workers(out);
     }
 
-    /// Goes to the position that a command names; false where it names none.
-    fn step(&mut self, command: &Command<'_>) -> Result<bool, OutOfMemory> {
-        let gone = match command {
-            Command::To(position) => self.debugger.to(*position as usize),
-            Command::Forward => self.debugger.forward(),
-            Command::Back => self.debugger.back(),
-            _ => return Ok(false),
-        };
-        gone?;
-        Ok(true)
-    }
-
-    /// Goes on to what a command looks for, and says whether it is found; none where the command looks for nothing.
-    fn seek(&mut self, command: &Command<'_>) -> Result<Option<bool>, OutOfMemory> {
+    /// Goes where a command asks to; false where it does not ask to go.
+    fn go(&mut self, out: &mut TextBuffer, command: &Command<'_>) -> Result<bool, OutOfMemory> {
         let found = match command {
+            Command::To(position) => arrived(self.debugger.to(*position as usize)),
+            Command::Forward => arrived(self.debugger.forward()),
+            Command::Back => arrived(self.debugger.back()),
             Command::Next(worker) => self.go_next(*worker),
             Command::Over(worker) => self.go_over(*worker),
             Command::Until(path) => self.go_to_end(path),
             Command::Break(line) => self.go_to_line(*line),
-            _ => return Ok(None),
+            _ => return Ok(false),
         };
-        Ok(Some(found?))
-    }
-
-    /// Goes where a command asks to; false where it does not ask to go.
-    fn go(&mut self, out: &mut TextBuffer, command: &Command<'_>) -> Result<bool, OutOfMemory> {
-        if self.step(command)? {
-            self.push_arrival(out, true, "");
-            return Ok(true);
-        }
-        let Some(is_found) = self.seek(command)? else {
-            return Ok(false);
-        };
-        self.push_arrival(out, is_found, note_of(command));
+        self.push_arrival(out, found?, note_of(command));
         Ok(true)
     }
 
@@ -93,67 +71,57 @@ impl Session<'_, '_> {
         Ok(())
     }
 
-    /// Obeys a line.
-    fn obey(&mut self, out: &mut TextBuffer, line: &str) -> Result<Goes, OutOfMemory> {
+    /// Obeys a line; false where the dialogue ends.
+    fn obey(&mut self, out: &mut TextBuffer, line: &str) -> Result<bool, OutOfMemory> {
         let command = read_command(self.alloc, line)?;
         if matches!(&command, Command::Quit) {
-            return Ok(Goes::Away);
+            return Ok(false);
         }
         if !self.go(out, &command)? {
             self.show(out, &command)?;
         }
-        Ok(Goes::On)
+        Ok(true)
     }
 
-    /// Writes the prompt.
-    fn prompt<W: Write>(&self, output: &mut W) -> io::Result<()> {
-        let position = self.debugger.position();
-        let length = self.debugger.len();
-        write!(output, "{position}/{length}> ")?;
-        output.flush()
-    }
-
-    /// Obeys a line, and writes the answer.
-    fn answer_text<W: Write>(&mut self, line: &str, output: &mut W) -> io::Result<Goes> {
-        let mut out = TextBuffer::new(self.alloc);
-        let Ok(goes) = self.obey(&mut out, line) else {
-            return Err(io::Error::from(AllocError));
-        };
-        output.write_all(out.finish()?.as_bytes())?;
-        Ok(goes)
-    }
-
-    /// Answers a line; an empty one asks for the last again.
+    /// Answers a line, and says whether the dialogue goes on; an empty line asks for the last again.
     fn answer<W: Write>(
         &mut self,
         line: &[u8],
         last: &mut String,
         output: &mut W,
-    ) -> io::Result<Goes> {
+    ) -> io::Result<bool> {
         let text = str::from_utf8(line).unwrap_or("?").trim();
         if !text.is_empty() {
             last.clear();
             last.push_str(text)?;
         }
         if last.is_empty() {
-            return Ok(Goes::On);
+            return Ok(true);
         }
-        self.answer_text(last.as_str(), output)
+        let mut out = TextBuffer::new(self.alloc);
+        let Ok(goes_on) = self.obey(&mut out, last.as_str()) else {
+            return Err(io::Error::from(AllocError));
+        };
+        output.write_all(out.finish()?.as_bytes())?;
+        Ok(goes_on)
     }
 
-    /// Reads the next line and answers it.
+    /// Writes the prompt, reads the next line and answers it; false where the dialogue ends.
     fn answer_next<B: BufRead, W: Write>(
         &mut self,
         input: &mut B,
         line: &mut Vec<u8>,
         last: &mut String,
         output: &mut W,
-    ) -> io::Result<Goes> {
-        self.prompt(output)?;
+    ) -> io::Result<bool> {
+        let position = self.debugger.position();
+        let length = self.debugger.len();
+        write!(output, "{position}/{length}> ")?;
+        output.flush()?;
         line.clear();
         if input.read_until(b'\n', line)? == 0 {
             output.write_all(b"\n")?;
-            return Ok(Goes::Away);
+            return Ok(false);
         }
         self.answer(line.as_slice(), last, output)
     }
@@ -172,8 +140,7 @@ pub fn converse<R: Read + Drop, W: Write>(
     let mut last = String::new(alloc);
     output.write_all(b"help lists the commands\n")?;
     for _line in 0..u64::MAX {
-        let goes = session.answer_next(&mut input, &mut line, &mut last, output)?;
-        if goes == Goes::Away {
+        if !session.answer_next(&mut input, &mut line, &mut last, output)? {
             return output.flush();
         }
     }

@@ -5,8 +5,8 @@ use crate::prompts::values::registers_with_values;
 use debugger::Frame;
 use frame::{Path, Role};
 use lists::{OutOfMemory, TextBuffer};
-use view_events::ThingName;
-use view_run::{Objects, Settings, Value};
+use view_events::{Settings, ThingName, Value};
+use view_run::Objects;
 
 impl Session<'_, '_> {
     /// Where the objects stand at this position.

@@ -7,8 +7,7 @@ use debugger::{Debugger, Event, TaskView, Verified};
 use frame::Path;
 use lists::{OutOfMemory, TextBuffer};
 use std::alloc::Global;
-use view_events::Names;
-use view_run::TaskName;
+use view_events::{Names, TaskName};
 
 /// A debugger, with the texts that people see.
 #[derive(Drop)]

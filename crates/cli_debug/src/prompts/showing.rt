@@ -5,7 +5,7 @@ use crate::prompts::session::{Session, push_event};
 use debugger::{FrameView, Status, TaskView};
 use frame::Path;
 use lists::{OutOfMemory, TextBuffer};
-use view_run::TaskName;
+use view_events::TaskName;
 
 /// The most cells that one command shows of an object.
 const MOST_CELLS: u64 = 64;

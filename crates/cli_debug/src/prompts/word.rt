@@ -1,7 +1,7 @@
 //! The words of commands.
 
 /// The word that a command begins with.
-#[derive(Clone, Copy, PartialEq, Eq)]
+#[derive(Clone, Copy)]
 pub enum Word {
     To,
     Forward,

@@ -14,6 +14,7 @@ use ir_instruction::{
     global_at, is_mark, mark_at, parameters_at, phi_at, result_type_at, store_at, terminator_at,
     word_at,
 };
+use ir_lex::is_text;
 use lists::{Name, Seq};
 use std::alloc;
 use syntax::{Global, Instruction, Parameter};
@@ -111,9 +112,9 @@ fn worded_definition_at(
 ) -> Result<Item, LineFault>
     ensures { Gives (λ made. made) result (worded_definition line register word.now symbols.now) }
 {
-    if word == b"phi".as_slice() {
+    if is_text(word, b"phi") {
         phi_item_at(alloc, register, line, symbols)
-    } else if word == b"call".as_slice() {
+    } else if is_text(word, b"call") {
         as_item(call_at(alloc, register, symbols))
     } else {
         as_item(fixed_at(register, word, symbols))
@@ -168,13 +169,13 @@ fn terminator_item_at(
 fn worded_at(alloc: alloc::Global, word: &[u8], symbols: &[Symbol]) -> Result<Item, LineFault>
     ensures { Gives (λ made. made) result (worded word.now symbols.now) }
 {
-    if word == b"define".as_slice() {
+    if is_text(word, b"define") {
         define_at(alloc, symbols)
-    } else if word == b"store".as_slice() {
+    } else if is_text(word, b"store") {
         as_item(store_at(symbols))
-    } else if word == b"atomicrmw".as_slice() {
+    } else if is_text(word, b"atomicrmw") {
         as_item(atomic_at(symbols))
-    } else if word == b"call".as_slice() {
+    } else if is_text(word, b"call") {
         as_item(call_void_at(alloc, symbols))
     } else {
         terminator_item_at(alloc, word, symbols)

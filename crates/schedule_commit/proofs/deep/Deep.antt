@@ -17,7 +17,7 @@ use Rattle.frame_engine.specs.declared.activation.Places.{Places}
 use Rattle.frame_engine.specs.Flat.{cell_in}
 use Rattle.frame_engine.specs.Shows.{IsIn, Layout, address}
 use Rattle.frame.specs.Reading.{wait_of}
-use Rattle.private_stack.specs.pages.Tables.{log_of}
+use Rattle.private_stack.specs.stack_pages.Tables.{log_of}
 use Rattle.schedule_commit.proofs.frame_strand.Beginning.{copy_back, copy_shows}
 use Rattle.schedule_workers.specs.declared.activation.Activation.{Activation}
 use Rattle.schedule_workers.specs.declared.run.Run.{Run}

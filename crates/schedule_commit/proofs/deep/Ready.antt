@@ -16,7 +16,7 @@ use Rattle.frame_engine.specs.declared.activation.Places.{Places}
 use Rattle.frame_engine.specs.Flat.{is_cell}
 use Rattle.frame_engine.specs.Shows.{Layout}
 use Rattle.schedule_commit.specs.frame_strand.declared.cells.Change.{Change}
-use Rattle.private_stack.specs.pages.Tables.{log_of}
+use Rattle.private_stack.specs.stack_pages.Tables.{log_of}
 use Rattle.schedule_workers.specs.declared.activation.Activation.{Activation}
 use Rattle.schedule_workers.specs.declared.run.Run.{Run}
 use Rattle.schedule_workers.specs.Scheduling.{counted_in}

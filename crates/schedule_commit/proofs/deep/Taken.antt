@@ -13,7 +13,7 @@ use Rattle.cactus.specs.Chain.{AddsChain, GrowsChain}
 use Rattle.frame_engine.specs.declared.activation.Frame.{Frame}
 use Rattle.frame_engine.specs.declared.activation.Places.{Places}
 use Rattle.frame_engine.specs.Flat.{is_cell}
-use Rattle.private_stack.specs.pages.Tables.{log_of}
+use Rattle.private_stack.specs.stack_pages.Tables.{log_of}
 use Rattle.schedule_workers.specs.declared.activation.Activation.{Activation}
 use Rattle.schedule_workers.specs.declared.run.Run.{Run}
 use Rattle.schedule_workers.specs.Follows.{Follows}

@@ -8,8 +8,8 @@ use Rattle.schedule_workers.specs.declared.run.Block.{Block}
 use Rattle.schedule_workers.specs.declared.run.Run.{Run}
 use Rattle.schedule_workers.specs.Lent.{IsFree}
 use Rattle.schedule_workers.specs.Scheduling.{counted_in, hand_of}
-use Rattle.private_stack.specs.pages.Committing.{Agrees}
-use Rattle.private_stack.specs.pages.Tables.{log_of}
+use Rattle.private_stack.specs.stack_pages.Committing.{Agrees}
+use Rattle.private_stack.specs.stack_pages.Tables.{log_of}
 use Rattle.program.specs.declared.function.Program.{Program}
 use Rattle.private_stack.specs.declared.cells.PileCells.{PileCells}
 use Rattle.private_stack.specs.declared.pile.Pile.{Pile}

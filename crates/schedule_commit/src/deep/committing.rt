@@ -7,7 +7,7 @@ ghost use Rattle.schedule_workers.specs.declared.activation.Activation.{Activati
 ghost use Rattle.schedule_workers.specs.Scheduling.{counted_in};
 ghost use Rattle.frame_engine.specs.declared.activation.Frame.{Frame as ShownFrame};
 ghost use Rattle.frame_engine.specs.Flat.{is_cell};
-ghost use Rattle.private_stack.specs.pages.Tables.{log_of};
+ghost use Rattle.private_stack.specs.stack_pages.Tables.{log_of};
 ghost use Rattle.schedule_commit.specs.deep.Committing.{IsBase, IsCommitted, MayCount, last_of, linked_up, waiting_at};
 ghost use Rattle.schedule_commit.specs.deep.Linking.{frames_of};
 

@@ -1,8 +1,16 @@
-use Rattle.std.proofs.Common.{◌∙◌, append_assoc}
-use Rattle.std.proofs.lemmas.Result.{on_ok_weaker}
+use Rattle.std.proofs.Common.{◌++◌}
+use Rattle.std.specs.Prelude.{string_bytes, codes}
+use Rattle.ir_spelling.specs.Spelling.{arguments_text}
 use Rattle.ir_spelling.specs.InstructionText.{call_text}
+use Rattle.ir_spelling.proofs.Grouped.{call_ends}
+use Rattle.ir_spelling.proofs.Pushed.{pushed}
 use Rattle.ir_spelling.proofs.instruction_text.push_call.Goals as goal
 
 pub returns : goal.returns
 unfolding call_text
-returns c = on_ok_weaker c.push_callee.result (λ h. h ∙ rw (c.in_ok-push_str.ensures.bytes, c.in_ok-push_register.ensures) (simp append_assoc)) c.push_callee.ensures
+returns c =
+    pushed c.push_str.result (string_bytes c.push_str.new.self) (string_bytes c.push_arguments.new.out) (codes ")")
+    (string_bytes c.args.out.now ++ call_text c.args.register.now c.args.callee.now c.args.arguments.now) c.push_str.ensures.bytes
+    (rw (c.in_ok-push_arguments.ensures, c.in_ok-push_pieces.ensures)
+    (call_ends (string_bytes c.args.out.now) (codes "%") c.args.register.now (codes " = call i64 @")
+    c.args.callee.now (codes "(") (arguments_text c.args.arguments.now) (codes ")")))

@@ -11,6 +11,6 @@ returns c =
     let fits_less : FitsSigned w128 c.one_less.result = search rules in
     let opposite = rw (to_z-of_z w64 c.args.divisor fits) at c.opposite.ensures in
     let less = rw (to_z-of_z w64 c.args.divisor fits) at c.one_less.ensures in
-    let first = rw (to_z-of_z w64 c.opposite.result fits_opposite, opposite) at c.in_ok-two.ensures in
-    let second = rw (to_z-of_z w128 c.one_less.result fits_less, less, to_z-of_z w64 c.args.divisor fits) at c.in_ok-two-2.ensures in
-    rw (c.in_ok-push-3.ensures.items, c.in_ok-push-2.ensures.items, c.in_ok-push.ensures.items, first, second, c.in_ok-one.ensures) (simp append_assoc)
+    let first = rw (to_z-of_z w64 c.opposite.result fits_opposite, opposite) at c.in_ok-push_two.ensures in
+    let second = rw (to_z-of_z w128 c.one_less.result fits_less, less, to_z-of_z w64 c.args.divisor fits) at c.in_ok-push_two-2.ensures in
+    rw (c.in_ok-push_one.ensures, second, first) (simp append_assoc)

@@ -1,10 +1,7 @@
-use Rattle.std.proofs.Common.{◌≡◌, None, false, true, sym, subst}
-use Rattle.std.specs.Prelude.{ℤ}
-use Rattle.private_stack.specs.OwnCells.{own_cell}
-use Rattle.private_stack.specs.declared.cells.PileCells.{PileCells}
-use Rattle.private_stack.specs.pages.Logs.{Log, has_place, is_open}
-use Rattle.private_stack.specs.pages.Tables.{Table, log_of}
-use Rattle.private_stack.proofs.pages.Opening.{opened, reserved_wider}
+use Rattle.std.proofs.Common.{◌≡◌, false, true, sym, subst}
+use Rattle.stack_pages.specs.Logs.{Log, has_place, is_open}
+use Rattle.stack_pages.specs.Tables.{Table, log_of}
+use Rattle.stack_pages.proofs.Opening.{opened, reserved_wider}
 use Rattle.private_stack.proofs.cells.PileCells.open.Goals as goal
 
 pub returns-in-None-clause-wider : goal.returns-in-None-clause-wider

@@ -1,12 +1,12 @@
-use Rattle.std.proofs.Common.{◌≡◌, ◌<◌, ◌+◌, ◌∙◌, ℕ, ℤ, pos, ◌+ℤ◌, ap, sym, subst, below_more}
+use Rattle.std.proofs.Common.{◌∙◌, ℤ, pos, ◌+ℤ◌, ap, subst, below_more}
 use Rattle.std.specs.Int.{w64}
 use mir.Val.{to_z}
 use Rattle.semantics.specs.Arithmetic.{wrapped}
 use Rattle.syntax.specs.declared.operator.Width.TheVariants.{Bits64}
 use Rattle.frame_engine.proofs.Bits.{written}
 use Rattle.frame_engine.proofs.Zeroing.{one_further}
-use Rattle.private_stack.specs.pages.Tables.{log_of}
-use Rattle.private_stack.proofs.pages.Opening.{wider_on}
+use Rattle.stack_pages.specs.Tables.{log_of}
+use Rattle.stack_pages.proofs.Opening.{wider_on}
 use Rattle.private_stack.specs.OwnCells.{CanStore}
 use Rattle.private_stack.specs.declared.cells.PileCells.{PileCells}
 use Rattle.private_stack.proofs.Opened.{still_can}

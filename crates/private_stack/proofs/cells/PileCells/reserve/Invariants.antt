@@ -1,8 +1,8 @@
 use Rattle.std.proofs.Common.{◌≡◌, ◌<◌, ℕ, pos, ◌+ℤ◌}
 use Rattle.semantics.specs.Arithmetic.{wrapped}
 use Rattle.syntax.specs.declared.operator.Width.TheVariants.{Bits64}
-use Rattle.private_stack.specs.pages.Logs.{IsWider}
-use Rattle.private_stack.specs.pages.Tables.{log_of}
+use Rattle.stack_pages.specs.Logs.{IsWider}
+use Rattle.stack_pages.specs.Tables.{log_of}
 use Rattle.private_stack.specs.OwnCells.{CanStore}
 use Rattle.private_stack.proofs.cells.PileCells.reserve.Given as goal
 

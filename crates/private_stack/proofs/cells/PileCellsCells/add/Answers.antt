@@ -6,8 +6,8 @@ use mir.Val.{to_z, of_z}
 use Rattle.semantics.specs.Arithmetic.{cell_sum}
 use Rattle.frame_engine.specs.Access.{Adds}
 use Rattle.private_stack.specs.frame_strand.declared.cells.Stop.{Stop}
-use Rattle.private_stack.specs.pages.Accessing.{CellHolds}
-use Rattle.private_stack.specs.pages.Tables.{Table}
+use Rattle.stack_pages.specs.Accessing.{CellHolds}
+use Rattle.stack_pages.specs.Tables.{Table}
 use Rattle.private_stack.specs.OwnCells.{IsOwnPut, may_be, own_cell}
 use Rattle.private_stack.specs.declared.cells.PileCells.{PileCells}
 use Rattle.private_stack.proofs.Putting.{log_holds, log_others, log_value, own_does, own_place, own_put, own_sum, put_others}

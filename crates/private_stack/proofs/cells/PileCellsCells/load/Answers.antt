@@ -3,7 +3,7 @@ use Rattle.std.specs.Prelude.{Result, Ok, Err, IfOk}
 use Rattle.std.proofs.lemmas.Int.{to_z-of_z}
 use mir.Val.{to_z, of_z}
 use Rattle.private_stack.specs.frame_strand.declared.cells.Stop.{Stop}
-use Rattle.private_stack.specs.pages.Accessing.{CellHolds}
+use Rattle.stack_pages.specs.Accessing.{CellHolds}
 use Rattle.private_stack.specs.OwnCells.{may_be, own_cell}
 use Rattle.private_stack.specs.declared.cells.PileCells.{PileCells}
 use Rattle.private_stack.proofs.Putting.{log_others, log_value}

@@ -5,8 +5,8 @@ use Rattle.std.proofs.lemmas.Int.{to_z-of_z}
 use mir.Val.{to_z, of_z}
 use Rattle.frame_engine.specs.Access.{Stores}
 use Rattle.private_stack.specs.frame_strand.declared.cells.Stop.{Stop}
-use Rattle.private_stack.specs.pages.Accessing.{TableDoes}
-use Rattle.private_stack.specs.pages.Tables.{Table}
+use Rattle.stack_pages.specs.Accessing.{TableDoes}
+use Rattle.stack_pages.specs.Tables.{Table}
 use Rattle.private_stack.specs.OwnCells.{CellsDo, IsOwnPut, own_cell}
 use Rattle.private_stack.specs.declared.cells.PileCells.{PileCells}
 use Rattle.private_stack.proofs.Putting.{log_does, log_others, own_does, own_holds, own_put, own_there, put_others}

@@ -2,8 +2,8 @@ use Rattle.std.proofs.Common.{◌≡◌, ◌∙◌, List, ℤ, sym, ap, subst, S
 use Rattle.std.specs.Option.{option_copied}
 use Rattle.cactus.specs.declared.node.Node.{Node}
 use Rattle.cactus.specs.Frames.{node_at}
-use Rattle.private_stack.specs.pages.Committing.{Agrees}
-use Rattle.private_stack.specs.pages.Tables.{log_of}
+use Rattle.private_stack.specs.stack_pages.Committing.{Agrees}
+use Rattle.private_stack.specs.stack_pages.Tables.{log_of}
 use Rattle.schedule_commit.specs.frame_strand.Standing.{IsCopy}
 use Rattle.schedule_workers.specs.declared.activation.Activation.{Activation}
 use Rattle.schedule_workers.specs.declared.run.Block.{Block}

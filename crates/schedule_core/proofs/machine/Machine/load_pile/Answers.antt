@@ -6,7 +6,7 @@ use Rattle.program.specs.declared.function.Program.{Program}
 use Rattle.schedule_workers.specs.declared.run.Block.{Block}
 use Rattle.schedule_workers.specs.Lent.{IsFree, IsPartFor}
 use Rattle.schedule_workers.specs.Scheduling.{hand_of}
-use Rattle.schedule_commit.specs.private_stack.pages.Logs.{Log}
+use Rattle.schedule_commit.specs.private_stack.stack_pages.Logs.{Log}
 use Rattle.schedule_commit.specs.private_stack.Along.{MayBegin}
 use Rattle.schedule_commit.specs.private_stack.Layouts.{Segment}
 use Rattle.schedule_commit.specs.deep.Fitting.{HasNoChild, segment_block}

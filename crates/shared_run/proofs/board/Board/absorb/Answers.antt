@@ -34,7 +34,7 @@ invariant_of-self-in-Ok-true g c =
     let n = steps_in x.pause x.course.done in
     let absorbs = c.in-Ok-true.ensures.does (ap Ok c.in-Ok-true.field-0-test) in
     let more : c.push_steps.new.self.events ≡ events ++ replicate n (Step w) =
-    c.push_steps.ensures ∙ (ap (λ xs. xs ++ replicate c.steps_of-count.result (Step w)) c.reserve.ensures.events ∙ ap (λ k. events ++ replicate k (Step w)) c.steps_of-count.ensures) in
+    c.push_steps.ensures.events ∙ (ap (λ xs. xs ++ replicate c.steps_of-count.result (Step w)) c.reserve.ensures.events ∙ ap (λ k. events ++ replicate k (Step w)) c.steps_of-count.ensures) in
     let count = ap length more in (
       legal_steps o events c.self.inside.machine.stage c.self.invariant.0 c.absorb.new.self.stage w n absorbs.steps c.push_steps.new.self.events more,
       omega (arith, count, length-append events (replicate n (Step w)), length-replicate n (Step w), c.add.ensures.total, c.self.invariant.1, c.steps_of-count.ensures),
@@ -49,7 +49,7 @@ returns-in-Ok-true-clause-done g c =
     let x = c.args.strand.now in
     let n = steps_in x.pause x.course.done in
     let more : c.push_steps.new.self.events ≡ events ++ replicate n (Step w) =
-    c.push_steps.ensures ∙ (ap (λ xs. xs ++ replicate c.steps_of-count.result (Step w)) c.reserve.ensures.events ∙ ap (λ k. events ++ replicate k (Step w)) c.steps_of-count.ensures) in
+    c.push_steps.ensures.events ∙ (ap (λ xs. xs ++ replicate c.steps_of-count.result (Step w)) c.reserve.ensures.events ∙ ap (λ k. events ++ replicate k (Step w)) c.steps_of-count.ensures) in
     rw (← c.self.view_is, ← c.seat.view_is) (
       (c.in-Ok-true.ensures.exactly).0 c.in-Ok-true.field-0-test,
       record {

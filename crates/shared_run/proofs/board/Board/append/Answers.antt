@@ -20,7 +20,7 @@ pub invariant_of-self-in-Ok-true : goal.invariant_of-self-in-Ok-true
 invariant_of-self-in-Ok-true g c =
     let o : Origin = origin g.L.Bench.code g.L.Bench.arguments g.L.Bench.memory g.L.Bench.crew in
     let happened = subst (λ (b : Bool). Happens c.self.inside.machine.stage c.apply.new.self.stage (event_of c.args.event) b) c.in-Ok-true.field-0-test c.in-Ok-true.ensures.enabled in
-    let more = c.push.ensures ∙ ap (λ xs. xs ++ c.args.event ∷ []) c.reserve.ensures.events in
+    let more = c.push.ensures.events ∙ ap (λ xs. xs ++ c.args.event ∷ []) c.reserve.ensures.events in
     let count = ap length more in (
       legal_more o c.self.inside.history.events c.self.inside.machine.stage c.self.invariant.0 c.args.event c.push.new.self.events c.apply.new.self.stage more happened
           c.in-Ok-true.ensures.keeps,
@@ -33,7 +33,7 @@ pub returns-in-Ok-true-clause-done : goal.returns-in-Ok-true-clause-done
 returns-in-Ok-true-clause-done g c =
     let o : Origin = origin g.L.Bench.code g.L.Bench.arguments g.L.Bench.memory g.L.Bench.crew in
     let happened = subst (λ (b : Bool). Happens c.self.inside.machine.stage c.apply.new.self.stage (event_of c.args.event) b) c.in-Ok-true.field-0-test c.in-Ok-true.ensures.enabled in
-    let more = c.push.ensures ∙ ap (λ xs. xs ++ c.args.event ∷ []) c.reserve.ensures.events in
+    let more = c.push.ensures.events ∙ ap (λ xs. xs ++ c.args.event ∷ []) c.reserve.ensures.events in
     rw (← c.self.view_is, ← c.seat.view_is) (
       record { start = refl; events = more; share = ap (place c.seat.inside.worker) c.add.ensures.amount },
       done_here o c.self.inside.history.events c.self.inside.machine.stage c.self.invariant.0 c.args.event c.push.new.self.events c.apply.new.self.stage more happened,

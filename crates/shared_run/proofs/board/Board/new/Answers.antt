@@ -16,9 +16,9 @@ invariant_of-result g c =
     let started = c.in_ok-machine.ensures in
     let replays = c.lend.ensures.as_before.replays c.args.verified.now c.args.arguments.now memory c.args.workers [] started.replays in
     let made : IsMadeFor c.args.verified.now memory = subst (λ m. IsMadeFor c.args.verified.now m) (sym c.in_ok-memory.ensures.same) c.requires.made in (
-      legal_begin o own c.new-history.result.events stage same c.new-history.ensures
+      legal_begin o own c.new-history.result.events stage same c.new-history.ensures.events
           (legal_start o stage replays started.admitted.1 c.program-accepted.ensures.accepted started.admitted.0 made),
-      c.open-book.ensures.total ∙ sym (ap length c.new-history.ensures),
+      c.open-book.ensures.total ∙ sym (ap length c.new-history.ensures.events),
       c.in-Ok.ensures.items ∙ c.requires.arguments,
       c.requires.crew,
     )
@@ -32,6 +32,6 @@ returns-clause-begins g c =
     let replays = c.lend.ensures.as_before.replays verified arguments memory workers [] c.in_ok-machine.ensures.replays in
     record {
       start = sym (same_origin _ _ _ _ _ _ _ _ c.requires.code c.requires.arguments c.requires.memory c.requires.crew);
-      events = c.new-history.ensures;
+      events = c.new-history.ensures.events;
       stage = subst (λ m. Replays verified arguments m workers [] c.lend.new.self.stage) c.in_ok-memory.ensures.same replays;
     }

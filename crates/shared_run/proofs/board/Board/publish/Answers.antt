@@ -30,7 +30,7 @@ invariant_of-self-in-Ok-true g c =
     let w = c.seat.inside.worker in
     let n = c.in-Some.pile.now.done in
     let more : c.push_steps.new.self.events ≡ events ++ replicate n (Step w) =
-    c.push_steps.ensures ∙ ap (λ xs. xs ++ replicate n (Step w)) c.reserve.ensures.events in
+    c.push_steps.ensures.events ∙ ap (λ xs. xs ++ replicate n (Step w)) c.reserve.ensures.events in
     let count = ap length more in (
       legal_steps o events c.self.inside.machine.stage c.self.invariant.0 c.absorb_deep.new.self.stage w n (c.in-Ok-true.ensures.does (ap Ok c.in-Ok-true.field-0-test)) c.push_steps.new.self.events more,
       omega (arith, count, length-append events (replicate n (Step w)), length-replicate n (Step w), c.add.ensures.total, c.self.invariant.1),

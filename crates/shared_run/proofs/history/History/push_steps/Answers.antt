@@ -1,15 +1,25 @@
-use Rattle.std.proofs.Common.{arith}
-use Rattle.shared_run.proofs.Runs.{length_steps, steps_again}
+use Rattle.std.proofs.lemmas.List.{length-replicate}
+use Rattle.frame.specs.declared.event.Event.TheVariants as event
+use Rattle.shared_run.specs.declared.history.Entry.TheVariants.{Steps}
+use Rattle.shared_run.proofs.Runs.{grown, told}
 use Rattle.shared_run.proofs.history.History.push_steps.Goals as goal
+use Rattle.shared_run.proofs.history.History.push_steps.Goals.{in-Events, in-Nothing}
 
 pub invariant_of-self : goal.invariant_of-self
 invariant_of-self c =
-    let old = c.self.inside.entries.items in
-    let new = c.push_reserved.new.self.items in
-    let is = steps_again old c.take_steps-before.new.entries.items new c.args.worker c.take_steps-before.result c.args.count c.take_steps-before.ensures.taken c.push_reserved.ensures.items in
-    omega (arith, length_steps old new c.args.worker c.args.count is, c.self.invariant)
-
-pub returns : goal.returns
-returns c =
-    rw (← c.self.view_is)
-    (steps_again c.self.inside.entries.items c.take_steps-before.new.entries.items c.push_reserved.new.self.items c.args.worker c.take_steps-before.result c.args.count c.take_steps-before.ensures.taken c.push_reserved.ensures.items)
+    let entry = Steps c.args.worker c.args.count in
+    let long = length-replicate c.args.count (event.Step c.args.worker) in
+    elim c.match-self.branch [
+      | in-Events w ↦ rw w.self-inside-is
+          (grown c.self.inside.keeping c.self.inside.total c.args.count c.self.inside.entries.items w.keep_steps.new.entries.items c.self.inside.story.items c.and-self-inside.result.items
+          entry
+          c.self.invariant
+          c.and-self-inside.ensures
+          long
+          w.keep_steps.ensures)
+      | in-Nothing w ↦ rw w.self-inside-is
+          (told c.self.inside.keeping c.self.inside.total c.args.count c.self.inside.entries.items c.self.inside.story.items c.and-self-inside.result.items entry c.self.invariant
+          c.and-self-inside.ensures
+          long
+          w.in-Nothing.is)
+    ]

@@ -1,0 +1,14 @@
+pub mod Boards
+pub mod Held
+pub mod Inside
+pub mod Marks
+pub mod Owned
+pub mod OwnedRunBlock
+pub mod OwnedStopBlock
+pub mod OwnedWorkerBlock
+pub mod Replayed
+pub mod Runs
+pub mod Told
+pub mod Until
+pub mod Words
+pub mod hosted

@@ -1,0 +1,445 @@
+//! The calls by which a host runs a module that is kept on threads that it brings, under a lock that it brings.
+
+ghost use Rattle.std.specs.Prelude.{◌≡◌, ◌≢◌, ◌⊎◌, None, Some, length, sum};
+ghost use Rattle.kernel_calls.specs.Boards.{AnswersSerially, AreOfOne, Begins, BeginsAt, HasEnded, HasOtherCellsOfRun, IsFinishHeldStatus, IsFinishStatus};
+ghost use Rattle.kernel_calls.specs.Boards.{IsBegunStatus, IsMadeStatus, IsMeetStatus, IsMetStatus, IsOpenStatus, IsSetStatus, IsShownStatus, IsTurnStatus};
+ghost use Rattle.kernel_calls.specs.Boards.{IsGranted, IsOfRun, IsSpent};
+ghost use Rattle.kernel_calls.specs.Boards.{GoesOn, MayGoOn, OfRun, StandsHeld, StaysHeld, WithMore, idle, work};
+ghost use Rattle.kernel_calls.specs.Replayed.{bad_workers, not_ended};
+ghost use Rattle.kernel_calls.specs.Runs.{machine_of};
+ghost use Rattle.kernel_calls.specs.Told.{Shows, bad_arguments, done, other_cells, out_of_fuel, out_of_memory, sizes_in, stopped};
+ghost use Rattle.kernel_calls.specs.Held.{HasOtherCellsHeld, IsShareStatus, LacksHeld, closed};
+ghost use Rattle.schedule_core.specs.Admission.{IsNumberOfWorkers};
+ghost use Rattle.store.specs.Requirements.{unmet_in};
+ghost use Rattle.kernel_calls.specs.hosted.Hosted.{IsTold};
+ghost use Rattle.kernel_calls.specs.declared.hosted.met.Met.TheVariants as told;
+
+use crate::block::{RunBlock, WorkerBlock};
+use crate::board_handle::{BoardHandle, WorkerHandle};
+use crate::cells::count_cells;
+use crate::handle::Handle;
+use crate::hosted::{Met, Stop};
+use crate::serial::filled;
+use crate::shared::Shared;
+use crate::stop::StopHandle;
+use crate::told::{
+    BAD_ARGUMENTS, BAD_WORKERS, CLOSED, DONE, FOREIGN, IDLE, NOT_ENDED, OTHER_CELLS, OUT_OF_FUEL,
+    OUT_OF_MEMORY, Outcome, STOPPED, WORK, plain_outcome,
+};
+use core::mem::replace_with;
+use std::alloc::Global;
+use std::mem::replace;
+use store::{Finished, RunFault};
+
+/// A run of a module over a row of its globals' numbers, and the outcome that says whether there is one.
+#[tactic(auto, using(crate::proofs::Standing::begins_here))]
+fn begun(
+    alloc: Global,
+    kernel: &Shared,
+    fuel: u64,
+    stop: Stop,
+    arguments: &[i64],
+    cells: &[i64],
+    workers: usize,
+) -> (Outcome, BoardHandle)
+    ensures begins { result.0.status ≡ done → Begins kernel.now arguments.now cells.now workers fuel result.1.run.state }
+    ensures nothing { result.0.status ≢ done → result.1.run.state ≡ None }
+    ensures arguments { result.0.status ≡ bad_arguments → unmet_in kernel.now arguments.now ≡ Some result.0.requirement }
+    ensures workers { result.0.status ≡ bad_workers → ¬ IsNumberOfWorkers workers }
+    ensures cells { result.0.status ≡ other_cells → length cells.now ≢ sum (sizes_in kernel.now) }
+    ensures statuses { IsBegunStatus result.0.status }
+{
+    let none = BoardHandle::closed(alloc);
+    let memory = match filled(alloc, kernel.verified(), cells) {
+        Ok(memory) => memory,
+        Err(status) => return (plain_outcome(status), none),
+    };
+    let Some(own) = kernel.another() else {
+        return (plain_outcome(OUT_OF_MEMORY), none);
+    };
+    match RunBlock::begin(alloc, own, arguments, memory, workers, fuel, stop) {
+        Ok(run) => match Box::new(alloc, run) {
+            Ok(block) => (plain_outcome(DONE), BoardHandle::kept(block)),
+            Err(_) => (plain_outcome(OUT_OF_MEMORY), none),
+        },
+        Err(RunFault::BadArguments { requirement, .. }) => (
+            Outcome {
+                requirement: requirement as u64,
+                ..plain_outcome(BAD_ARGUMENTS)
+            },
+            none,
+        ),
+        Err(RunFault::BadWorkers { .. }) => (plain_outcome(BAD_WORKERS), none),
+        // (Nothing stops it.)
+        Err(RunFault::OutOfMemory | RunFault::Stopped) => (plain_outcome(OUT_OF_MEMORY), none),
+    }
+}
+
+/// Begins a run of the module that is held on so many workers, from the numbers of its globals, with so much fuel. What the board held is given back.
+pub fn open_board(
+    alloc: Global,
+    handle: &mut Handle,
+    fuel: u64,
+    stop: &mut StopHandle,
+    arguments: &[i64],
+    cells: &[i64],
+    workers: usize,
+    outcome: &mut Outcome,
+    board: &mut BoardHandle,
+)
+    ensures begins { outcome.new.status ≡ done → BeginsAt handle.old.kernel.program arguments.now cells.now workers fuel board.new.run.state }
+    ensures nothing { outcome.new.status ≢ done → board.new.run.state ≡ None }
+    ensures arguments { outcome.new.status ≡ bad_arguments → LacksHeld handle.old.kernel.program arguments.now outcome.new.requirement }
+    ensures workers { outcome.new.status ≡ bad_workers → ¬ IsNumberOfWorkers workers }
+    ensures cells { outcome.new.status ≡ other_cells → HasOtherCellsHeld handle.old.kernel.program cells.now }
+    ensures closed { outcome.new.status ≡ closed → handle.old.kernel.program ≡ None }
+    ensures statuses { IsOpenStatus outcome.new.status }
+    ensures same { handle.new.kernel.program ≡ handle.old.kernel.program }
+    ensures stop { stop.new.stop.kept ≡ stop.old.stop.kept }
+{
+    *board = BoardHandle::closed(alloc);
+    let (heard, own) = replace(stop, StopHandle::closed(alloc)).heard(alloc);
+    *stop = own;
+    let Some(heard) = heard else {
+        *outcome = plain_outcome(OUT_OF_MEMORY);
+        return;
+    };
+    match replace(handle, Handle::closed(alloc)).taken() {
+        Some(block) => {
+            let (said, made) = begun(
+                alloc,
+                block.as_ref(),
+                fuel,
+                heard,
+                arguments,
+                cells,
+                workers,
+            );
+            *handle = Handle::kept(block);
+            *outcome = said;
+            *board = made;
+        }
+        None => *outcome = plain_outcome(CLOSED),
+    }
+}
+
+/// A worker of the run, in a handle, and the status.
+fn hired(alloc: Global, run: &RunBlock, number: u8) -> (u32, WorkerHandle)
+    ensures worker { result.0 ≡ done → result.1.worker.program ≡ Some run.now.start.program }
+    ensures nothing { result.0 ≢ done → result.1.worker.program ≡ None }
+    ensures statuses { IsMadeStatus result.0 }
+{
+    match run.worker(alloc, number) {
+        Ok(worker) => match Box::new(alloc, worker) {
+            Ok(made) => (DONE, WorkerHandle::kept(made)),
+            Err(_) => (OUT_OF_MEMORY, WorkerHandle::closed(alloc)),
+        },
+        Err(_) => (OUT_OF_MEMORY, WorkerHandle::closed(alloc)),
+    }
+}
+
+/// Makes the run's worker of this number, from 0. What the worker held is given back.
+pub fn open_worker(
+    alloc: Global,
+    board: &mut BoardHandle,
+    number: u8,
+    worker: &mut WorkerHandle,
+) -> u32
+    ensures worker { result ≡ done → IsOfRun board.old.run.state worker.new.worker.program }
+    ensures nothing { result ≢ done → worker.new.worker.program ≡ None }
+    ensures closed { result ≡ closed → board.old.run.state ≡ None }
+    ensures same { board.new.run.state ≡ board.old.run.state }
+    ensures statuses { IsShareStatus result }
+{
+    match replace(board, BoardHandle::closed(alloc)).taken() {
+        Some(block) => {
+            let (status, made) = hired(alloc, block.as_ref(), number);
+            *board = BoardHandle::kept(block);
+            *worker = made;
+            status
+        }
+        None => {
+            *worker = WorkerHandle::closed(alloc);
+            CLOSED
+        }
+    }
+}
+
+/// The status of a meeting.
+fn status_of(met: Met) -> u32
+    ensures work { result ≡ work → met ≡ told.Work }
+    ensures idle { result ≡ idle → met ≡ told.Idle }
+    ensures ended { result ≡ done → met ≡ told.Ended }
+    ensures spent { result ≡ out_of_fuel → met ≡ told.OutOfFuel }
+    ensures stopped { result ≡ stopped → met ≡ told.Stopped }
+    ensures statuses { IsMetStatus result }
+{
+    match met {
+        Met::Work => WORK,
+        Met::Idle => IDLE,
+        Met::Ended => DONE,
+        Met::OutOfMemory => OUT_OF_MEMORY,
+        Met::OutOfFuel => OUT_OF_FUEL,
+        Met::Stopped => STOPPED,
+    }
+}
+
+/// The worker meets the board, and stays where it is.
+fn meet_within(
+    worker: WorkerBlock,
+    with: (Global, RunBlock),
+) -> (WorkerBlock, (RunBlock, (Met, usize)))
+    requires { worker ≡ with.1.start.program }
+    ensures worker { result.0 ≡ worker }
+    ensures goes { GoesOn with.1 result.1.0 }
+    ensures told { IsTold (machine_of result.1.0) with.1.fuel result.1.1.0 }
+    ensures stopped { result.1.1.0 ≡ told.Stopped → result.1.0 ≡ with.1 }
+{
+    let (alloc, run) = with;
+    let (run, worker, met) = run.meet(alloc, worker);
+    (worker, (run, met))
+}
+
+/// The board stays where it is too.
+fn meet_beside(
+    run: RunBlock,
+    with: (Global, Box<WorkerBlock>),
+) -> (RunBlock, (Box<WorkerBlock>, (Met, usize)))
+    requires { with.1.value ≡ run.start.program }
+    ensures worker { result.1.0.value ≡ with.1.value }
+    ensures goes { GoesOn run result.0 }
+    ensures told { IsTold (machine_of result.0) run.fuel result.1.1.0 }
+    ensures stopped { result.1.1.0 ≡ told.Stopped → result.0 ≡ run }
+{
+    let (alloc, mut worker) = with;
+    let (run, met) = replace_with(worker.as_mut(), (alloc, run), meet_within);
+    (run, (worker, met))
+}
+
+/// The worker meets the board of its run. It needs no memory for either.
+fn met(
+    alloc: Global,
+    run: Box<RunBlock>,
+    worker: Box<WorkerBlock>,
+) -> (Met, usize, Box<RunBlock>, Box<WorkerBlock>)
+    requires { worker.value ≡ run.value.start.program }
+    ensures worker { result.3.value ≡ worker.value }
+    ensures goes { GoesOn run.value result.2.value }
+    ensures told { IsTold (machine_of result.2.value) run.value.fuel result.0 }
+    ensures stopped { result.0 ≡ told.Stopped → result.2.value ≡ run.value }
+{
+    let mut run = run;
+    let (worker, (met, offered)) = replace_with(run.as_mut(), (alloc, worker), meet_beside);
+    (met, offered, run, worker)
+}
+
+/// The same of what handles held, and the status.
+#[tactic(auto, using(crate::proofs::Standing::works, crate::proofs::Standing::idles, crate::proofs::Standing::spent, crate::proofs::Standing::ended))]
+fn met_in(
+    alloc: Global,
+    run: Box<RunBlock>,
+    worker: Box<WorkerBlock>,
+) -> (u32, usize, BoardHandle, WorkerHandle)
+    requires { worker.value ≡ run.value.start.program }
+    ensures worker { result.3.worker.program ≡ Some worker.value }
+    ensures goes { OfRun result.2.run.state (GoesOn run.value) }
+    ensures work { result.0 ≡ work → OfRun result.2.run.state MayGoOn }
+    ensures idle { result.0 ≡ idle → OfRun result.2.run.state MayGoOn }
+    ensures ended { result.0 ≡ done → OfRun result.2.run.state HasEnded }
+    ensures spent { result.0 ≡ out_of_fuel → OfRun result.2.run.state IsSpent }
+    ensures stopped { result.0 ≡ stopped → result.2.run.state ≡ Some run.value }
+    ensures statuses { IsMetStatus result.0 }
+{
+    if !run.as_ref().has_module_of(worker.as_ref()) {
+        return (
+            FOREIGN,
+            0,
+            BoardHandle::kept(run),
+            WorkerHandle::kept(worker),
+        );
+    }
+    let (met, offered, run, worker) = met(alloc, run, worker);
+    (
+        status_of(met),
+        offered,
+        BoardHandle::kept(run),
+        WorkerHandle::kept(worker),
+    )
+}
+
+/// Does at the board what the worker wants, which is one of this run; the host holds its lock. How many tasks others may take now is written.
+#[tactic(auto, using(crate::proofs::Standing::stays_some, crate::proofs::Standing::stays_none, crate::proofs::Standing::stays_same))]
+pub fn meet_board(
+    alloc: Global,
+    board: &mut BoardHandle,
+    worker: &mut WorkerHandle,
+    offered: &mut usize,
+) -> u32
+    requires { AreOfOne board.old.run.state worker.old.worker.program }
+    ensures run { StaysHeld board.old.run.state board.new.run.state }
+    ensures worker { worker.new.worker.program ≡ worker.old.worker.program }
+    ensures work { result ≡ work → OfRun board.new.run.state MayGoOn }
+    ensures idle { result ≡ idle → OfRun board.new.run.state MayGoOn }
+    ensures ended { result ≡ done → OfRun board.new.run.state HasEnded }
+    ensures spent { result ≡ out_of_fuel → OfRun board.new.run.state IsSpent }
+    ensures stopped { result ≡ stopped → board.new.run.state ≡ board.old.run.state }
+    ensures closed { result ≡ closed → (board.old.run.state ≡ None) ⊎ (worker.old.worker.program ≡ None) }
+    ensures statuses { IsMeetStatus result }
+{
+    *offered = 0;
+    let held = replace(board, BoardHandle::closed(alloc)).taken();
+    let own = replace(worker, WorkerHandle::closed(alloc)).taken();
+    match (held, own) {
+        (Some(run), Some(own)) => {
+            let (status, count, run, own) = met_in(alloc, run, own);
+            *offered = count;
+            *board = run;
+            *worker = own;
+            status
+        }
+        (Some(run), None) => {
+            *board = BoardHandle::kept(run);
+            CLOSED
+        }
+        (None, Some(own)) => {
+            *worker = WorkerHandle::kept(own);
+            CLOSED
+        }
+        (None, None) => CLOSED,
+    }
+}
+
+/// The worker goes on, and stays where it is; and whether the run's stop is set.
+fn turned(worker: WorkerBlock, _with: ()) -> (WorkerBlock, bool)
+    ensures { result.0 ≡ worker }
+{
+    let worker = worker.turn();
+    let is_stopped = worker.is_stopped();
+    (worker, is_stopped)
+}
+
+/// The worker goes on outside of the board, which another worker may meet at the same time.
+pub fn turn_worker(alloc: Global, worker: &mut WorkerHandle) -> u32
+    ensures same { worker.new.worker.program ≡ worker.old.worker.program }
+    ensures closed { result ≡ closed → worker.old.worker.program ≡ None }
+    ensures held { worker.old.worker.program ≡ None → result ≡ closed }
+    ensures statuses { IsTurnStatus result }
+{
+    let Some(own) = replace(worker, WorkerHandle::closed(alloc)).taken() else {
+        return CLOSED;
+    };
+    let mut own = own;
+    let is_stopped = replace_with(own.as_mut(), (), turned);
+    *worker = WorkerHandle::kept(own);
+    if is_stopped { STOPPED } else { DONE }
+}
+
+/// Grants the run more fuel, at most 2^64 - 1 in all.
+pub fn grant_fuel(alloc: Global, board: &mut BoardHandle, more: u64) -> u32
+    ensures granted { result ≡ done → IsGranted more board.old.run.state board.new.run.state }
+    ensures closed { result ≡ closed → board.old.run.state ≡ None }
+    ensures nothing { result ≡ closed → board.new.run.state ≡ None }
+    ensures statuses { IsSetStatus result }
+{
+    let Some(run) = replace(board, BoardHandle::closed(alloc)).taken() else {
+        return CLOSED;
+    };
+    let mut run = run;
+    run.as_mut().grant(more);
+    *board = BoardHandle::kept(run);
+    DONE
+}
+
+/// The row takes the numbers of the globals at the end.
+fn shown(finished: &Finished, cells: &mut [i64]) -> Outcome
+    ensures ran { result.status ≡ done → Shows finished.now cells.new result }
+    ensures kept { result.status ≢ done → cells.new ≡ cells.old }
+    ensures statuses { IsShownStatus result.status }
+{
+    match finished.memory.row() {
+        // (The globals have as many cells as at the start.)
+        Ok(row) if row.len() == cells.len() => {
+            cells.copy_from_slice(row.as_slice());
+            Outcome {
+                result: finished.result,
+                instructions: finished.instructions,
+                peak: finished.peak,
+                ..plain_outcome(DONE)
+            }
+        }
+        _ => plain_outcome(OUT_OF_MEMORY),
+    }
+}
+
+/// The answer of a run that has ended, or the run again.
+#[tactic(auto, using(crate::proofs::Standing::stands_in, crate::proofs::Standing::answers_here))]
+fn finished(alloc: Global, run: Box<RunBlock>, cells: &mut [i64]) -> (Outcome, BoardHandle)
+    ensures answer { result.0.status ≡ done → AnswersSerially (Some run.value) cells.new result.0 }
+    ensures stands { result.0.status ≡ not_ended → StandsHeld (Some run.value) result.0 }
+    ensures other { result.0.status ≡ other_cells → HasOtherCellsOfRun (Some run.value) cells.old }
+    ensures kept { result.0.status ≢ done → cells.new ≡ cells.old }
+    ensures same { (result.0.status ≡ not_ended) ⊎ (result.0.status ≡ other_cells) → result.1.run.state ≡ Some run.value }
+    ensures nothing { result.0.status ≡ done → result.1.run.state ≡ None }
+    ensures lost { result.0.status ≡ out_of_memory → result.1.run.state ≡ None }
+    ensures statuses { IsFinishStatus result.0.status }
+{
+    let mut run = run;
+    let progress = replace_with(run.as_mut(), alloc, RunBlock::look);
+    if !progress.ended {
+        let outcome = Outcome {
+            instructions: progress.instructions,
+            peak: progress.peak,
+            ..plain_outcome(NOT_ENDED)
+        };
+        return (outcome, BoardHandle::kept(run));
+    }
+    if count_cells(run.as_ref().program()) != cells.len() as u64 {
+        return (plain_outcome(OTHER_CELLS), BoardHandle::kept(run));
+    }
+    match Box::into_inner(run).finish(alloc) {
+        Ok(finished) => (shown(&finished, cells), BoardHandle::closed(alloc)),
+        Err(_) => (plain_outcome(OUT_OF_MEMORY), BoardHandle::closed(alloc)),
+    }
+}
+
+/// The answer of a run that has ended, whose board holds nothing then; or how far it has come.
+#[tactic(auto, using(crate::proofs::Standing::answers_held, crate::proofs::Standing::stands_held, crate::proofs::Standing::other_held))]
+pub fn finish_board(
+    alloc: Global,
+    board: &mut BoardHandle,
+    cells: &mut [i64],
+    outcome: &mut Outcome,
+)
+    ensures answer { outcome.new.status ≡ done → AnswersSerially board.old.run.state cells.new outcome.new }
+    ensures stands { outcome.new.status ≡ not_ended → StandsHeld board.old.run.state outcome.new }
+    ensures other { outcome.new.status ≡ other_cells → HasOtherCellsOfRun board.old.run.state cells.old }
+    ensures kept { outcome.new.status ≢ done → cells.new ≡ cells.old }
+    ensures same { (outcome.new.status ≡ not_ended) ⊎ (outcome.new.status ≡ other_cells) → board.new.run.state ≡ board.old.run.state }
+    ensures nothing { outcome.new.status ≡ done → board.new.run.state ≡ None }
+    ensures lost { outcome.new.status ≡ out_of_memory → board.new.run.state ≡ None }
+    ensures closed { outcome.new.status ≡ closed → board.old.run.state ≡ None }
+    ensures statuses { IsFinishHeldStatus outcome.new.status }
+{
+    match replace(board, BoardHandle::closed(alloc)).taken() {
+        Some(run) => {
+            let (said, back) = finished(alloc, run, cells);
+            *outcome = said;
+            *board = back;
+        }
+        None => *outcome = plain_outcome(CLOSED),
+    }
+}
+
+/// Gives back what the board holds.
+pub fn close_board(alloc: Global, board: &mut BoardHandle)
+    ensures { board.new.run.state ≡ None }
+{
+    *board = BoardHandle::closed(alloc);
+}
+
+/// Gives back what the worker holds.
+pub fn close_worker(alloc: Global, worker: &mut WorkerHandle)
+    ensures { worker.new.worker.program ≡ None }
+{
+    *worker = WorkerHandle::closed(alloc);
+}

@@ -1,0 +1,442 @@
+ghost use Rattle.std.specs.Prelude.{◌≡◌, ◌≢◌, ◌+◌, ◌-◌, ◌^◌, ◌<◌, [], Err, IfErr, IfNone, IfOk, IfSome, IsSome, None, OnErr, length, min};
+ghost use Rattle.kernel_calls.specs.hosted.Hosted.{IsProgress, IsTold, RunsFrom, WorksFor, start_of};
+ghost use Rattle.kernel_calls.specs.declared.hosted.met.Met.TheVariants.{Stopped};
+ghost use Rattle.schedule_core.specs.Admission.{IsAdmitted};
+ghost use Rattle.schedule_core.specs.store.Made.{IsMadeFor};
+ghost use Rattle.schedule_workers.specs.Starts.{ArePlaces};
+ghost use Rattle.shared_run.specs.Answer.{IsSerialAnswer, LeadTo};
+ghost use Rattle.shared_run.specs.Resting.{IsAtRest, StaysPut};
+ghost use Rattle.shared_run.specs.Story.{origin, reached};
+
+use crate::hosted::met::{Met, Progress, progress_of, told};
+use crate::hosted::stop::Stop;
+use crate::hosted::worker::{Ears, HostedWorker};
+use lists::OutOfMemory;
+use schedule_core::SharedPlaces;
+use shared_run::{
+    Bench, Board, BoardRest, Event, Finished, Keeping, Memory, RunFault, StackRest, Verified,
+};
+use std::alloc::Global;
+use std::marker::Brand;
+use std::sync::ledger::Blank;
+use strand_turns::{Habits, Met as Served, Offers, meet};
+
+/// A run between two calls of its host.
+pub struct HostedRun {
+    pub(crate) board: BoardRest,
+    pub(crate) places: SharedPlaces,
+    pub(crate) offers: Offers,
+    /// The run is not to go on once it has done so many instructions.
+    pub(crate) fuel: u64,
+    pub(crate) stop: Stop,
+}
+
+/// Written out, so that no crate above proves it anew.
+impl Drop for HostedRun {
+    fn drop(self) {
+        let HostedRun {
+            board: _,
+            places: _,
+            offers: _,
+            fuel: _,
+            stop: _,
+        } = self;
+    }
+}
+
+/// A board before the first event, and where its module's objects begin.
+fn board_as<L: Bench>(
+    alloc: Global,
+    verified: &Verified,
+    arguments: &[i64],
+    memory: Memory,
+    workers: usize,
+    blank: Blank,
+) -> Result<(BoardRest, SharedPlaces), RunFault>
+    requires made { IsMadeFor verified.now memory }
+    requires code { verified.now ≡ L.code }
+    requires arguments { arguments.now ≡ L.arguments }
+    requires memory { memory ≡ L.memory }
+    requires crew { workers ≡ L.crew }
+    requires name { blank.name ≡ L.name }
+    requires parts { blank.parts ≡ L.parts }
+    requires one_each { blank.parts ≡ workers }
+    ensures rests { IfOk result (λ made. IsAtRest (origin L.code L.arguments L.memory L.crew) made.0) }
+    ensures new { IfOk result (λ made. made.0.history.events ≡ []) }
+    ensures places { IfOk result (λ made. ArePlaces L.code made.1) }
+    ensures admitted { IsAdmitted verified.now arguments.now memory workers result }
+    ensures not_stopped { result ≢ Err RunFault.Stopped }
+{
+    let (board, _seats) = Board::<L>::new(
+        alloc,
+        verified,
+        arguments,
+        memory,
+        workers,
+        Keeping::Events,
+        blank,
+    )?;
+    let Ok(places) = board.machine().share_places() else {
+        return Err(RunFault::OutOfMemory);
+    };
+    Ok((board.rest(), places))
+}
+
+/// Tells those who go on outside whether others wait. Where memory was refused to a worker the run cannot go on for any.
+fn note(offers: &mut Offers, served: Served) -> Served {
+    if served == Served::OutOfMemory {
+        offers.starved = true;
+    }
+    offers.tell();
+    if offers.starved {
+        Served::OutOfMemory
+    } else {
+        served
+    }
+}
+
+/// A worker meets the board, where there is fuel.
+#[tactic(auto, using(crate::proofs::hosted::Standing::stands, crate::proofs::hosted::Standing::told_here, crate::proofs::hosted::Standing::ended_here))]
+fn meet_as<L: Bench>(
+    alloc: Global,
+    verified: &Verified,
+    blank: Blank,
+    board: BoardRest,
+    offers: &mut Offers,
+    fuel: u64,
+    places: &SharedPlaces,
+    number: u8,
+    stack: StackRest,
+    habits: &mut Habits,
+) -> (BoardRest, StackRest, (Met, usize))
+    requires code { verified.now ≡ L.code }
+    requires name { blank.name ≡ L.name }
+    requires parts { blank.parts ≡ L.parts }
+    requires one { blank.parts ≡ 1 }
+    requires board { IsAtRest (origin L.code L.arguments L.memory L.crew) board }
+    requires places { ArePlaces verified.now places.now }
+    requires stack { StaysPut verified.now stack }
+    ensures board { IsAtRest (origin L.code L.arguments L.memory L.crew) result.0 }
+    ensures stack { StaysPut L.code result.1 }
+    ensures told { IsTold (reached (origin L.code L.arguments L.memory L.crew) result.0.history.events) fuel result.2.0 }
+    ensures not_stopped { result.2.0 ≢ Stopped }
+{
+    let has_seat = usize::from(number) < board.workers();
+    let own = if has_seat { number } else { 0 };
+    let (mut board, mut seat) = board.wake::<L>(alloc, verified, blank, own);
+    let mut stack = stack.wake::<L>(verified, places.get());
+    let done = board.machine().instructions();
+    let (served, offered) = match told(board.end(), done, fuel, Served::Work) {
+        Met::Work if has_seat => meet(&mut board, offers, &mut seat, &mut stack, habits),
+        _ => (Served::Idle, 0),
+    };
+    let served = note(offers, served);
+    let ended = board.end();
+    let instructions = board.machine().instructions();
+    let met = told(ended, instructions, fuel, served);
+    (board.rest(), stack.rest(), (met, offered))
+}
+
+/// How far a run has come.
+fn look_as<L: Bench>(
+    alloc: Global,
+    verified: &Verified,
+    blank: Blank,
+    board: BoardRest,
+) -> (BoardRest, Progress)
+    requires code { verified.now ≡ L.code }
+    requires name { blank.name ≡ L.name }
+    requires parts { blank.parts ≡ L.parts }
+    requires one { blank.parts ≡ 1 }
+    requires board { IsAtRest (origin L.code L.arguments L.memory L.crew) board }
+    ensures board { IsAtRest (origin L.code L.arguments L.memory L.crew) result.0 }
+    ensures same { result.0.history.events ≡ board.history.events }
+    ensures progress { IsProgress (reached (origin L.code L.arguments L.memory L.crew) result.0.history.events) result.1 }
+{
+    let (board, _seat) = board.wake::<L>(alloc, verified, blank, 0);
+    let ended = board.end();
+    let instructions = board.machine().instructions();
+    let peak = board.machine().peak();
+    let progress = progress_of(ended, instructions, peak);
+    (board.rest(), progress)
+}
+
+/// The events of a run one by one, unless there are more than so many.
+fn events_as<L: Bench>(
+    alloc: Global,
+    verified: &Verified,
+    blank: Blank,
+    board: BoardRest,
+    most: u64,
+) -> (BoardRest, Result<Option<Vec<Event>>, OutOfMemory>)
+    requires code { verified.now ≡ L.code }
+    requires name { blank.name ≡ L.name }
+    requires parts { blank.parts ≡ L.parts }
+    requires one { blank.parts ≡ 1 }
+    requires board { IsAtRest (origin L.code L.arguments L.memory L.crew) board }
+    ensures board { IsAtRest (origin L.code L.arguments L.memory L.crew) result.0 }
+    ensures same { result.0.history.events ≡ board.history.events }
+    ensures events { IfOk result.1 (λ found. IfSome found (λ events. events.items ≡ board.history.events)) }
+    ensures long { IfOk result.1 (λ found. IfNone found (most < length board.history.events)) }
+{
+    let (board, _seat) = board.wake::<L>(alloc, verified, blank, 0);
+    let history = board.history();
+    let events = if most < history.total() {
+        Ok(None)
+    } else {
+        match history.events(alloc) {
+            Ok(events) => Ok(Some(events)),
+            Err(refused) => Err(refused),
+        }
+    };
+    (board.rest(), events)
+}
+
+/// The answer of a run that has ended.
+fn finish_as<L: Bench>(
+    alloc: Global,
+    verified: &Verified,
+    blank: Blank,
+    board: BoardRest,
+) -> Result<Finished, BoardRest>
+    requires code { verified.now ≡ L.code }
+    requires name { blank.name ≡ L.name }
+    requires parts { blank.parts ≡ L.parts }
+    requires one { blank.parts ≡ 1 }
+    requires board { IsAtRest (origin L.code L.arguments L.memory L.crew) board }
+    ensures answer { IfOk result (IsSerialAnswer (origin L.code L.arguments L.memory L.crew)) }
+    ensures replays { IfOk result (LeadTo (origin L.code L.arguments L.memory L.crew) board.history.events) }
+    ensures rests { IfErr result (IsAtRest (origin L.code L.arguments L.memory L.crew)) }
+    ensures same { IfErr result (λ back. back.history.events ≡ board.history.events) }
+    ensures refused { OnErr result ((reached (origin L.code L.arguments L.memory L.crew) board.history.events).core.result ≡ None) }
+{
+    match board.finish::<L>(alloc, verified, blank) {
+        Ok((finished, _history)) => Ok(finished),
+        Err(board) => Err(board),
+    }
+}
+
+impl HostedRun {
+    /// A run of a module, from memory that was made for it, before its first event, with so much fuel.
+    ///
+    /// # Errors
+    ///
+    /// 801 where the arguments are not those of `main`, then 802 where there are not from 1 to 64 workers; both hand the memory back. 803 where memory is
+    /// refused.
+    pub fn begin(
+        alloc: Global,
+        verified: &Verified,
+        arguments: &[i64],
+        memory: Memory,
+        workers: usize,
+        fuel: u64,
+        stop: Stop,
+    ) -> Result<HostedRun, RunFault>
+        requires made { IsMadeFor verified.now memory }
+        ensures runs { IfOk result (RunsFrom (origin verified.now arguments.now memory workers)) }
+        ensures new { IfOk result (λ run. run.board.history.events ≡ []) }
+        ensures fuel { IfOk result (λ run. run.fuel ≡ fuel) }
+        ensures admitted { IsAdmitted verified.now arguments.now memory workers result }
+        ensures not_stopped { result ≢ Err RunFault.Stopped }
+    {
+        let blank = Blank::new(workers as u64);
+        let (board, places) = board_as::<Brand>(
+            alloc, verified, arguments, memory, workers, blank,
+        )?;
+        match Offers::new(alloc, workers) {
+            Ok(offers) => Ok(HostedRun {
+                board,
+                places,
+                offers,
+                fuel,
+                stop,
+            }),
+            Err(OutOfMemory) => Err(RunFault::OutOfMemory),
+        }
+    }
+
+    /// A worker of this number, from 0.
+    ///
+    /// # Errors
+    ///
+    /// Memory was refused.
+    pub fn worker(
+        &self,
+        alloc: Global,
+        verified: &Verified,
+        number: u8,
+    ) -> Result<HostedWorker, OutOfMemory>
+        requires { RunsFrom (start_of verified.now self.now) self.now }
+        ensures works { IfOk result (WorksFor verified.now) }
+        ensures number { IfOk result (λ worker. worker.number ≡ number) }
+    {
+        Ok(HostedWorker {
+            number,
+            places: self.places.share()?,
+            stack: StackRest::new(alloc, verified)?,
+            habits: Habits::new(alloc),
+            ears: Ears {
+                wanted: self.offers.share()?,
+                stop: self.stop.share()?,
+            },
+        })
+    }
+
+    /// A worker meets the board: what it wants is done there, unless the stop is set or the fuel is spent. It is told what to do next, and how many tasks it
+    /// has offered to others. Without a seat it is told that there is no task.
+    pub fn meet(
+        self,
+        alloc: Global,
+        verified: &Verified,
+        worker: HostedWorker,
+    ) -> (HostedRun, HostedWorker, (Met, usize))
+        requires runs { RunsFrom (start_of verified.now self) self }
+        requires works { WorksFor verified.now worker }
+        ensures runs { RunsFrom (start_of verified.now self) result.0 }
+        ensures works { WorksFor verified.now result.1 }
+        ensures number { result.1.number ≡ worker.number }
+        ensures fuel { result.0.fuel ≡ self.fuel }
+        ensures told { IsTold (reached (start_of verified.now self) result.0.board.history.events) self.fuel result.2.0 }
+        ensures stopped { result.2.0 ≡ Stopped → result.0.board.history.events ≡ self.board.history.events }
+        ensures stop { result.2.0 ≡ Stopped → IsSome self.stop.word }
+    {
+        if self.stop.is_set() {
+            return (self, worker, (Met::Stopped, 0));
+        }
+        let HostedRun {
+            board,
+            places,
+            mut offers,
+            fuel,
+            stop,
+        } = self;
+        let (number, own, stack, mut habits, ears) = worker.parts();
+        let (board, stack, met) = meet_as::<Brand>(
+            alloc,
+            verified,
+            Blank::new(1),
+            board,
+            &mut offers,
+            fuel,
+            &places,
+            number,
+            stack,
+            &mut habits,
+        );
+        let run = HostedRun {
+            board,
+            places,
+            offers,
+            fuel,
+            stop,
+        };
+        let worker = HostedWorker {
+            number,
+            places: own,
+            stack,
+            habits,
+            ears,
+        };
+        (run, worker, met)
+    }
+
+    /// Grants more fuel, at most 2^64 - 1 in all.
+    pub fn grant(&mut self, more: u64)
+        ensures fuel { self.new.fuel ≡ min (self.old.fuel + more) (2 ^ 64 - 1) }
+        ensures board { self.new.board ≡ self.old.board }
+        ensures places { self.new.places ≡ self.old.places }
+    {
+        self.fuel = self.fuel.saturating_add(more);
+    }
+
+    /// How far the run has come.
+    pub fn look(self, alloc: Global, verified: &Verified) -> (HostedRun, Progress)
+        requires { RunsFrom (start_of verified.now self) self }
+        ensures runs { RunsFrom (start_of verified.now self) result.0 }
+        ensures fuel { result.0.fuel ≡ self.fuel }
+        ensures same { result.0.board.history.events ≡ self.board.history.events }
+        ensures progress { IsProgress (reached (start_of verified.now self) result.0.board.history.events) result.1 }
+    {
+        let HostedRun {
+            board,
+            places,
+            offers,
+            fuel,
+            stop,
+        } = self;
+        let (board, progress) = look_as::<Brand>(alloc, verified, Blank::new(1), board);
+        let run = HostedRun {
+            board,
+            places,
+            offers,
+            fuel,
+            stop,
+        };
+        (run, progress)
+    }
+
+    /// The events one by one, unless there are more than so many.
+    ///
+    /// # Errors
+    ///
+    /// Memory was refused: it is taken for each event.
+    pub fn events(
+        self,
+        alloc: Global,
+        verified: &Verified,
+        most: u64,
+    ) -> (HostedRun, Result<Option<Vec<Event>>, OutOfMemory>)
+        requires { RunsFrom (start_of verified.now self) self }
+        ensures runs { RunsFrom (start_of verified.now self) result.0 }
+        ensures fuel { result.0.fuel ≡ self.fuel }
+        ensures same { result.0.board.history.events ≡ self.board.history.events }
+        ensures events { IfOk result.1 (λ found. IfSome found (λ events. events.items ≡ self.board.history.events)) }
+        ensures long { IfOk result.1 (λ found. IfNone found (most < length self.board.history.events)) }
+    {
+        let HostedRun {
+            board,
+            places,
+            offers,
+            fuel,
+            stop,
+        } = self;
+        let (board, events) = events_as::<Brand>(alloc, verified, Blank::new(1), board, most);
+        let run = HostedRun {
+            board,
+            places,
+            offers,
+            fuel,
+            stop,
+        };
+        (run, events)
+    }
+
+    /// The answer of a run that has ended; else, where it has not, the run again.
+    pub fn finish(self, alloc: Global, verified: &Verified) -> Result<Finished, HostedRun>
+        requires { RunsFrom (start_of verified.now self) self }
+        ensures answer { IfOk result (IsSerialAnswer (start_of verified.now self)) }
+        ensures replays { IfOk result (LeadTo (start_of verified.now self) self.board.history.events) }
+        ensures runs { IfErr result (RunsFrom (start_of verified.now self)) }
+        ensures fuel { IfErr result (λ run. run.fuel ≡ self.fuel) }
+        ensures same { IfErr result (λ run. run.board.history.events ≡ self.board.history.events) }
+        ensures refused { OnErr result ((reached (start_of verified.now self) self.board.history.events).core.result ≡ None) }
+    {
+        let HostedRun {
+            board,
+            places,
+            offers,
+            fuel,
+            stop,
+        } = self;
+        match finish_as::<Brand>(alloc, verified, Blank::new(1), board) {
+            Ok(finished) => Ok(finished),
+            Err(board) => Err(HostedRun {
+                board,
+                places,
+                offers,
+                fuel,
+                stop,
+            }),
+        }
+    }
+}

@@ -1,0 +1,128 @@
+//! The calls by which a host judges a module once and keeps it.
+
+ghost use Rattle.std.specs.Prelude.{◌≡◌, ◌≢◌, IfSome, None, Some};
+ghost use Rattle.kernel_calls.specs.Told.{IsVerdictStatus, Refuses, done, out_of_effort, out_of_memory, refused, unbounded};
+ghost use Rattle.kernel_calls.specs.Held.{IsShareStatus, Opens, closed};
+
+use crate::handle::Handle;
+use crate::judge::{acceptance, rejection};
+use crate::names::argument_names;
+use crate::prepared::Prepared;
+use crate::seed::{Seed, verify_seeded};
+use crate::shared::Shared;
+use crate::told::{CLOSED, DONE, OUT_OF_MEMORY, Verdict, plain_verdict};
+use lists::Name;
+use std::alloc::Global;
+use std::mem::replace;
+use verifier::Verified;
+
+/// Keeps a module, decoded, with the names of its arguments and its mark, unless memory is refused.
+fn kept(alloc: Global, kernel: Verified, names: Vec<Name>, mark: u64) -> Option<Handle>
+    ensures { IfSome result (λ handle. handle.kernel.program ≡ Some kernel) }
+{
+    let shared = Shared::new(alloc, Prepared::of(alloc, kernel, names, mark)?)?;
+    match Box::new(alloc, shared) {
+        Ok(block) => Some(Handle::kept(block)),
+        Err(_) => None,
+    }
+}
+
+/// The verdict on a text, and the module where it is accepted.
+#[tactic(auto, using(crate::proofs::Bounded::bounded_is))]
+fn opened(alloc: Global, text: &[u8], seed: &Seed, effort: u64) -> (Verdict, Handle)
+    ensures accepted { result.0.status ≡ done → Opens text.now result.0 result.1.kernel.program }
+    ensures refused { result.0.status ≡ refused → Refuses text.now result.0.rule result.0.line }
+    ensures effort { result.0.status ≡ out_of_effort → effort ≢ unbounded }
+    ensures closed { result.0.status ≢ done → result.1.kernel.program ≡ None }
+    ensures statuses { IsVerdictStatus result.0.status }
+{
+    match verify_seeded(alloc, seed, text, effort) {
+        Ok(kernel) => {
+            let verdict = acceptance(&kernel);
+            let Some(names) = argument_names(alloc, seed, text) else {
+                return (plain_verdict(OUT_OF_MEMORY), Handle::closed(alloc));
+            };
+            match kept(alloc, kernel, names, seed.mark_of(text)) {
+                Some(handle) => (verdict, handle),
+                None => (plain_verdict(OUT_OF_MEMORY), Handle::closed(alloc)),
+            }
+        }
+        Err(why) => (rejection(why), Handle::closed(alloc)),
+    }
+}
+
+/// Verifies a module within some effort and keeps it. What the handle held is given back.
+pub fn open_module(
+    alloc: Global,
+    text: &[u8],
+    seed_low: u64,
+    seed_high: u64,
+    effort: u64,
+    verdict: &mut Verdict,
+    handle: &mut Handle,
+)
+    ensures accepted { verdict.new.status ≡ done → Opens text.now verdict.new handle.new.kernel.program }
+    ensures refused { verdict.new.status ≡ refused → Refuses text.now verdict.new.rule verdict.new.line }
+    ensures effort { verdict.new.status ≡ out_of_effort → effort ≢ unbounded }
+    ensures closed { verdict.new.status ≢ done → handle.new.kernel.program ≡ None }
+    ensures statuses { IsVerdictStatus verdict.new.status }
+{
+    let seed = Seed {
+        low: seed_low,
+        high: seed_high,
+    };
+    let (said, made) = opened(alloc, text, &seed, effort);
+    *verdict = said;
+    *handle = made;
+}
+
+/// Another handle on a module, where memory is given and there are not as many as can be counted.
+fn another(alloc: Global, shared: &Shared) -> Option<Handle>
+    ensures { IfSome result (λ handle. handle.kernel.program ≡ Some shared.now) }
+{
+    match Box::new(alloc, shared.another()?) {
+        Ok(block) => Some(Handle::kept(block)),
+        Err(_) => None,
+    }
+}
+
+/// The handle again, another one on what it holds, and the status.
+fn shared(alloc: Global, handle: Handle) -> (Handle, Handle, u32)
+    ensures same { result.0.kernel.program ≡ handle.kernel.program }
+    ensures shared { result.2 ≡ done → result.1.kernel.program ≡ handle.kernel.program }
+    ensures nothing { result.2 ≢ done → result.1.kernel.program ≡ None }
+    ensures closed { result.2 ≡ closed → handle.kernel.program ≡ None }
+    ensures held { handle.kernel.program ≡ None → result.2 ≡ closed }
+    ensures statuses { IsShareStatus result.2 }
+{
+    let Some(block) = handle.taken() else {
+        return (Handle::closed(alloc), Handle::closed(alloc), CLOSED);
+    };
+    match another(alloc, block.as_ref()) {
+        Some(other) => (Handle::kept(block), other, DONE),
+        None => (Handle::kept(block), Handle::closed(alloc), OUT_OF_MEMORY),
+    }
+}
+
+/// Keeps in another handle what this one keeps, so that both can run it at the same time. What the other one held is given back.
+pub fn share_module(alloc: Global, handle: &mut Handle, other: &mut Handle) -> u32
+    ensures same { handle.new.kernel.program ≡ handle.old.kernel.program }
+    ensures shared { result ≡ done → other.new.kernel.program ≡ handle.old.kernel.program }
+    ensures nothing { result ≢ done → other.new.kernel.program ≡ None }
+    ensures closed { result ≡ closed → handle.old.kernel.program ≡ None }
+    ensures held { handle.old.kernel.program ≡ None → result ≡ closed }
+    ensures statuses { IsShareStatus result }
+{
+    let held = replace(handle, Handle::closed(alloc));
+    let (back, made, status) = shared(alloc, held);
+    *handle = back;
+    *other = made;
+    status
+}
+
+/// Gives back what the handle holds.
+pub fn close_module(alloc: Global, handle: &mut Handle)
+    ensures { handle.new.kernel.program ≡ None }
+{
+    *handle = Handle::closed(alloc);
+}

@@ -1,0 +1,141 @@
+//! The call that runs a module that is kept over many rows.
+
+ghost use Rattle.std.specs.Prelude.{◌≡◌, ◌≤◌, ◌+◌, Some, min};
+ghost use Rattle.kernel_calls.specs.Held.{AreRuns, IsRun};
+
+use crate::handle::Handle;
+use crate::hosted::Stop;
+use crate::prepared::Prepared;
+use crate::serial::run_over;
+use crate::stop::StopHandle;
+use crate::told::{CLOSED, OUT_OF_MEMORY, Outcome, plain_outcome};
+use std::alloc::Global;
+use std::mem::replace;
+
+/// Runs a module over one row.
+fn run_row(
+    alloc: Global,
+    kernel: &Prepared,
+    fuel: u64,
+    arguments: &[i64],
+    cells: &mut [i64],
+    stop: &Stop,
+) -> Outcome
+    ensures { IsRun (Some kernel.now) fuel arguments.now cells.old cells.new result }
+{
+    run_over(alloc, kernel, fuel, arguments, cells, stop)
+}
+
+/// Where the numbers of a row end: it has as many as each row, or what is left.
+fn end_of(first: usize, each: usize, all: usize) -> usize
+    requires { first ≤ all }
+    ensures { result ≡ min (first + each) all }
+{
+    first + each.min(all - first)
+}
+
+/// Runs a module once for each outcome, over its part of the arguments and of the cells.
+fn run_rows(
+    alloc: Global,
+    kernel: &Prepared,
+    fuel: u64,
+    stop: &Stop,
+    arguments_each: usize,
+    arguments: &[i64],
+    cells_each: usize,
+    cells: &mut [i64],
+    outcomes: &mut [Outcome],
+)
+    ensures { AreRuns (Some kernel.now) fuel arguments_each cells_each arguments.now cells.old cells.new outcomes.new }
+{
+    let mut argument = 0;
+    let mut cell = 0;
+    for row in 0..outcomes.len() {
+        let argument_end = end_of(argument, arguments_each, arguments.len());
+        let cell_end = end_of(cell, cells_each, cells.len());
+        outcomes[row] = run_row(
+            alloc,
+            kernel,
+            fuel,
+            &arguments[argument..argument_end],
+            &mut cells[cell..cell_end],
+            stop,
+        );
+        argument = argument_end;
+        cell = cell_end;
+    }
+}
+
+/// Runs the module that is kept, and keeps it.
+fn run_rows_held(
+    alloc: Global,
+    handle: Handle,
+    fuel: u64,
+    stop: &Stop,
+    arguments_each: usize,
+    arguments: &[i64],
+    cells_each: usize,
+    cells: &mut [i64],
+    outcomes: &mut [Outcome],
+) -> Handle
+    ensures rows { AreRuns handle.kernel.program fuel arguments_each cells_each arguments.now cells.old cells.new outcomes.new }
+    ensures same { result.kernel.program ≡ handle.kernel.program }
+{
+    match handle.taken() {
+        Some(block) => {
+            run_rows(
+                alloc,
+                block.module(),
+                fuel,
+                stop,
+                arguments_each,
+                arguments,
+                cells_each,
+                cells,
+                outcomes,
+            );
+            Handle::kept(block)
+        }
+        None => {
+            outcomes.fill(plain_outcome(CLOSED));
+            Handle::closed(alloc)
+        }
+    }
+}
+
+/// Runs the module that is held once for each outcome, as `tapirvm_run` does: the first run has the first of the arguments and of the cells, so
+/// many each, and the next run those that follow.
+pub fn run_each_row(
+    alloc: Global,
+    handle: &mut Handle,
+    fuel: u64,
+    stop: &mut StopHandle,
+    arguments_each: usize,
+    arguments: &[i64],
+    cells_each: usize,
+    cells: &mut [i64],
+    outcomes: &mut [Outcome],
+)
+    ensures rows { AreRuns handle.old.kernel.program fuel arguments_each cells_each arguments.now cells.old cells.new outcomes.new }
+    ensures same { handle.new.kernel.program ≡ handle.old.kernel.program }
+    ensures stop { stop.new.stop.kept ≡ stop.old.stop.kept }
+{
+    let (heard, own) = replace(stop, StopHandle::closed(alloc)).heard(alloc);
+    *stop = own;
+    let Some(heard) = heard else {
+        outcomes.fill(plain_outcome(OUT_OF_MEMORY));
+        return;
+    };
+    let held = replace(handle, Handle::closed(alloc));
+    *handle = run_rows_held(
+        alloc,
+        held,
+        fuel,
+        &heard,
+        arguments_each,
+        arguments,
+        cells_each,
+        cells,
+        outcomes,
+    );
+}

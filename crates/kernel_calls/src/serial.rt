@@ -1,0 +1,225 @@
+//! The serial run over a row of the globals' numbers, and the call that judges a text anew for it.
+
+ghost use Rattle.std.specs.Prelude.{◌≡◌, ◌≢◌, ◌⊎◌, IfErr, IfOk, IsSome, None, OnOk, Some, length, sum};
+ghost use Rattle.store.specs.Requirements.{unmet_in};
+ghost use Rattle.store.specs.Made.{HasGlobalCells, IsMadeFor};
+ghost use Rattle.store.specs.Rows.{sizes_of};
+ghost use Rattle.serial_machine.specs.Decoding.{IsCodeOf};
+ghost use Rattle.kernel_calls.specs.Until.{IsWatchedStatus};
+ghost use Rattle.kernel_calls.specs.Told.{Exceeds, ExceedsProgram, HasOtherCells, IsOutcomeStatus, IsRunStatus, Lacks, Refuses, Runs, RunsProgram, Shows};
+ghost use Rattle.kernel_calls.specs.Told.{bad_arguments, done, memory_from, other_cells, sizes_in};
+ghost use Rattle.kernel_calls.specs.Told.{out_of_effort, out_of_fuel, out_of_memory, refused, stopped, unbounded};
+
+use crate::cells::count_cells;
+use crate::hosted::Stop;
+use crate::judge::rejection;
+use crate::prepared::Prepared;
+use crate::seed::{Seed, verify_seeded};
+use crate::told::{
+    BAD_ARGUMENTS, DONE, OTHER_CELLS, OUT_OF_FUEL, OUT_OF_MEMORY, Outcome, STOPPED, plain_outcome,
+};
+use crate::until::{FIRST, Watched, run_watched};
+use lists::OutOfMemory;
+use serial_machine::{Decoded, Unfinished, serial_run_within_by};
+use std::alloc::Global;
+use store::{Finished, Memory, RunFault};
+use verifier::Verified;
+
+/// Memory with the numbers of a row; else the status: there are not as many as the globals have cells, or memory was refused.
+pub fn filled(alloc: Global, kernel: &Verified, cells: &[i64]) -> Result<Memory, u32>
+    ensures filled { IfOk result (λ memory. memory ≡ memory_from kernel.now cells.now) }
+    ensures long { OnOk result (length cells.now ≡ sum (sizes_in kernel.now)) }
+    ensures cells { IfOk result (HasGlobalCells kernel.now) }
+    ensures made { IfOk result (IsMadeFor kernel.now) }
+    ensures other { IfErr result (λ status. status ≡ other_cells → length cells.now ≢ sum (sizes_in kernel.now)) }
+    ensures statuses { IfErr result (λ status. (status ≡ other_cells) ⊎ (status ≡ out_of_memory)) }
+{
+    if count_cells(kernel.program()) != cells.len() as u64 {
+        return Err(OTHER_CELLS);
+    }
+    let Ok(mut memory) = Memory::zeroed(alloc, kernel) else {
+        return Err(OUT_OF_MEMORY);
+    };
+    memory.refill(cells);
+    Ok(memory)
+}
+
+/// The row takes the numbers of the globals at the end, which are as many.
+pub fn finish(finished: &Finished, cells: &mut [i64]) -> Outcome
+    requires { sum (sizes_of finished.now.memory) ≡ length cells.old }
+    ensures ran { result.status ≡ done → Shows finished.now cells.new result }
+    ensures kept { result.status ≢ done → cells.new ≡ cells.old }
+    ensures statuses { (result.status ≡ done) ⊎ (result.status ≡ out_of_memory) }
+{
+    let Ok(row) = finished.memory.row() else {
+        return plain_outcome(OUT_OF_MEMORY);
+    };
+    cells.copy_from_slice(row.as_slice());
+    Outcome {
+        result: finished.result,
+        instructions: finished.instructions,
+        peak: finished.peak,
+        ..plain_outcome(DONE)
+    }
+}
+
+/// Runs a module by its code within some fuel over a row of its globals' numbers.
+fn run_by(
+    alloc: Global,
+    kernel: &Verified,
+    code: &Decoded,
+    fuel: u64,
+    arguments: &[i64],
+    cells: &mut [i64],
+) -> Outcome
+    requires code { IsCodeOf kernel.now code.now }
+    ensures ran { result.status ≡ done → RunsProgram kernel.now fuel arguments.now cells.old cells.new result }
+    ensures fuel { result.status ≡ out_of_fuel → ExceedsProgram kernel.now fuel arguments.now cells.old }
+    ensures arguments { result.status ≡ bad_arguments → unmet_in kernel.now arguments.now ≡ Some result.requirement }
+    ensures cells { result.status ≡ other_cells → length cells.old ≢ sum (sizes_in kernel.now) }
+    ensures kept { result.status ≢ done → cells.new ≡ cells.old }
+    ensures statuses { IsRunStatus result.status }
+{
+    let memory = match filled(alloc, kernel, cells) {
+        Ok(memory) => memory,
+        Err(status) => return plain_outcome(status),
+    };
+    match serial_run_within_by(alloc, kernel, code, arguments, memory, fuel) {
+        Ok(finished) => finish(&finished, cells),
+        Err(Unfinished::OutOfFuel { .. }) => plain_outcome(OUT_OF_FUEL),
+        Err(Unfinished::Fault(RunFault::BadArguments { requirement, .. })) => Outcome {
+            requirement: requirement as u64,
+            ..plain_outcome(BAD_ARGUMENTS)
+        },
+        Err(Unfinished::Fault(RunFault::OutOfMemory)) => plain_outcome(OUT_OF_MEMORY),
+        Err(Unfinished::Fault(_)) => unreachable!(),
+    }
+}
+
+/// Runs a module strand by strand over a row of its globals' numbers, unless it is stopped.
+fn run_on(
+    alloc: Global,
+    kernel: &Verified,
+    fuel: u64,
+    stop: &Stop,
+    arguments: &[i64],
+    cells: &mut [i64],
+) -> Outcome
+    requires taken { unmet_in kernel.now arguments.now ≡ None }
+    ensures ran { result.status ≡ done → RunsProgram kernel.now fuel arguments.now cells.old cells.new result }
+    ensures fuel { result.status ≡ out_of_fuel → ExceedsProgram kernel.now fuel arguments.now cells.old }
+    ensures cells { result.status ≡ other_cells → length cells.old ≢ sum (sizes_in kernel.now) }
+    ensures kept { result.status ≢ done → cells.new ≡ cells.old }
+    ensures stopped { result.status ≡ stopped → IsSome stop.now.word }
+    ensures statuses { IsWatchedStatus result.status }
+{
+    let memory = match filled(alloc, kernel, cells) {
+        Ok(memory) => memory,
+        Err(status) => return plain_outcome(status),
+    };
+    match run_watched(alloc, kernel, fuel, stop, arguments, memory) {
+        Watched::Finished(finished) => finish(&finished, cells),
+        Watched::OutOfFuel => plain_outcome(OUT_OF_FUEL),
+        Watched::Stopped => plain_outcome(STOPPED),
+        Watched::OutOfMemory => plain_outcome(OUT_OF_MEMORY),
+    }
+}
+
+/// Runs a prepared module within some fuel over a row of its globals' numbers, unless it is stopped. Where somebody may stop it, and it has more to do than
+/// its first instructions, it begins again, strand by strand.
+#[tactic(auto, using(crate::proofs::Watching::more_fuel, crate::proofs::Watching::runs_kept, crate::proofs::Watching::exceeds_kept))]
+pub fn run_over(
+    alloc: Global,
+    kernel: &Prepared,
+    fuel: u64,
+    arguments: &[i64],
+    cells: &mut [i64],
+    stop: &Stop,
+) -> Outcome
+    ensures ran { result.status ≡ done → RunsProgram kernel.now fuel arguments.now cells.old cells.new result }
+    ensures fuel { result.status ≡ out_of_fuel → ExceedsProgram kernel.now fuel arguments.now cells.old }
+    ensures arguments { result.status ≡ bad_arguments → unmet_in kernel.now arguments.now ≡ Some result.requirement }
+    ensures cells { result.status ≡ other_cells → length cells.old ≢ sum (sizes_in kernel.now) }
+    ensures kept { result.status ≢ done → cells.new ≡ cells.old }
+    ensures stopped { result.status ≡ stopped → IsSome stop.now.word }
+    ensures statuses { (result.status ≡ stopped) ⊎ IsRunStatus result.status }
+{
+    if stop.is_set() {
+        return plain_outcome(STOPPED);
+    }
+    let (module, code) = (kernel.verified(), kernel.code());
+    if !stop.is_live() || fuel <= FIRST {
+        return run_by(alloc, module, code, fuel, arguments, cells);
+    }
+    let outcome = run_by(alloc, module, code, FIRST, arguments, cells);
+    if outcome.status == OUT_OF_FUEL {
+        run_on(alloc, module, fuel, stop, arguments, cells)
+    } else {
+        outcome
+    }
+}
+
+/// Verifies a text within some effort, and runs its module within some fuel.
+#[tactic(auto, using(crate::proofs::Bounded::bounded_is))]
+fn run_text(
+    alloc: Global,
+    text: &[u8],
+    seed: &Seed,
+    effort: u64,
+    fuel: u64,
+    arguments: &[i64],
+    cells: &mut [i64],
+) -> Outcome
+    ensures ran { result.status ≡ done → Runs text.now fuel arguments.now cells.old cells.new result }
+    ensures fuel { result.status ≡ out_of_fuel → Exceeds text.now fuel arguments.now cells.old }
+    ensures refused { result.status ≡ refused → Refuses text.now result.rule result.line }
+    ensures effort { result.status ≡ out_of_effort → effort ≢ unbounded }
+    ensures arguments { result.status ≡ bad_arguments → Lacks text.now arguments.now result.requirement }
+    ensures cells { result.status ≡ other_cells → HasOtherCells text.now cells.old }
+    ensures kept { result.status ≢ done → cells.new ≡ cells.old }
+    ensures statuses { IsOutcomeStatus result.status }
+{
+    match verify_seeded(alloc, seed, text, effort) {
+        Ok(kernel) => match Decoded::of(alloc, &kernel) {
+            Ok(code) => run_by(alloc, &kernel, &code, fuel, arguments, cells),
+            Err(OutOfMemory) => plain_outcome(OUT_OF_MEMORY),
+        },
+        Err(why) => {
+            let verdict = rejection(why);
+            Outcome {
+                rule: verdict.rule,
+                line: verdict.line,
+                ..plain_outcome(verdict.status)
+            }
+        }
+    }
+}
+
+/// Verifies a module within some effort, and runs its serial elision within some fuel from the numbers of its globals, each global after the
+/// one before it.
+pub fn verify_and_run(
+    alloc: Global,
+    text: &[u8],
+    seed_low: u64,
+    seed_high: u64,
+    effort: u64,
+    fuel: u64,
+    arguments: &[i64],
+    cells: &mut [i64],
+    outcome: &mut Outcome,
+)
+    ensures ran { outcome.new.status ≡ done → Runs text.now fuel arguments.now cells.old cells.new outcome.new }
+    ensures fuel { outcome.new.status ≡ out_of_fuel → Exceeds text.now fuel arguments.now cells.old }
+    ensures refused { outcome.new.status ≡ refused → Refuses text.now outcome.new.rule outcome.new.line }
+    ensures effort { outcome.new.status ≡ out_of_effort → effort ≢ unbounded }
+    ensures arguments { outcome.new.status ≡ bad_arguments → Lacks text.now arguments.now outcome.new.requirement }
+    ensures cells { outcome.new.status ≡ other_cells → HasOtherCells text.now cells.old }
+    ensures kept { outcome.new.status ≢ done → cells.new ≡ cells.old }
+    ensures statuses { IsOutcomeStatus outcome.new.status }
+{
+    let seed = Seed {
+        low: seed_low,
+        high: seed_high,
+    };
+    *outcome = run_text(alloc, text, &seed, effort, fuel, arguments, cells);
+}

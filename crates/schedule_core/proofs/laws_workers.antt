@@ -1,0 +1,6 @@
+pub mod Points
+pub mod Owners
+pub mod Going
+pub mod Texts
+pub mod Results
+pub mod Runs

@@ -1,0 +1,3 @@
+pub mod Safe
+pub mod Promise
+pub mod strands

@@ -1,0 +1,14 @@
+//! What a worker keeps of the cells that it read and wrote apart from the board, by pages of 64 cells.
+//!
+//! - `PageLog`: the pages in use, and a directory that leads from a cell's page to them. No call but `new` and `widen` takes memory.
+//! - `page_around`: the cells of a page as the board has them.
+#![tactic(auto)]
+
+mod access;
+mod bits;
+mod log;
+mod page;
+mod row;
+
+pub use log::{PAGES, PageLog};
+pub use row::page_around;
