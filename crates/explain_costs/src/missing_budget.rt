@@ -30,11 +30,12 @@ fn push_line(trying: Trying<'_, '_>, left: &Left, out: &mut TextBuffer) -> bool 
         return false;
     };
     let after = trying.known.scene.function.line;
-    let mut line = TextBuffer::new(trying.known.means.alloc);
+    let means = trying.known.means;
+    let mut line = TextBuffer::new(means.alloc);
     write!(line, ";! budget {calls} {instructions}");
+    let line = means.text(line);
     let is_line = trying.is_line(line.as_str(), after);
     if is_line {
-        let line = line.as_str();
         writeln!(out, "    try: {line}, after line {after}");
     }
     is_line

@@ -41,11 +41,11 @@ fn is_shorter(one: &Option<Try>, other: &Option<Try>) -> bool {
 }
 
 /// An annotation that says a form.
-fn annotation(means: &Means<'_>, scene: &Scene<'_>, word: &str, form: &Form) -> TextBuffer {
+fn annotation(means: &Means<'_>, scene: &Scene<'_>, word: &str, form: &Form) -> String {
     let mut line = TextBuffer::new(means.alloc);
     write!(line, ";! {word} ");
     push_inequality(scene, form, &mut line);
-    line
+    means.text(line)
 }
 
 fn push_try(tried: &Option<Try>, out: &mut TextBuffer) {
@@ -209,14 +209,15 @@ impl Trying<'_, '_> {
             return None;
         }
         let (word, after) = start_of(self.known.scene, self.known.block);
-        let mut line = annotation(means, self.known.scene, word, &plain);
+        let line = annotation(means, self.known.scene, word, &plain);
         if !self.is_better(line.as_str(), after.saturating_add(1)) {
             return None;
         }
-        write!(line, ", after line {after}");
+        let mut words = TextBuffer::new(means.alloc);
+        write!(words, "{line}, after line {after}");
         Some(Try {
             registers,
-            words: means.text(line),
+            words: means.text(words),
         })
     }
 
@@ -224,9 +225,10 @@ impl Trying<'_, '_> {
     fn step_line(&self, form: &Form) -> Option<Try> {
         let means = self.known.means;
         let step = self.known.step_to(form)?;
-        let mut words = annotation(means, self.known.scene, "shows", &step);
+        let line = annotation(means, self.known.scene, "shows", &step);
         let before = self.known.line;
-        write!(words, ", before line {before}");
+        let mut words = TextBuffer::new(means.alloc);
+        write!(words, "{line}, before line {before}");
         Some(Try {
             registers: number_of_registers(&step),
             words: means.text(words),
