@@ -14,11 +14,11 @@ use crate::judge::{
 use crate::table::{Table, make_table};
 use crate::work::work_of;
 use linear::Fact;
-use linear_shown::{Effort, FactCursor};
 use lists::OutOfMemory;
 use program::{Block, Function, Program, Step};
 use ranges::{
-    BlockFacts, Facts, FunctionFacts, Graph, Regions, Unanswered, Unverified, start_facts, stated,
+    BlockFacts, Effort, FactCursor, Facts, FunctionFacts, Graph, Regions, Unanswered, Unverified,
+    start_facts, stated,
 };
 use refusal::{Broken, lower};
 use std::alloc::Global;

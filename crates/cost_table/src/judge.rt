@@ -12,10 +12,9 @@ ghost use Rattle.cost_table.specs.Doing.{IsWork};
 use crate::sum::{covers_both, covers_next, covers_work, is_at_least_zero, is_at_most};
 use crate::work::{Work, whole_cost};
 use linear::{Fact, Form};
-use linear_shown::{Effort, FactBranches, Known};
 use lists::OutOfMemory;
 use program::{Argument, Block, BlockId, Ending, Function, Instruction, Step, Terminator};
-use ranges::{EdgeFacts, Unanswered, argument_moves};
+use ranges::{EdgeFacts, Effort, FactBranches, Known, Unanswered, argument_moves};
 use refusal::{Broken, lower, rule};
 use std::alloc::Global;
 

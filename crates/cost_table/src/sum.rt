@@ -4,9 +4,8 @@ ghost use Rattle.cost_table.specs.Rules.{left_behind, less_form, put_in, number_
 ghost use Rattle.cost_table.specs.Tables.{as_u128};
 
 use linear::{Fact, Form, side_of};
-use linear_shown::Known;
 use lists::{OutOfMemory, Seq};
-use ranges::{Move, Sum, Unanswered, push_parts, shows, shows_at};
+use ranges::{Known, Move, Sum, Unanswered, push_parts, shows, shows_at};
 use std::alloc::Global;
 
 /// With so much done nothing is left, whatever the forms are: their constants are below 2^100, and this is 2^104.

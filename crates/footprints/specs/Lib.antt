@@ -4,3 +4,4 @@ pub mod Pointers
 pub mod Rules
 pub use Rattle.footprints_feet.specs.footprints_zones as footprints_zones
 pub use Rattle.footprints_feet.specs.footprints_zones.Zones
+pub use Rattle.ranges.specs as ranges

@@ -17,11 +17,10 @@ use crate::judge::{edges_fault, step_fault, use_fault};
 use crate::touch::{child_foot, end_use};
 use footprints_feet::{Place, index_for};
 use linear::Fact;
-use linear_shown::{Effort, FactCursor, Known};
 use program::{Block, BlockId, Ending, Function, Instruction, Program, Step, Zone};
 use ranges::{
-    BlockFacts, EdgeFacts, Facts, FunctionFacts, Graph, Regions, Task, Unanswered, Unverified,
-    stands_before,
+    BlockFacts, EdgeFacts, Effort, FactCursor, Facts, FunctionFacts, Graph, Known, Regions, Task,
+    Unanswered, Unverified, stands_before,
 };
 use refusal::{Broken, lower};
 use std::alloc::Global;

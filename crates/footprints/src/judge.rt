@@ -12,9 +12,8 @@ use crate::pass::passes_on;
 use crate::touch::{end_use, step_use};
 use footprints_feet::{Place, Use};
 use linear::Fact;
-use linear_shown::{Effort, FactBranches};
 use program::{Block, Ending, Function, Step};
-use ranges::{EdgeFacts, Unanswered};
+use ranges::{EdgeFacts, Effort, FactBranches, Unanswered};
 use refusal::{Broken, lower, rule};
 use std::alloc::Global;
 

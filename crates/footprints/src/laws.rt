@@ -2,7 +2,7 @@
 
 ghost use Rattle.std.specs.Prelude.{◌≡◌, ℕ, ℤ, List, Any, true, false};
 ghost use Rattle.linear.specs.declared.form.Fact.{Fact};
-ghost use Rattle.linear_shown.specs.Shown.{AllHold};
+ghost use Rattle.ranges.specs.linear_shown.Shown.{AllHold};
 ghost use Rattle.program.specs.declared.annotation.Zone.{Zone};
 ghost use Rattle.program.specs.declared.identifier.ObjectName.{ObjectName};
 ghost use Rattle.footprints_feet.specs.footprints_zones.Zones.{Span, as_written, mode_covers, modes_agree, is_empty, covers, is_apart, conflict, is_covered};

@@ -25,4 +25,5 @@ pub use footprints_feet::{
     mode_covers, modes_agree, same_object,
 };
 pub use pass::passes_on;
+pub use ranges::{Effort, Unverified, check_ranges};
 pub use touch::{end_use, put_object, step_use};

@@ -5,9 +5,8 @@ ghost use Rattle.footprints.specs.Footprints.{hands_on, pending_of, with_facts, 
 
 use crate::touch::child_foot;
 use footprints_feet::{PlacedZone, as_written, covers, is_empty};
-use linear_shown::{FactBranches, Known};
 use program::{Block, BlockId, Pending, RegisterId, Terminator, Zone};
-use ranges::{EdgeFacts, Unanswered, Way};
+use ranges::{EdgeFacts, FactBranches, Known, Unanswered, Way};
 use std::alloc::Global;
 
 /// Whether what is pending of a region goes on along an edge: not into a detached block, and not where the region was synced.

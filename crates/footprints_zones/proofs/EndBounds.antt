@@ -10,9 +10,9 @@ use Rattle.linear.specs.declared.form.Fact.{Fact}
 use Rattle.linear.specs.declared.form.RegisterId.{RegisterId}
 use Rattle.linear.specs.Forms.{Combination, coefficient_of, constant_form}
 use Rattle.linear.proofs.Values.{distributes, distributes_right}
-use Rattle.linear_shown.specs.Shown.{IsFactor, sides}
-use Rattle.linear_shown.specs.Tested.{is_shown}
-use Rattle.linear_shown.proofs.Tested.{shown_passes}
+use Rattle.ranges.specs.linear_shown.Shown.{IsFactor, sides}
+use Rattle.ranges.specs.linear_shown.Tested.{is_shown}
+use Rattle.ranges.proofs.linear_shown.Tested.{shown_passes}
 use Rattle.ranges.specs.cfg.declared.structure.Move.{Move}
 use Rattle.ranges.specs.Sums.{shows_form, sum_form}
 use Rattle.footprints_zones.specs.declared.ends.End.{End}

@@ -9,7 +9,7 @@ use Rattle.linear.specs.declared.form.Fact.{Fact}
 use Rattle.linear.specs.declared.form.RegisterId.{RegisterId}
 use Rattle.linear.specs.declared.form.Term.{Term}
 use Rattle.linear.specs.Forms.{Combination}
-use Rattle.linear_shown.proofs.Tested.{T_from_true}
+use Rattle.ranges.proofs.linear_shown.Tested.{T_from_true}
 use Rattle.program.specs.declared.instruction.Operand.TheVariants.{Register}
 use Rattle.ranges.specs.cfg.declared.structure.Move.{Move}
 use Rattle.ranges.specs.ranges_owed.Inequalities.{operand_for}

@@ -11,10 +11,10 @@ use Rattle.linear.specs.declared.form.Term.{Term}
 use Rattle.linear.specs.Forms.{Combination, AreSmall, constant_form, Same}
 use Rattle.linear.specs.Made.{placed, with_terms}
 use Rattle.linear.proofs.Making.{same_of, same_back}
-use Rattle.linear_shown.specs.Shown.{IsShown, SameFacts}
-use Rattle.linear_shown.specs.Tested.{is_shown}
-use Rattle.linear_shown.proofs.Tested.{shown_from_test, shown_passes, decides_shown}
-use Rattle.linear_shown.proofs.Respects.{shown_same}
+use Rattle.ranges.specs.linear_shown.Shown.{IsShown, SameFacts}
+use Rattle.ranges.specs.linear_shown.Tested.{is_shown}
+use Rattle.ranges.proofs.linear_shown.Tested.{shown_from_test, shown_passes, decides_shown}
+use Rattle.ranges.proofs.linear_shown.Respects.{shown_same}
 use Rattle.program.specs.declared.instruction.Operand.TheVariants.{Register}
 use Rattle.ranges.specs.cfg.declared.structure.Move.{Move}
 use Rattle.ranges.specs.ranges_owed.Inequalities.{parts_of}

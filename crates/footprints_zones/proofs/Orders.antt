@@ -7,9 +7,9 @@ use Rattle.std.proofs.lemmas.List.{drop_more}
 use Rattle.linear.specs.declared.form.Fact.{Fact}
 use Rattle.linear.specs.declared.form.Term.{Term}
 use Rattle.linear.specs.Forms.{Combination, constant_form}
-use Rattle.linear_shown.specs.Shown.{IsShown}
-use Rattle.linear_shown.specs.Tested.{is_shown}
-use Rattle.linear_shown.proofs.Tested.{shown_passes}
+use Rattle.ranges.specs.linear_shown.Shown.{IsShown}
+use Rattle.ranges.specs.linear_shown.Tested.{is_shown}
+use Rattle.ranges.proofs.linear_shown.Tested.{shown_passes}
 use Rattle.program.specs.declared.instruction.Operand.TheVariants.{Number}
 use Rattle.ranges.specs.cfg.declared.structure.Move.{Move}
 use Rattle.ranges.specs.ranges_owed.declared.sum.Part.{Part}

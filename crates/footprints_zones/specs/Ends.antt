@@ -5,7 +5,7 @@ use Rattle.linear.specs.declared.form.RegisterId.{RegisterId}
 use Rattle.linear.specs.declared.form.Term.{Term}
 use Rattle.linear.specs.Forms.{Combination, coefficient_of}
 use Rattle.linear.specs.Made.{term_form}
-use Rattle.linear_shown.specs.Shown.{sides}
+use Rattle.ranges.specs.linear_shown.Shown.{sides}
 use Rattle.program.specs.declared.annotation.Zone.{Zone}
 use Rattle.program.specs.declared.instruction.Operand.TheVariants.{Number, Register}
 use Rattle.ranges.specs.cfg.declared.structure.Move.{Move}

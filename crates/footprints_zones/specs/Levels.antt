@@ -4,7 +4,7 @@ use Rattle.linear.specs.declared.form.Fact.{Fact}
 use Rattle.linear.specs.declared.form.RegisterId.{RegisterId}
 use Rattle.linear.specs.declared.form.Term.{Term}
 use Rattle.linear.specs.Forms.{constant_form}
-use Rattle.linear_shown.specs.Tested.{is_shown}
+use Rattle.ranges.specs.linear_shown.Tested.{is_shown}
 use Rattle.program.specs.declared.instruction.Operand.TheVariants.{Register}
 use Rattle.ranges.specs.cfg.declared.structure.Move.{Move}
 use Rattle.ranges.specs.ranges_owed.Inequalities.{operand_for, parts_of}

@@ -13,10 +13,9 @@ use crate::bounds::{RegisterBounds, register_bounds};
 use crate::extent::{Extent, begins_before, ends_after, extent_of, lie_apart};
 use crate::place::{Place, as_written, is_own};
 use crate::zone::{PlacedZone, is_covered, is_empty, meets, mode_covers, same_object};
-use linear_shown::Known;
 use lists::OutOfMemory;
 use program::{Pending, Zone};
-use ranges::Unanswered;
+use ranges::{Known, Unanswered};
 use std::alloc::Global;
 use std::marker::Model;
 

@@ -2,7 +2,7 @@ ghost use Rattle.std.specs.Prelude.{◌≡◌, ◌<◌, ◌^◌, ◌⊎◌, ◌*
 ghost use Rattle.linear.specs.declared.form.Fact.{Fact};
 ghost use Rattle.linear.specs.Forms.{AreSmall, constant_form};
 ghost use Rattle.program.specs.declared.instruction.Operand.TheVariants.{Number};
-ghost use Rattle.linear_shown.specs.Tested.{is_shown};
+ghost use Rattle.ranges.specs.linear_shown.Tested.{is_shown};
 ghost use Rattle.ranges.specs.ranges_owed.Inequalities.{operand_for, parts_of};
 ghost use Rattle.ranges.specs.cfg.declared.structure.Move.{Move as MoveKind};
 ghost use Rattle.ranges.specs.Sums.{with_operand, with_parts, start_of, sum_form, shows, shows_form};
@@ -10,10 +10,9 @@ ghost use Rattle.footprints_zones.specs.Zones.{between, shows_order};
 ghost use Rattle.footprints_zones.specs.Levels.{IsSameTerm, IsLevel};
 
 use linear::{Form, RegisterId, Side, Term, side_of};
-use linear_shown::{Known, OutOfEffort};
 use lists::{OutOfMemory, Seq};
 use program::Operand;
-use ranges::{Move, Sum, Unanswered, operand_for, push_parts, shows_at};
+use ranges::{Known, Move, OutOfEffort, Sum, Unanswered, operand_for, push_parts, shows_at};
 use std::alloc::Global;
 
 /// high - low, each with the operands of its own zone put in.

@@ -5,10 +5,9 @@ ghost use Rattle.footprints_zones.specs.Zones.{span, as_written, meets};
 ghost use Rattle.footprints_zones.specs.Places.{place_of, is_own, is_allowed, is_clear};
 
 use crate::zone::{PlacedZone, is_covered, is_empty, meets};
-use linear_shown::{FactCursor, Known};
 use lists::OutOfMemory;
 use program::{ObjectName, Pending, Zone};
-use ranges::Unanswered;
+use ranges::{FactCursor, Known, Unanswered};
 use std::alloc::Global;
 
 /// What is known at a place, the zones that must cover what is touched there, whether it is one of the function's own blocks, whose accesses of

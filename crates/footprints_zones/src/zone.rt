@@ -4,9 +4,8 @@ ghost use Rattle.footprints_zones.specs.Zones.{span, as_written, same_object, mo
 ghost use Rattle.footprints_zones.specs.Zones.{shows_order, is_empty, covers, is_apart, conflict, meets, is_covered};
 
 use crate::order::{may_precede, shows_order};
-use linear_shown::Known;
 use program::{Mode, ObjectName, Zone};
-use ranges::{Move, Unanswered};
+use ranges::{Known, Move, Unanswered};
 use std::alloc::Global;
 
 /// A zone at a place: the object that it is of there, and the operands that stand for its registers there.

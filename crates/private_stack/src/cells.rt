@@ -10,8 +10,7 @@ ghost use Rattle.private_stack.specs.OwnCells.{CanStore, CellsDo, CellsRefuse, a
 ghost use Rattle.private_stack.specs.Putting.{ArePutInto, IsCopiedTo};
 
 use frame_engine::{Cells, behind, sum};
-use frame_strand::Stop;
-use stack_pages::PageLog;
+use stack_pages::{PageLog, Stop};
 
 /// The cells of a pile: those of its own frames' allocas, which are a segment of addresses, and what it read and wrote of others.
 #[derive(Drop)]

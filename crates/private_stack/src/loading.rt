@@ -11,9 +11,8 @@ ghost use Rattle.private_stack.specs.OwnCells.{segment_of};
 use crate::cells::PileCells;
 use crate::pile::{Base, Pile};
 use frame_engine::{Frame, blank};
-use frame_strand::copy_frame;
 use lists::OutOfMemory;
-use stack_pages::PageLog;
+use stack_pages::{PageLog, copy_frame};
 use std::alloc::Global;
 
 /// Room for so many phi moves.

@@ -6,3 +6,5 @@ pub mod Edges
 pub mod Truth
 pub mod Passed
 pub mod Products
+-- for the crates above
+pub use Rattle.linear_shown.proofs as linear_shown

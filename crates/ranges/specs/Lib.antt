@@ -7,6 +7,7 @@ pub mod Walks
 pub mod Truth
 pub mod Judged
 -- for the crates above
+pub use Rattle.linear_shown.specs as linear_shown
 pub use Rattle.ranges_owed.specs as ranges_owed
 pub use Rattle.ranges_owed.specs.cfg as cfg
 pub use Rattle.region_match.specs as region_match

@@ -28,7 +28,7 @@ pub use check::check_ranges;
 pub use edge::{Comparison, EdgeSums, edges_out};
 pub use form::sum_form;
 pub use know::{is_met, is_met_at, shows, shows_at};
-pub use linear_shown::{Effort, OutOfEffort};
+pub use linear_shown::{Effort, FactBranches, FactCursor, Known, OutOfEffort};
 pub use past::stands_before;
 pub use ranges_owed::{
     Move, Obligation, Part, Sum, Way, argument_moves, call_moves, difference_of, inequalities_owed,

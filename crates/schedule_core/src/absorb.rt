@@ -19,8 +19,8 @@ use crate::stage::Stage;
 use frame_engine::Places;
 use lists::OutOfMemory;
 use schedule_commit::{Pause, Strand, absorb, cell};
+use serial_machine::Verified;
 use std::alloc::Global;
-use store::Verified;
 
 /// Where the objects of a module begin: what its strands are made with.
 ///

@@ -14,8 +14,8 @@ use frame::Event;
 use frame_engine::most_moves;
 use lists::OutOfMemory;
 use schedule_workers::Run;
+use serial_machine::{Memory, RunFault, Verified, unmet_requirement};
 use std::alloc::Global;
-use store::{Memory, RunFault, Verified, unmet_requirement};
 
 /// The stage before the first event, of arguments that `main` takes.
 fn staged<'v>(

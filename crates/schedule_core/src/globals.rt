@@ -10,7 +10,7 @@ use crate::machine::Machine;
 use crate::stage::Stage;
 use frame_engine::sum;
 use lists::OutOfMemory;
-use store::Memory;
+use serial_machine::Memory;
 
 /// What stands in the row at the address, an index; 0 where there is no such cell.
 fn cell_of(row: &[i64], address: i64) -> i64

@@ -33,7 +33,7 @@ pub use piles::{advance_pile, blank_pile, fill_pile, fill_pile_ahead};
 pub use ready::Spot;
 pub use schedule::replay;
 pub use schedule_commit::{Pause, Pile, PilePause, Strand};
+pub use serial_machine::{Finished, Memory, RunFault, Verified, unmet_requirement};
 pub use shared_places::SharedPlaces;
 pub use stage::Stage;
-pub use store::{Finished, Memory, RunFault, Verified, unmet_requirement};
 pub use task::{Status, TaskView};

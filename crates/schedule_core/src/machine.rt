@@ -12,8 +12,8 @@ use crate::events::{apply_to, begin, copied};
 use crate::stage::Stage;
 use frame::Event;
 use lists::OutOfMemory;
+use serial_machine::{Memory, RunFault, Verified};
 use std::alloc::Global;
-use store::{Memory, RunFault, Verified};
 
 /// A run of a verified module by workers, between two events.
 #[derive(Drop)]

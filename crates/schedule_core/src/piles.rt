@@ -20,8 +20,8 @@ use crate::stage::Stage;
 use frame_engine::{Places, most_moves};
 use lists::OutOfMemory;
 use schedule_commit::{Pile, PilePause as Pause, absorb_deep, has_no_child, page_around};
+use serial_machine::Verified;
 use std::alloc::Global;
-use store::Verified;
 
 /// A pile without a base, with room for the phi moves of the module.
 ///

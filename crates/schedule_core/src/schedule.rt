@@ -7,8 +7,8 @@ use crate::events::{apply_all, begin};
 use crate::machine::Machine;
 use frame::Event;
 use lists::OutOfMemory;
+use serial_machine::{Memory, RunFault, Verified};
 use std::alloc::Global;
-use store::{Memory, RunFault, Verified};
 
 /// The machine after a schedule, from memory that was made for this module; an event that is not enabled changes nothing.
 ///

@@ -1,6 +1,6 @@
 use crate::shared_places::SharedPlaces;
 use schedule_workers::Run;
-use store::{Memory, Verified};
+use serial_machine::{Memory, Verified};
 
 /// A run of a verified module, with what its steps read.
 #[derive(Drop)]

@@ -23,3 +23,4 @@ pub use law::{
     operands_fit, rows_mean, runs_are_safe, texts_fit, walks_count, walks_go_on, walks_keep,
 };
 pub use run::{Unfinished, serial_run, serial_run_by, serial_run_within, serial_run_within_by};
+pub use store::{Finished, Memory, RunFault, Verified, unmet_requirement};

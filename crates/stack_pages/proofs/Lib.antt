@@ -10,3 +10,5 @@ pub mod Rows
 pub mod Scanning
 pub mod Slots
 pub mod Opening
+-- for the crates above
+pub use Rattle.frame_strand.proofs as frame_strand

@@ -8,3 +8,5 @@ pub mod Logs
 pub mod Pages
 pub mod Paging
 pub mod Tables
+-- for the crates above
+pub use Rattle.frame_strand.specs as frame_strand

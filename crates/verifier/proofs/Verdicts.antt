@@ -6,9 +6,9 @@ use Rattle.refusal.specs.declared.refused.Refused.TheVariants.{Fault, Memory}
 use Rattle.refusal.specs.declared.broken.Broken.{Broken}
 use Rattle.refusal.specs.Earliest.{IsFirst, NamesEarliest}
 use Rattle.refusal.specs.Refusals.{IfBroken}
-use Rattle.ranges.specs.declared.unverified.Unverified.{Unverified}
-use Rattle.ranges.specs.declared.unverified.Unverified.TheVariants as unverified
-use Rattle.ranges.specs.Judged.{JudgesEarliest}
+use Rattle.footprints.specs.ranges.declared.unverified.Unverified.{Unverified}
+use Rattle.footprints.specs.ranges.declared.unverified.Unverified.TheVariants as unverified
+use Rattle.footprints.specs.ranges.Judged.{JudgesEarliest}
 use Rattle.syntax.specs.declared.module.Module.{Module}
 use Rattle.ir_reader.specs.Reading.{Answers, IsFaultOfText}
 use Rattle.types.specs.declared.typed.Typed.{Typed}
@@ -20,7 +20,7 @@ use Rattle.program.specs.declared.function.Program.{Program}
 use Rattle.region_match.specs.declared.tables.Regions.{Regions}
 use Rattle.region_match.specs.Tasks.{AreAllTasks}
 use Rattle.region_match.specs.Matched.{AreRegionsRight}
-use Rattle.ranges.specs.Rules.{AreRangesRight}
+use Rattle.footprints.specs.ranges.Rules.{AreRangesRight}
 use Rattle.cost_table.specs.Rules.{AreCostsRight}
 use Rattle.verifier.specs.Accepted.{IsDefined, AreTasksOf, AreZonesRight, IsProgramOf, IsFaulty, IsRefused, IsUnverified}
 use Rattle.verifier.specs.Limits.{IsWithinLimits}

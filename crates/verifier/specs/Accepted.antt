@@ -14,9 +14,9 @@ use Rattle.region_match.specs.declared.tables.Regions.{Regions}
 use Rattle.region_match.specs.Matched.{AreRegionsRight, IsTaskBroken}
 use Rattle.region_match.specs.Tasks.{AreAllTasks}
 use Rattle.definedness.specs.Definedness.{IsDefinednessBroken}
-use Rattle.ranges.specs.Rules.{IsRangeBroken, AreRangesRight}
-use Rattle.ranges.specs.declared.unverified.Unverified.{Unverified}
-use Rattle.ranges.specs.declared.unverified.Unverified.TheVariants as unverified
+use Rattle.footprints.specs.ranges.Rules.{IsRangeBroken, AreRangesRight}
+use Rattle.footprints.specs.ranges.declared.unverified.Unverified.{Unverified}
+use Rattle.footprints.specs.ranges.declared.unverified.Unverified.TheVariants as unverified
 use Rattle.footprints.specs.Rules.{IsZoneBroken, AreZonesRightBy}
 use Rattle.cost_table.specs.Rules.{IsCostBroken, AreCostsRight}
 

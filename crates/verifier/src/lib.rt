@@ -6,6 +6,6 @@
 mod cost;
 mod verified;
 
-pub use ranges::{Effort, Unverified};
+pub use footprints::{Effort, Unverified};
 pub use refusal::Refused;
 pub use verified::{Verified, verify, verify_within};

@@ -13,8 +13,8 @@ use Rattle.program.specs.declared.function.Program.{Program}
 use Rattle.program.specs.declared.identifier.ObjectName.TheVariants as object
 use Rattle.frame_engine.specs.Shows.{Layout}
 use Rattle.frame_engine.specs.declared.activation.Places.{Places}
-use Rattle.private_stack.specs.serial_stack.Layouts.{for_body}
-use Rattle.private_stack.specs.serial_stack.Shown.{IsOld}
+use Rattle.schedule_commit.specs.private_stack.serial_stack.Layouts.{for_body}
+use Rattle.schedule_commit.specs.private_stack.serial_stack.Shown.{IsOld}
 use Rattle.schedule_workers.specs.Going.{IsAbove}
 use Rattle.schedule_workers.specs.Layouts.{alloca_cells, living, own_cells}
 use Rattle.schedule_workers.proofs.Calling.{values_up}
@@ -22,12 +22,12 @@ use Rattle.serial_machine.proofs.laws_conditions.rules.Moves.{calls_here}
 use Rattle.serial_machine.proofs.laws_schedule.Promise.{accepted_programs_keep_their_promise}
 use Rattle.serial_machine.proofs.laws_schedule.safe.Safe.{schedules_are_safe}
 use Rattle.schedule_commit.specs.frame_strand.Alone.{StaysSafeAlone}
-use Rattle.private_stack.specs.Along.{IsLent, LoadsGoDeep}
-use Rattle.private_stack.specs.Layouts.{Segment, layout_above}
-use Rattle.private_stack.specs.Shown.{CanGo}
-use Rattle.private_stack.proofs.Coming.{under_long}
-use Rattle.private_stack.proofs.Living as text
-use Rattle.private_stack.proofs.Living.{fresh, local_above, shared_above}
+use Rattle.schedule_commit.specs.private_stack.Along.{IsLent, LoadsGoDeep}
+use Rattle.schedule_commit.specs.private_stack.Layouts.{Segment, layout_above}
+use Rattle.schedule_commit.specs.private_stack.Shown.{CanGo}
+use Rattle.schedule_commit.proofs.private_stack.Coming.{under_long}
+use Rattle.schedule_commit.proofs.private_stack.Living as text
+use Rattle.schedule_commit.proofs.private_stack.Living.{fresh, local_above, shared_above}
 use Rattle.laws_strands.specs.stacks.Deep.{DeepStrand, IsDeep, Placed, at, next_action}
 use Rattle.laws_strands.specs.stacks.Footprint.{memory_of}
 use Rattle.laws_strands.specs.stacks.Law.{IsOrderly, Runs, absorbed}

@@ -23,7 +23,7 @@ use Rattle.frame_engine.specs.declared.activation.Places.{Places}
 use Rattle.schedule_commit.specs.frame_strand.Alone.{StaysSafeAlone}
 use Rattle.laws_strands.specs.stacks.Deep.{DeepStrand, IsDeep}
 use Rattle.laws_strands.specs.stacks.Law.{Runs, absorbed}
-use Rattle.private_stack.specs.Along.{LoadsGoDeep}
+use Rattle.schedule_commit.specs.private_stack.Along.{LoadsGoDeep}
 
 -- ---- by itself
 

@@ -1,5 +1,5 @@
 use Rattle.std.proofs.Common.{refl, inl, inr}
-use Rattle.ranges.specs.Rules.{IsRangeBroken}
+use Rattle.footprints.specs.ranges.Rules.{IsRangeBroken}
 use Rattle.footprints.specs.Rules.{IsZoneBroken}
 use Rattle.cost_table.specs.Rules.{IsCostBroken}
 use Rattle.verifier.proofs.Verdicts.{refused_by_text, refused_by_types, refused_after, by_tasks, err_from, unverified_by, program_of, limits_of}
