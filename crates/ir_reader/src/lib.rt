@@ -14,6 +14,6 @@ mod opening;
 mod reader;
 mod scope;
 
-pub use item::{Item, Line, items_are_read_back, lines_are_read_back, read_line};
+pub use item::{Item, Line, items_are_read_back, judge_line, lines_are_read_back, read_line};
 pub use reader::read;
 pub use refusal::Refused as TextFault;

@@ -110,3 +110,27 @@ pub fn read_line(alloc: Global, line: &[u8], number: u32) -> Result<Option<Line>
     let tokens = lex(alloc, line, number)?;
     read_tokens(alloc, line, tokens.as_slice(), number)
 }
+
+/// Whether a line is right by itself; one that says nothing is.
+///
+/// # Errors
+///
+/// The fault that [`read_line`] names, or 104 where a number or a name is past its limit.
+pub fn judge_line(alloc: Global, line: &[u8], number: u32) -> Result<(), Refused> {
+    let is_within_limits = match read_line(alloc, line, number)? {
+        Some(line) => {
+            let is_within_limits = line.is_within_limits;
+            drop(line);
+            is_within_limits
+        }
+        None => true,
+    };
+    if is_within_limits {
+        Ok(())
+    } else {
+        Err(Refused::Fault {
+            number: rule::OVER_LIMIT,
+            line: number,
+        })
+    }
+}
