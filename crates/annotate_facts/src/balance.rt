@@ -1,8 +1,8 @@
 //! Phis of a loop's head that rise together: where each way round the loop raises one by as much as two others, as where a merge takes from the one side or
 //! the other.
 
-use crate::edge::value_from;
-use crate::guess::{exactly_apart, phi_in, start_of};
+use crate::edge::{phi_in, value_from};
+use crate::guess::{exactly_apart, start_of};
 use crate::heap::Heap;
 use crate::sum::Sum;
 use lists::Name;
@@ -29,15 +29,15 @@ fn riser_of<'a>(heap: &'a Heap, function: &'a Function, phi: &'a Phi) -> Option<
             let next = next.as_str();
             let joined = phi_in(function, next);
             if joined.is_some() || exactly_apart(heap, function, next, name).is_some() {
-                return match start_of(phi, next) {
-                    Some(start) => Some(Riser {
-                        phi,
-                        next,
-                        joined,
-                        start,
-                    }),
-                    None => None,
+                let Some(start) = start_of(phi, next) else {
+                    return None;
                 };
+                return Some(Riser {
+                    phi,
+                    next,
+                    joined,
+                    start,
+                });
             }
         }
     }
@@ -95,50 +95,6 @@ fn is_balanced<'a>(
     true
 }
 
-/// What is at least 0 and at most, while it is gathered for one phi of a head.
-#[derive(Drop)]
-struct Finder<'a> {
-    heap: &'a Heap,
-    function: &'a Function,
-    whole: Riser<'a>,
-    /// The other phis that are joined.
-    parts: Vec<Riser<'a>>,
-    balances: Vec<Sum<'a>>,
-}
-
-impl<'a> Finder<'a> {
-    fn push(&mut self, one: Riser<'a>, other: Riser<'a>, sign: i128) {
-        if is_balanced(self.heap, self.function, self.whole, one, other, sign) {
-            let mut balance = self.whole.risen(self.heap, 1);
-            balance.add(&one.risen(self.heap, 1), -1);
-            balance.add(&other.risen(self.heap, sign), -1);
-            self.heap.push(&mut self.balances, balance);
-        }
-    }
-
-    /// Adds those of the part of this number with the others: with each what they are apart, with those behind it what they are together.
-    fn push_part(&mut self, number: usize, one: Riser<'a>) {
-        for place in 0..self.parts.len() {
-            if let Some(other) = self.parts.get(place).copied() {
-                if place > number {
-                    self.push(one, other, 1);
-                }
-                if place != number {
-                    self.push(one, other, -1);
-                }
-            }
-        }
-    }
-
-    fn push_all(&mut self) {
-        for number in 0..self.parts.len() {
-            if let Some(one) = self.parts.get(number).copied() {
-                self.push_part(number, one);
-            }
-        }
-    }
-}
-
 /// The phis of a head, but for one, that take from round to round what several ways bring.
 fn parts_beside<'a>(
     heap: &'a Heap,
@@ -165,17 +121,23 @@ pub fn balances_of<'a>(
     phi: &'a Phi,
     phis: &'a [Phi],
 ) -> Vec<Sum<'a>> {
+    let mut balances = heap.list();
     let Some(whole) = riser_of(heap, function, phi) else {
-        return heap.list();
+        return balances;
     };
-    let mut finder = Finder {
-        heap,
-        function,
-        whole,
-        parts: parts_beside(heap, function, phi.register.as_str(), phis),
-        balances: heap.list(),
-    };
-    finder.push_all();
-    let Finder { balances, .. } = finder;
+    let parts = parts_beside(heap, function, whole.phi.register.as_str(), phis);
+    for (number, one) in parts.iter().enumerate() {
+        for (place, other) in parts.iter().enumerate() {
+            for sign in &[1i128, -1] {
+                let is_new = place > number || *sign < 0 && place != number;
+                if is_new && is_balanced(heap, function, whole, *one, *other, *sign) {
+                    let mut balance = whole.risen(heap, 1);
+                    balance.add(&one.risen(heap, 1), -1);
+                    balance.add(&other.risen(heap, *sign), -1);
+                    heap.push(&mut balances, balance);
+                }
+            }
+        }
+    }
     balances
 }

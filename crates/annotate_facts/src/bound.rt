@@ -6,26 +6,16 @@ use crate::sum::Sum;
 /// The greatest number of a budget.
 const MOST: i128 = 1_000_000_000_000;
 
-/// The greatest or least number that a register may hold by a fact about it alone: of `coefficient * x + constant >= 0`.
-fn bound_by(fact: &Sum<'_>, name: &str, is_greatest: bool) -> Option<i128> {
-    let coefficient = fact.coefficient(name);
-    if coefficient == 0 || (coefficient < 0) != is_greatest || !fact.is_alone(name) {
-        return None;
-    }
-    let size = i128::try_from(coefficient.unsigned_abs()).unwrap_or(i128::MAX);
-    match fact.constant.checked_div_euclid(size) {
-        Some(floor) if is_greatest => Some(floor),
-        Some(floor) => Some(0i128.saturating_sub(floor)),
-        None => None,
-    }
-}
-
-/// The closest of these bounds.
-fn bound_of(facts: &[Sum<'_>], name: &str, is_greatest: bool) -> Option<i128> {
+/// How far a register with a coefficient of this sign may raise a sum each time that it stands there, by the facts about it alone: of those that have it with
+/// the other sign, `coefficient * x + constant >= 0`, the closest.
+fn limit_of(facts: &[Sum<'_>], name: &str, coefficient: i128) -> Option<i128> {
     let mut closest = None;
     for fact in facts {
-        let bound = bound_by(fact, name, is_greatest);
-        closest = bound_among(closest, bound, is_greatest);
+        let of_fact = fact.coefficient(name);
+        if fact.terms.len() == 1 && of_fact != 0 && (of_fact < 0) != (coefficient < 0) {
+            let limit = fact.constant.checked_div_euclid(of_fact.saturating_abs());
+            closest = lesser_of(closest, limit);
+        }
     }
     closest
 }
@@ -34,51 +24,30 @@ fn bound_of(facts: &[Sum<'_>], name: &str, is_greatest: bool) -> Option<i128> {
 pub fn greatest_apart(facts: &[Sum<'_>], sum: &Sum<'_>) -> Option<i128> {
     let mut most = sum.constant;
     for (name, coefficient) in &sum.terms {
-        if *coefficient != 0 {
-            let bound = bound_of(facts, name, *coefficient > 0)?;
-            most = most.saturating_add(coefficient.saturating_mul(bound));
-        }
+        let Some(limit) = limit_of(facts, name, *coefficient) else {
+            return None;
+        };
+        most = most.saturating_add(coefficient.saturating_abs().saturating_mul(limit));
     }
     Some(most)
 }
 
-/// The lesser of two bounds, or the greater one; the one that there is.
-pub fn bound_among(one: Option<i128>, other: Option<i128>, is_lesser: bool) -> Option<i128> {
+/// The lesser of two bounds; the one that there is.
+pub fn lesser_of(one: Option<i128>, other: Option<i128>) -> Option<i128> {
     match (one, other) {
-        (Some(one), Some(other)) if is_lesser => Some(one.min(other)),
-        (Some(one), Some(other)) => Some(one.max(other)),
-        (Some(one), None) => Some(one),
+        (Some(one), Some(other)) => Some(one.min(other)),
         (None, other) => other,
+        (one, None) => one,
     }
 }
 
-/// The greatest number that a sum may come to, with the fact added as often as takes this register out of it. That is no less than the
-/// sum; none where the fact has the register with the same sign or does not divide it.
-fn greatest_without<'a>(
-    facts: &[Sum<'_>],
-    sum: &Sum<'a>,
-    fact: &Sum<'a>,
-    name: &str,
-) -> Option<i128> {
-    let coefficient = sum.coefficient(name);
-    let times = coefficient.checked_div(fact.coefficient(name)).unwrap_or(0);
-    let times = 0i128.saturating_sub(times);
-    if times <= 0 {
-        return None;
-    }
-    let rest = sum.with(fact, times);
-    if rest.has(name) {
-        None
-    } else {
-        greatest_apart(facts, &rest)
-    }
-}
-
-/// The same, where the fact stands for one of its registers: of `3*%hi-3*%lo`, `%hi <= %lo+8` leaves 24.
+/// The greatest number that a sum may come to, by the bounds of its registers, where the fact stands for one of them: of `3*%hi-3*%lo`, `%hi <= %lo+8` leaves 24.
 fn greatest_by<'a>(facts: &[Sum<'_>], sum: &Sum<'a>, fact: &Sum<'a>) -> Option<i128> {
     let mut most = None;
     for (name, _coefficient) in &fact.terms {
-        most = bound_among(most, greatest_without(facts, sum, fact, name), true);
+        if let Some(rest) = sum.most_without(name, fact) {
+            most = lesser_of(most, greatest_apart(facts, &rest));
+        }
     }
     most
 }
@@ -87,44 +56,46 @@ fn greatest_by<'a>(facts: &[Sum<'_>], sum: &Sum<'a>, fact: &Sum<'a>) -> Option<i
 pub fn greatest_number<'a>(facts: &[Sum<'a>], sum: &Sum<'a>) -> Option<i128> {
     let mut most = greatest_apart(facts, sum);
     for fact in facts {
-        most = bound_among(most, greatest_by(facts, sum, fact), true);
+        most = lesser_of(most, greatest_by(facts, sum, fact));
     }
     most
 }
 
-/// The same, from 0 to that of a budget; none where there is none.
-pub fn greatest<'a>(facts: &[Sum<'a>], sum: &Sum<'a>) -> Option<u64> {
-    match greatest_number(facts, sum) {
+/// A number from 0 to the greatest one of a budget.
+fn budget_of(most: Option<i128>) -> Option<u64> {
+    match most {
         Some(most) if most <= MOST => u64::try_from(most).ok(),
         _ => None,
     }
 }
 
+/// The greatest number that a sum may come to, from 0 to that of a budget; none where there is none.
+pub fn greatest<'a>(facts: &[Sum<'a>], sum: &Sum<'a>) -> Option<u64> {
+    budget_of(greatest_number(facts, sum))
+}
+
 /// Whether a fact that takes a register out of a sum has a factor then by which it may show that.
 fn may_show(sum: &Sum<'_>, fact: &Sum<'_>) -> bool {
     for (name, coefficient) in &fact.terms {
-        if *coefficient != 0 && sum.has(name) {
-            let times = sum.coefficient(name).checked_div(*coefficient).unwrap_or(0);
+        let times = sum.coefficient(name);
+        if times != 0 {
+            let times = times.checked_div(*coefficient).unwrap_or(0);
             return is_factor(sum, times.saturating_abs());
         }
     }
     false
 }
 
-/// The greatest number that a sum may come to, as two facts show it; none where they show none.
+/// The same, as two facts show it; where they show none, by more of them.
 pub fn greatest_shown<'a>(facts: &[Sum<'a>], sum: &Sum<'a>) -> Option<u64> {
-    let mut most = if sum.size() <= 2 {
-        greatest_apart(facts, sum)
-    } else {
-        None
-    };
+    let mut most = None;
+    if sum.terms.len() <= 2 {
+        most = greatest_apart(facts, sum);
+    }
     for fact in facts {
-        if fact.size() == 2 && may_show(sum, fact) {
-            most = bound_among(most, greatest_by(facts, sum, fact), true);
+        if fact.terms.len() == 2 && may_show(sum, fact) {
+            most = lesser_of(most, greatest_by(facts, sum, fact));
         }
     }
-    match most {
-        Some(most) if most <= MOST => u64::try_from(most).ok(),
-        _ => greatest(facts, sum),
-    }
+    budget_of(most).or(greatest(facts, sum))
 }

@@ -108,11 +108,9 @@ pub fn sum_before<'a>(heap: &'a Heap, sum: &Sum<'a>, steps: &'a [Step]) -> Optio
 pub fn moved<'a>(heap: &'a Heap, sum: &Sum<'a>, label: &Name, phis: &'a [Phi]) -> Sum<'a> {
     let mut moved = Sum::number(heap, sum.constant);
     for (name, coefficient) in &sum.terms {
-        if *coefficient != 0 {
-            match phi_value(phis, name, label) {
-                Some(value) => moved.add_operand(value, *coefficient),
-                None => moved.add_term(name, *coefficient),
-            }
+        match phi_value(phis, name, label) {
+            Some(value) => moved.add_operand(value, *coefficient),
+            None => moved.add_term(name, *coefficient),
         }
     }
     moved

@@ -191,8 +191,9 @@ pub fn is_used_beside(function: &Function, own: usize, name: &str) -> bool {
 /// The instruction of a function that defines the register.
 pub fn definition_in<'a>(function: &'a Function, name: &str) -> Option<&'a Instruction> {
     for block in function.blocks.as_slice() {
-        if let Some(instruction) = definition_among(block.steps.as_slice(), name) {
-            return Some(instruction);
+        let definition = definition_among(block.steps.as_slice(), name);
+        if definition.is_some() {
+            return definition;
         }
     }
     None
@@ -219,6 +220,17 @@ fn phi_of<'a>(phis: &'a [Phi], name: &str) -> Option<&'a Phi> {
     None
 }
 
+/// The phi of a function that defines the register.
+pub fn phi_in<'a>(function: &'a Function, name: &str) -> Option<&'a Phi> {
+    for block in function.blocks.as_slice() {
+        let phi = phi_of(block.phis.as_slice(), name);
+        if phi.is_some() {
+            return phi;
+        }
+    }
+    None
+}
+
 /// Whether one of these phis defines the register.
 pub fn is_phi(phis: &[Phi], name: &str) -> bool {
     phi_of(phis, name).is_some()
@@ -237,8 +249,8 @@ pub fn defines(block: &Block, name: &str) -> bool {
 /// Whether one of these phis takes the register where the run comes from a block of this label.
 pub fn phi_takes(phis: &[Phi], name: &str, predecessor: &Name) -> bool {
     for phi in phis {
-        for entry in phi.entries.as_slice() {
-            if entry.predecessor.is_same(predecessor) && is_register(&entry.value, name) {
+        if let Some(value) = value_from(phi, predecessor) {
+            if is_register(value, name) {
                 return true;
             }
         }

@@ -6,7 +6,7 @@ use crate::heap::Heap;
 use crate::learned::facts_of;
 use crate::sum::Sum;
 use std::mem::replace;
-use syntax::{Function, Inequality, Instruction, Operand, Predicate, Step};
+use syntax::{Block, Function, Inequality, Instruction, Operand, Predicate, Step};
 
 /// The most facts of a function that are kept, and the most instructions of one whose sums are facts.
 const MOST_FACTS: usize = 512;
@@ -52,10 +52,11 @@ impl<'a> Facts<'a> {
 
     /// States that a sum is at least 0, if it is stated already or there is room.
     pub fn add(&mut self, sum: Sum<'a>) {
-        if let Some(number) = self.find(&sum) {
+        let number = self.find(&sum).unwrap_or(self.sums.len());
+        if number < MOST_FACTS {
             self.heap.push(&mut self.stated, number);
-        } else if self.sums.len() < MOST_FACTS {
-            self.heap.push(&mut self.stated, self.sums.len());
+        }
+        if number == self.sums.len() && !self.is_full() {
             self.heap.push(&mut self.sums, sum);
         }
     }
@@ -63,13 +64,6 @@ impl<'a> Facts<'a> {
     /// Whether there is no room for another one.
     pub fn is_full(&self) -> bool {
         self.sums.len() >= MOST_FACTS
-    }
-
-    /// States that these sums are at least 0.
-    pub fn add_all(&mut self, sums: Vec<Sum<'a>>) {
-        for sum in sums {
-            self.add(sum);
-        }
     }
 
     /// States what these inequalities say.
@@ -101,16 +95,35 @@ impl<'a> Facts<'a> {
         right: &'a Operand,
         holds: bool,
     ) {
-        if let Some(is_strict) = order_of(predicate, holds, false) {
-            self.order(steps, left, right, is_strict);
-        }
-        if let Some(is_strict) = order_of(predicate, holds, true) {
-            self.order(steps, right, left, is_strict);
+        let (low, high, is_strict) = match predicate {
+            Predicate::SignedLess => (left, right, true),
+            Predicate::SignedAtMost => (left, right, false),
+            Predicate::SignedGreater => (right, left, true),
+            Predicate::SignedAtLeast => (right, left, false),
+            Predicate::Equal if holds => {
+                self.order(steps, left, right, false);
+                (right, left, false)
+            }
+            _ => return,
+        };
+        if holds {
+            self.order(steps, low, high, is_strict)
+        } else {
+            self.order(steps, high, low, !is_strict)
         }
     }
 
-    /// States what the comparisons into this register say where they have this outcome.
-    fn decide_all(&mut self, steps: &'a [Step], condition: &str, holds: bool) {
+    /// States the outcome of a block's branch on one of its edges: what the comparisons into the register of its condition say.
+    pub fn pass(&mut self, edge: Edge<'a>) {
+        let (condition, holds) = match edge.way {
+            Way::WhenTrue(condition) => (condition, true),
+            Way::WhenFalse(condition) => (condition, false),
+            _ => return,
+        };
+        let Some(block) = block_at(self.function, edge.from) else {
+            return;
+        };
+        let steps = block.steps.as_slice();
         for step in steps {
             if let Instruction::Compare {
                 register,
@@ -127,72 +140,45 @@ impl<'a> Facts<'a> {
         }
     }
 
-    /// States what an instruction says of a register that blocks beside its own take.
-    fn make(&mut self, index: usize, instruction: &'a Instruction) {
-        if let Some(name) = register_of(instruction) {
-            if is_used_beside(self.function, index, name) {
-                for fact in facts_of(self.heap, name, instruction) {
-                    let fact = self.travelling(index, name, fact);
-                    self.add(fact);
-                }
-            }
-        }
-    }
-
     /// A fact of a register, where others that the block makes of sums and that no other block takes are replaced by these.
-    fn travelling(&self, index: usize, name: &str, fact: Sum<'a>) -> Sum<'a> {
+    fn travelling(&self, index: usize, steps: &'a [Step], name: &str, fact: Sum<'a>) -> Sum<'a> {
         let mut sum = fact;
-        if let Some(block) = block_at(self.function, index) {
-            for step in block.steps.as_slice().iter().rev() {
-                if let Some(own) = register_of(&step.instruction) {
-                    if own != name && sum.has(own) && !is_used_beside(self.function, index, own) {
+        for step in steps.iter().rev() {
+            match register_of(&step.instruction) {
+                Some(own) if own != name && sum.has(own) => {
+                    if !is_used_beside(self.function, index, own) {
                         if let Some(value) = definition_of(self.heap, &step.instruction) {
                             sum.put(own, &value);
                         }
                     }
                 }
+                _ => {}
             }
         }
         sum
     }
 
-    /// States what a block's own instructions make of registers that other blocks take, unless the function has many.
-    pub fn make_all(&mut self, index: usize) {
-        if has_many_instructions(self.function) {
-            return;
-        }
-        if let Some(block) = block_at(self.function, index) {
-            for step in block.steps.as_slice() {
-                self.make(index, &step.instruction);
+    /// States what a block's own instructions make of registers that other blocks take.
+    pub fn make_all(&mut self, index: usize, steps: &'a [Step]) {
+        for step in steps {
+            if let Some(name) = register_of(&step.instruction) {
+                if is_used_beside(self.function, index, name) {
+                    for fact in facts_of(self.heap, name, &step.instruction) {
+                        let fact = self.travelling(index, steps, name, fact);
+                        self.add(fact);
+                    }
+                }
             }
-        }
-    }
-
-    /// States the outcome of a branch along an edge.
-    fn branch(&mut self, steps: &'a [Step], way: Way<'a>) {
-        match way {
-            Way::WhenTrue(condition) => self.decide_all(steps, condition, true),
-            Way::WhenFalse(condition) => self.decide_all(steps, condition, false),
-            Way::Branch | Way::Detached | Way::Continued(_) | Way::Synced(_) => {},
         }
     }
 
     /// States what the `shows` lines of a block say.
-    pub fn show_all(&mut self, index: usize) {
-        if let Some(block) = block_at(self.function, index) {
-            for step in block.steps.as_slice() {
-                self.state(step.shows.as_slice());
-            }
-            if let Some(ending) = &block.ending {
-                self.state(ending.shows.as_slice());
-            }
+    pub fn show_all(&mut self, block: &'a Block) {
+        for step in block.steps.as_slice() {
+            self.state(step.shows.as_slice());
         }
-    }
-
-    /// States the outcome of a block's branch on one of its edges.
-    pub fn pass(&mut self, edge: Edge<'a>) {
-        if let Some(block) = block_at(self.function, edge.from) {
-            self.branch(block.steps.as_slice(), edge.way);
+        if let Some(ending) = &block.ending {
+            self.state(ending.shows.as_slice());
         }
     }
 }
@@ -204,17 +190,4 @@ pub fn has_many_instructions(function: &Function) -> bool {
         count = count.saturating_add(block.steps.len());
     }
     count > MOST_INSTRUCTIONS
-}
-
-/// Whether a comparison says, where it holds or does not, that its left operand is at most the right one, or if turned the right one the
-/// left one; and if so, whether it is less.
-fn order_of(predicate: Predicate, holds: bool, is_turned: bool) -> Option<bool> {
-    match predicate {
-        Predicate::SignedLess if holds != is_turned => Some(holds),
-        Predicate::SignedAtMost if holds != is_turned => Some(!holds),
-        Predicate::SignedGreater if holds == is_turned => Some(holds),
-        Predicate::SignedAtLeast if holds == is_turned => Some(!holds),
-        Predicate::Equal if holds => Some(false),
-        _ => None,
-    }
 }

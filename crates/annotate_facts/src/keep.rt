@@ -1,11 +1,12 @@
 //! What is known wherever a block begins, because all ways to it bring it along.
 
-use crate::bound::bound_among;
+use crate::bound::lesser_of;
 use crate::definition::{moved, sum_before};
-use crate::edge::{Edge, Way, block_at, defines, edges_of, makes};
-use crate::fact::Facts;
+use crate::edge::{Edge, Way, block_at, edges_of};
+use crate::fact::{Facts, has_many_instructions};
 use crate::guess::{Place, dominators_of};
 use crate::heap::Heap;
+use crate::learned::is_made_by;
 use crate::sum::Sum;
 use syntax::{Block, Function};
 
@@ -43,10 +44,11 @@ pub struct Known<'a> {
     given: Vec<Vec<usize>>,
     /// For each block the numbers of the facts that may be so at it, and are to be tried.
     guessed: Vec<Vec<usize>>,
-    /// For each edge the numbers of the facts that its source adds.
+    /// Whether there are such facts.
+    has_guesses: bool,
+    /// For each edge the numbers of the facts that its source adds: first those that being taken says of it, which are so many, then those that are shown.
     added: Vec<Vec<usize>>,
-    /// Those of them that being taken says of it.
-    taken: Vec<Vec<usize>>,
+    taken: Vec<usize>,
     /// For each block the numbers of the facts that its own instructions make.
     made: Vec<Vec<usize>>,
     /// For each block whether each fact is brought along to it; no fact that is not is marked.
@@ -64,6 +66,7 @@ impl Drop for Known<'_> {
             facts: _,
             given: _,
             guessed: _,
+            has_guesses: _,
             added: _,
             taken: _,
             made: _,
@@ -82,12 +85,7 @@ fn row_of(rows: &[Vec<usize>], row: usize) -> &[usize] {
 }
 
 fn row_has(rows: &[Vec<usize>], row: usize, number: usize) -> bool {
-    for other in row_of(rows, row) {
-        if *other == number {
-            return true;
-        }
-    }
-    false
+    row_of(rows, row).contains(&number)
 }
 
 /// Adds numbers to a row, where it is there.
@@ -95,20 +93,6 @@ fn extend(heap: &Heap, rows: &mut Vec<Vec<usize>>, row: usize, numbers: &[usize]
     if row < rows.len() {
         heap.kept(rows[row].extend_from_slice(numbers));
     }
-}
-
-/// For each block the numbers of the edges that lead to it.
-fn into_blocks(heap: &Heap, edges: &[Edge<'_>], count: usize) -> Vec<Vec<usize>> {
-    let mut into = heap.list();
-    for _block in 0..count {
-        heap.push(&mut into, heap.list());
-    }
-    for (number, edge) in edges.iter().enumerate() {
-        if edge.to < into.len() {
-            heap.push(&mut into[edge.to], number);
-        }
-    }
-    into
 }
 
 impl<'a> Known<'a> {
@@ -119,52 +103,60 @@ impl<'a> Known<'a> {
         for block in function.blocks.as_slice() {
             self.facts.state(block.notes.keeps.as_slice());
             self.heap.push(&mut self.given, self.facts.take());
+            self.heap.push(&mut self.guessed, self.heap.list());
+            self.heap.push(&mut self.into, self.heap.list());
         }
     }
 
     /// States what the edges add; what the lines of a block show is the same on all of its edges, which stand next to each other.
     fn add_all(&mut self) {
         let mut shown = self.heap.list();
-        let mut from = None;
-        for edge in &self.edges {
-            if from != Some(edge.from) {
-                from = Some(edge.from);
-                self.facts.show_all(edge.from);
+        let mut last = None;
+        for (number, edge) in self.edges.iter().enumerate() {
+            if last != Some(edge.from) {
+                last = Some(edge.from);
+                if let Some(from) = block_at(self.function, edge.from) {
+                    self.facts.show_all(from);
+                }
                 shown = self.facts.take();
             }
             self.facts.pass(*edge);
-            let taken = self.facts.take();
-            let mut row = self.heap.list();
-            self.heap.kept(row.extend_from_slice(taken.as_slice()));
-            self.heap.kept(row.extend_from_slice(shown.as_slice()));
-            self.heap.push(&mut self.added, row);
-            self.heap.push(&mut self.taken, taken);
+            let mut added = self.facts.take();
+            self.heap.push(&mut self.taken, added.len());
+            self.heap.kept(added.extend_from_slice(shown.as_slice()));
+            self.heap.push(&mut self.added, added);
+            extend(self.heap, &mut self.into, edge.to, &[number]);
         }
     }
 
-    /// States what the instructions of the blocks make.
+    /// States what the instructions of the blocks make, unless the function has many.
     fn make_all(&mut self) {
-        for block in 0..self.function.blocks.len() {
-            self.facts.make_all(block);
+        let is_short = !has_many_instructions(self.function);
+        for (index, block) in self.function.blocks.as_slice().iter().enumerate() {
+            if is_short {
+                self.facts.make_all(index, block.steps.as_slice());
+            }
             self.heap.push(&mut self.made, self.facts.take());
         }
     }
 
-    /// Takes what was stated last as what may be so where a block begins, or from its end on.
-    fn suppose(&mut self, block: usize, is_at_head: bool) {
+    /// States a fact that may be so where a block begins, or from its end on.
+    fn suppose(&mut self, block: usize, is_at_head: bool, fact: Sum<'a>) {
+        self.facts.add(fact);
         let stated = self.facts.take();
         if is_at_head {
+            self.has_guesses = self.has_guesses || !stated.is_empty();
             extend(self.heap, &mut self.guessed, block, stated.as_slice())
         } else {
             extend(self.heap, &mut self.made, block, stated.as_slice())
         }
     }
 
-    /// The last of the blocks before this one whose instructions make a register of one sum that another one has not.
-    fn maker_of(&self, end: usize, sum: &Sum<'a>, other: &Sum<'a>) -> Option<usize> {
+    /// The last of the blocks before this one whose instructions make a register of a sum.
+    fn maker_of(&self, end: usize, sum: &Sum<'a>) -> Option<usize> {
         let mut maker = None;
         for (index, block) in self.function.blocks.as_slice().iter().enumerate() {
-            if index < end && makes_more(block, sum, other) {
+            if index < end && names_made(block, sum) {
                 maker = Some(index);
             }
         }
@@ -173,81 +165,54 @@ impl<'a> Known<'a> {
 
     /// States what may be so on an edge that leads back to a loop's head, because this is so at the head then: at the source of the edge, where that names
     /// several of its phis, as others are guessed phi by phi; or from where a register is made that a phi of the head takes.
-    fn guess_moved(&mut self, edge: Edge<'a>, from: &'a Block, sum: &Sum<'a>, before: Sum<'a>) {
-        if names_phis(from, &before) {
-            self.facts.add(before);
-            self.suppose(edge.from, true);
-        } else if let Some(maker) = self.maker_of(edge.from, &before, sum) {
-            self.facts.add(before);
-            self.suppose(maker, false);
-        }
-    }
-
-    /// The same of sums that may be at least 0 at the head.
-    fn guess_along(&mut self, edge: Edge<'a>, sums: &[Sum<'a>]) {
+    fn guess_along(&mut self, edge: Edge<'a>, sum: &Sum<'a>) {
         let (Some(to), Some(from)) = (
             block_at(self.function, edge.to),
             block_at(self.function, edge.from),
         ) else {
             return;
         };
-        for sum in sums {
-            let moved = moved(self.heap, sum, &from.label, to.phis.as_slice());
-            if let Some(before) = sum_before(self.heap, &moved, from.steps.as_slice()) {
-                self.guess_moved(edge, from, sum, before);
-            }
+        let moved = moved(self.heap, sum, &from.label, to.phis.as_slice());
+        let Some(before) = sum_before(self.heap, &moved, from.steps.as_slice()) else {
+            return;
+        };
+        if count_phis(from, &before) >= 2 {
+            self.suppose(edge.from, true, before)
+        } else if let Some(maker) = self.maker_of(edge.from, &before.beside(sum)) {
+            self.suppose(maker, false, before)
         }
     }
 
-    /// The same on all edges that lead back to a block.
+    /// The same of sums on all edges that lead back to a block.
     fn guess_before(&mut self, block: usize, sums: &[Sum<'a>]) {
         for number in 0..self.edges.len() {
-            if let Some(edge) = self.edges.get(number).copied() {
-                if edge.to == block && edge.from > block {
-                    self.guess_along(edge, sums);
+            match self.edges.get(number).copied() {
+                Some(edge) if edge.to == block && edge.from > block => {
+                    for sum in sums {
+                        self.guess_along(edge, sum);
+                    }
                 }
+                _ => {}
             }
         }
     }
 
-    /// States what may be so of a block's counters, by the facts from this number on.
-    fn guess(&mut self, above: &[usize], block: usize, first: usize) {
-        let place = Place {
-            heap: self.heap,
-            function: self.function,
-            above,
-            block,
-        };
-        let sums = self.facts.sums.as_slice();
-        let from = first.min(sums.len());
-        let guesses = if first == 0 {
-            place.guesses(&sums[from..])
-        } else {
-            place.guesses_of_taken(&sums[from..])
-        };
-        self.guess_before(block, guesses.as_slice());
-        self.facts.add_all(guesses);
-        self.suppose(block, true)
-    }
-
-    /// The same of all blocks.
+    /// States what may be so of the counters of all blocks, by the facts from this number on.
     fn guess_from(&mut self, above: &[usize], first: usize) {
         for block in 0..self.function.blocks.len() {
-            self.guess(above, block, first);
+            let place = Place {
+                heap: self.heap,
+                function: self.function,
+                above,
+                block,
+            };
+            let sums = self.facts.sums.as_slice();
+            let guesses = place.guesses(&sums[first.min(sums.len())..], first == 0);
+            self.guess_before(block, guesses.as_slice());
+            for guess in guesses {
+                self.suppose(block, true, guess);
+            }
         }
-    }
-
-    /// Begins with no guess at each block.
-    fn begin_guesses(&mut self) {
-        for _block in 0..self.function.blocks.len() {
-            self.heap.push(&mut self.guessed, self.heap.list());
-        }
-    }
-
-    /// States a fact that may be so.
-    fn add_extra(&mut self, extra: &Extra<'a>) {
-        self.facts.add(extra.fact.copy());
-        self.suppose(extra.block, extra.is_at_head)
     }
 
     /// States what may be so at the heads of loops, unless the function has many blocks; then what may be so if that is.
@@ -280,7 +245,9 @@ impl<'a> Known<'a> {
 
     /// The numbers of the facts that being taken says of an edge.
     pub fn facts_by_taking(&self, edge: usize) -> &[usize] {
-        row_of(self.taken.as_slice(), edge)
+        let added = self.facts_on(edge);
+        let count = self.taken.get(edge).copied().unwrap_or(0);
+        &added[..count.min(added.len())]
     }
 
     /// The facts that are known at a block.
@@ -297,16 +264,6 @@ impl<'a> Known<'a> {
     /// Whether the fact is a guess at the block.
     pub fn is_guessed(&self, block: usize, fact: usize) -> bool {
         row_has(self.guessed.as_slice(), block, fact)
-    }
-
-    /// Whether something is guessed in the function, so that of two facts the one that says more may be none.
-    fn has_guesses(&self) -> bool {
-        for row in &self.guessed {
-            if !row.is_empty() {
-                return true;
-            }
-        }
-        false
     }
 
     pub fn is_given(&self, block: usize, fact: usize) -> bool {
@@ -335,9 +292,8 @@ impl<'a> Known<'a> {
     /// Whether another fact that is known at the block says more of the same registers with the same coefficients. Beside guesses only what heads state is
     /// sure enough.
     pub fn is_weaker(&self, block: usize, fact: &Sum<'a>) -> bool {
-        let is_sure = !self.has_guesses();
         for number in 0..self.facts.sums.len() {
-            if self.is_known(block, number) && (is_sure || self.is_given(block, number)) {
+            if self.is_known(block, number) && (!self.has_guesses || self.is_given(block, number)) {
                 if let Some(apart) = fact.apart_from(&self.facts.sums[number]) {
                     if apart > 0 {
                         return true;
@@ -348,39 +304,18 @@ impl<'a> Known<'a> {
         false
     }
 
-    /// How much a sum lacks to be at least 0, by one fact that is known at the block.
-    fn lack_alone(&self, block: usize, sum: &Sum<'a>) -> Option<i128> {
-        let mut least = None;
-        for number in 0..self.facts.sums.len() {
-            if self.is_known(block, number) {
-                let lack = lack_by(sum, &self.facts.sums[number]);
-                least = bound_among(least, lack, true);
-            }
-        }
-        least
-    }
-
-    /// The same by two facts, of which the first takes a register out.
-    fn lack(&self, block: usize, sum: &Sum<'a>) -> Option<i128> {
-        let mut least = self.lack_alone(block, sum);
-        for number in 0..self.facts.sums.len() {
-            if self.is_known(block, number) {
-                if let Some(rest) = rest_of(sum, &self.facts.sums[number]) {
-                    let lack = self.lack_alone(block, &rest);
-                    least = bound_among(least, lack, true);
-                }
-            }
-        }
-        least
-    }
-
-    /// How much one sum lacks to be no less than the other.
+    /// How much one sum lacks to be no less than the other: by itself, or by one or two facts that are known at the block, of which the first takes a register
+    /// out.
     pub fn lack_of(&self, block: usize, one: &Sum<'a>, other: &Sum<'a>) -> Option<i128> {
         let difference = one.with(other, -1);
-        match difference.as_number() {
-            Some(number) => Some(number.saturating_neg().max(0)),
-            None => self.lack(block, &difference),
+        let facts = self.facts_at(block);
+        let mut least = lack_by(facts.as_slice(), &difference);
+        for fact in &facts {
+            if let Some(rest) = rest_of(&difference, fact) {
+                least = lesser_of(least, lack_by(facts.as_slice(), &rest));
+            }
         }
+        least
     }
 
     /// The greater of two sums, or one with what it may lack, or their sum where nothing is known of that.
@@ -396,19 +331,14 @@ impl<'a> Known<'a> {
         }
     }
 
-    /// The marks of a block to begin with: each fact, but at the entry only what it states.
-    fn first_marks(&self, block: usize) -> Vec<bool> {
-        let mut marks = self.heap.list();
-        for fact in 0..self.facts.sums.len() {
-            let is_marked = block != 0 || self.is_given(block, fact);
-            self.heap.push(&mut marks, is_marked);
-        }
-        marks
-    }
-
+    /// Marks each fact at each block to begin with, but at the entry only what it states.
     fn mark_all(&mut self) {
         for block in 0..self.function.blocks.len() {
-            let marks = self.first_marks(block);
+            let mut marks = self.heap.list();
+            for fact in 0..self.facts.sums.len() {
+                let is_marked = block != 0 || self.is_given(block, fact);
+                self.heap.push(&mut marks, is_marked);
+            }
             self.heap.push(&mut self.marks, marks);
         }
     }
@@ -435,20 +365,12 @@ impl<'a> Known<'a> {
             || row_has(self.made.as_slice(), from, fact)
     }
 
-    fn unmark(&mut self, block: usize, fact: usize) {
-        if block < self.marks.len() {
-            let marks = &mut self.marks[block];
-            if fact < marks.len() {
-                marks[fact] = false;
-            }
-        }
-    }
-
     /// Whether the fact names a register that the block defines.
     fn is_renamed(&self, block: usize, fact: usize) -> bool {
-        let blocks = self.function.blocks.as_slice();
-        let sums = self.facts.sums.as_slice();
-        block >= blocks.len() || fact >= sums.len() || names_own(&blocks[block], &sums[fact])
+        match (block_at(self.function, block), self.facts.sums.get(fact)) {
+            (Some(block), Some(sum)) => names_own(block, sum),
+            _ => true,
+        }
     }
 
     /// Whether a mark at a block still stands.
@@ -458,24 +380,21 @@ impl<'a> Known<'a> {
             || self.is_brought(block, fact) && !self.is_renamed(block, fact)
     }
 
-    /// Takes away the marks of a block that no longer stand; whether there were some.
-    fn settle(&mut self, block: usize) -> bool {
-        let mut is_changed = false;
-        for fact in 0..self.facts.sums.len() {
-            if self.is_known(block, fact) && !self.stands(block, fact) {
-                self.unmark(block, fact);
-                is_changed = true;
-            }
+    fn unmark(&mut self, block: usize, fact: usize) {
+        if block < self.marks.len() && fact < self.marks[block].len() {
+            self.marks[block][fact] = false;
         }
-        is_changed
     }
 
-    /// One round over the blocks; whether some marks were taken away.
-    fn settle_all(&mut self) -> bool {
+    /// Takes away the marks that no longer stand, in one round over the blocks; whether there were some.
+    fn settle(&mut self) -> bool {
         let mut is_changed = false;
         for block in 0..self.function.blocks.len() {
-            if self.settle(block) {
-                is_changed = true;
+            for fact in 0..self.facts.sums.len() {
+                if self.is_known(block, fact) && !self.stands(block, fact) {
+                    self.unmark(block, fact);
+                    is_changed = true;
+                }
             }
         }
         is_changed
@@ -486,16 +405,15 @@ impl<'a> Known<'a> {
         self.give_all();
         self.add_all();
         self.make_all();
-        self.begin_guesses();
         if has_guesses {
             self.guess_all();
         }
         for extra in extras {
-            self.add_extra(extra);
+            self.suppose(extra.block, extra.is_at_head, extra.fact.copy());
         }
         self.mark_all();
         for _round in 0..self.function.blocks.len() {
-            if !self.settle_all() {
+            if !self.settle() {
                 return;
             }
         }
@@ -514,56 +432,36 @@ fn rest_of<'a>(sum: &Sum<'a>, fact: &Sum<'a>) -> Option<Sum<'a>> {
     Some(sum.with(fact, 0i128.saturating_sub(times)))
 }
 
-/// How much a sum lacks to be at least 0 if a fact is, where it is a multiple of that and a number.
-fn lack_by<'a>(sum: &Sum<'a>, fact: &Sum<'a>) -> Option<i128> {
-    match rest_of(sum, fact) {
-        Some(rest) => match rest.as_number() {
-            Some(number) => Some(number.saturating_neg().max(0)),
-            None => None,
-        },
-        None => None,
-    }
-}
-
-/// Whether a sum names a register that the block's instructions make, and that another sum has not.
-fn makes_more(block: &Block, sum: &Sum<'_>, other: &Sum<'_>) -> bool {
-    for (name, coefficient) in &sum.terms {
-        if *coefficient != 0 && !other.has(name) && makes(block, name) {
-            return true;
+/// How much a sum lacks to be at least 0: by itself where it is a number, or by one of these facts.
+fn lack_by<'a>(facts: &[Sum<'a>], sum: &Sum<'a>) -> Option<i128> {
+    let mut least = sum.lack();
+    for fact in facts {
+        if let Some(rest) = rest_of(sum, fact) {
+            least = lesser_of(least, rest.lack());
         }
     }
-    false
+    least
 }
 
-/// Whether a sum names several phis of the block.
-fn names_phis(block: &Block, sum: &Sum<'_>) -> bool {
+/// How many phis of the block a sum names.
+fn count_phis(block: &Block, sum: &Sum<'_>) -> usize {
     let mut count = 0usize;
     for phi in block.phis.as_slice() {
         if sum.has(phi.register.as_str()) {
             count = count.saturating_add(1);
         }
     }
-    count >= 2
+    count
 }
 
 /// Whether a sum names a register that the block's instructions make.
 pub fn names_made(block: &Block, sum: &Sum<'_>) -> bool {
-    for (name, coefficient) in &sum.terms {
-        if *coefficient != 0 && makes(block, name) {
-            return true;
-        }
-    }
-    false
+    is_made_by(sum, block.steps.as_slice())
 }
 
 /// Whether a sum names a register that the block defines.
 pub fn names_own(block: &Block, sum: &Sum<'_>) -> bool {
-    for (name, coefficient) in &sum.terms {
-        if *coefficient != 0 && defines(block, name) {
-            return true;
-        }
-    }
-    false
+    count_phis(block, sum) > 0 || names_made(block, sum)
 }
 
 /// What is known at each block, by what heads state, `shows` and the outcomes of branches. A fact about registers that the block defines
@@ -574,16 +472,15 @@ pub fn known_of<'a>(
     has_guesses: bool,
     extras: &[Extra<'a>],
 ) -> Known<'a> {
-    let edges = edges_of(heap, function);
-    let into = into_blocks(heap, edges.as_slice(), function.blocks.len());
     let mut known = Known {
         heap,
         function,
-        edges,
-        into,
+        edges: edges_of(heap, function),
+        into: heap.list(),
         facts: Facts::new(heap, function),
         given: heap.list(),
         guessed: heap.list(),
+        has_guesses: false,
         added: heap.list(),
         taken: heap.list(),
         made: heap.list(),

@@ -22,15 +22,16 @@ impl<'a> Learned<'a> {
         self.heap.push(&mut self.facts, fact);
     }
 
-    fn own(&self, times: i128) -> Sum<'a> {
-        Sum::of_register(self.heap, self.name, times)
+    fn push_own(&mut self) {
+        let own = Sum::of_register(self.heap, self.name, 1);
+        self.push(own);
     }
 
-    fn push_between(&mut self, low: i128, high: i128) {
-        let least = self.own(1).raised(0i128.saturating_sub(low));
-        let most = self.own(-1).raised(high);
-        self.push(least);
-        self.push(most);
+    /// From 0 to a number.
+    fn push_up_to(&mut self, most: i128) {
+        self.push_own();
+        let own = Sum::of_register(self.heap, self.name, -1);
+        self.push(own.raised(most));
     }
 
     fn push_equal(&mut self, value: &Sum<'a>) {
@@ -42,10 +43,9 @@ impl<'a> Learned<'a> {
     /// A quotient by a number, rounded down.
     fn push_quotient(&mut self, whole: &'a Operand, divisor: i128) {
         let mut rest = Sum::of_operand(self.heap, whole, 1);
-        rest.add_term(self.name, 0i128.saturating_sub(divisor));
+        rest.add_term(self.name, divisor.saturating_neg());
         let over = rest.below(divisor.saturating_sub(1));
-        let own = self.own(1);
-        self.push(own);
+        self.push_own();
         self.push(rest);
         self.push(over);
     }
@@ -54,9 +54,9 @@ impl<'a> Learned<'a> {
     fn push_operation(&mut self, operator: BinaryOperator, left: &'a Operand, right: i128) {
         let is_divisor = 1 <= right && right <= MOST_DIVISOR;
         match operator {
-            BinaryOperator::And if right >= 0 => self.push_between(0, right),
+            BinaryOperator::And if right >= 0 => self.push_up_to(right),
             BinaryOperator::SignedRemainder if is_divisor => {
-                self.push_between(0, right.saturating_sub(1));
+                self.push_up_to(right.saturating_sub(1));
             }
             BinaryOperator::SignedDivide if is_divisor => self.push_quotient(left, right),
             _ => {}
@@ -101,7 +101,7 @@ pub fn facts_of<'a>(heap: &'a Heap, name: &'a str, instruction: &'a Instruction)
 }
 
 /// Whether a sum names a register that these steps of a block define.
-fn is_made_by(sum: &Sum<'_>, steps: &[Step]) -> bool {
+pub fn is_made_by(sum: &Sum<'_>, steps: &[Step]) -> bool {
     for step in steps {
         if let Some(name) = register_of(&step.instruction) {
             if sum.has(name) {
@@ -114,34 +114,13 @@ fn is_made_by(sum: &Sum<'_>, steps: &[Step]) -> bool {
 
 /// No less than a sum, without a register of it and those that these steps define, by one of some facts; none where no fact bounds it.
 fn most_by<'a>(facts: &[Sum<'a>], sum: &Sum<'a>, name: &str, steps: &[Step]) -> Option<Sum<'a>> {
-    let coefficient = sum.coefficient(name);
     for fact in facts {
-        let times = coefficient.checked_div(fact.coefficient(name)).unwrap_or(0);
-        let times = 0i128.saturating_sub(times);
-        if times > 0 {
-            let rest = sum.with(fact, times);
-            if !rest.has(name) && !is_made_by(&rest, steps) {
-                return Some(rest);
-            }
+        match sum.most_without(name, fact) {
+            Some(most) if !is_made_by(&most, steps) => return Some(most),
+            _ => {}
         }
     }
     None
-}
-
-/// No less than a sum, without a register of it, by what its instruction makes known; none where that bounds it not.
-fn most_without<'a>(
-    heap: &'a Heap,
-    sum: &Sum<'a>,
-    name: &'a str,
-    instruction: &'a Instruction,
-) -> Option<Sum<'a>> {
-    if let Some(value) = definition_of(heap, instruction) {
-        let mut rest = sum.copy();
-        rest.put(name, &value);
-        return Some(rest);
-    }
-    let facts = facts_of(heap, name, instruction);
-    most_by(facts.as_slice(), sum, name, &[])
 }
 
 /// No less than a sum, before these steps of a block, by what they make known and by facts behind them; none where nothing bounds what they define.
@@ -154,17 +133,23 @@ pub fn most_before<'a>(
     let mut most = sum.copy();
     for index in (0..steps.len()).rev() {
         let instruction = &steps[index].instruction;
-        if let Some(name) = register_of(instruction) {
-            if most.has(name) {
-                let rest = match most_without(heap, &most, name, instruction) {
-                    Some(rest) => Some(rest),
-                    None => most_by(behind, &most, name, &steps[index..]),
-                };
-                match rest {
-                    Some(rest) => most = rest,
-                    None => return None,
+        match register_of(instruction) {
+            Some(name) if most.has(name) => {
+                if let Some(value) = definition_of(heap, instruction) {
+                    most.put(name, &value);
+                } else {
+                    let facts = facts_of(heap, name, instruction);
+                    let mut rest = most_by(facts.as_slice(), &most, name, &[]);
+                    if rest.is_none() {
+                        rest = most_by(behind, &most, name, &steps[index..]);
+                    }
+                    match rest {
+                        Some(rest) => most = rest,
+                        None => return None,
+                    }
                 }
             }
+            _ => {}
         }
     }
     Some(most)

@@ -39,32 +39,41 @@ fn any_names(inequalities: &[Inequality], name: &str) -> bool {
     false
 }
 
+fn zone_names(zone: &Zone, name: &str) -> bool {
+    names(&zone.low, name) || names(&zone.high, name)
+}
+
 fn any_zone_names(zones: &[Zone], name: &str) -> bool {
     for zone in zones {
-        if names(&zone.low, name) || names(&zone.high, name) {
+        if zone_names(zone, name) {
             return true;
         }
     }
     false
 }
 
-/// Whether the lines at a block's head name the register.
+/// Whether the lines at a block's head name the register, but for the zones of a child.
 fn head_names(block: &Block, name: &str) -> bool {
     let notes = &block.notes;
-    if names(&notes.left.self_calls, name) || names(&notes.left.instructions, name) {
-        return true;
-    }
     for pending in notes.pending.as_slice() {
-        if names(&pending.zone.low, name) || names(&pending.zone.high, name) {
+        if zone_names(&pending.zone, name) {
             return true;
         }
     }
-    any_names(notes.keeps.as_slice(), name) || any_zone_names(notes.foot.as_slice(), name)
+    names(&notes.left.self_calls, name)
+        || names(&notes.left.instructions, name)
+        || any_names(notes.keeps.as_slice(), name)
 }
 
-/// Whether the function's own lines ask something about the register in all its blocks.
-fn head_asks(function: &Function, name: &str) -> bool {
+/// Whether the function's own lines ask something about the register in all its blocks, or a zone of a child names it; what is pending of that later on is asked
+/// in other blocks.
+fn is_asked(function: &Function, name: &str) -> bool {
     let notes = &function.notes;
+    for block in function.blocks.as_slice() {
+        if any_zone_names(block.notes.foot.as_slice(), name) {
+            return true;
+        }
+    }
     any_zone_names(notes.reads.as_slice(), name)
         || any_zone_names(notes.writes.as_slice(), name)
         || any_zone_names(notes.adds.as_slice(), name)
@@ -72,44 +81,23 @@ fn head_asks(function: &Function, name: &str) -> bool {
         || names(&notes.measure.form, name)
 }
 
-/// Whether a zone of a child names the register; what is pending of that later on is asked in other blocks.
-fn feet_name(function: &Function, name: &str) -> bool {
-    for block in function.blocks.as_slice() {
-        if any_zone_names(block.notes.foot.as_slice(), name) {
-            return true;
-        }
-    }
-    false
-}
-
-/// Whether the end of a block takes the register, or a line before it names it.
-fn end_uses(block: &Block, name: &str) -> bool {
-    let Some(ending) = &block.ending else {
-        return false;
-    };
-    let is_taken = match &ending.terminator {
-        Terminator::Return { value: Some(value) } => is_register(value, name),
-        Terminator::Switch { value, .. } => is_register(value, name),
-        _ => false,
-    };
-    is_taken || any_names(ending.shows.as_slice(), name)
-}
-
-/// Whether a line before an instruction names it.
-fn steps_name(block: &Block, name: &str) -> bool {
+/// Whether a line before an instruction or the end of a block names the register, or the end takes it.
+fn steps_use(block: &Block, name: &str) -> bool {
     for step in block.steps.as_slice() {
         if any_names(step.shows.as_slice(), name) {
             return true;
         }
     }
-    false
-}
-
-fn is_used(block: &Block, name: &str) -> bool {
-    block_uses(block, name)
-        || steps_name(block, name)
-        || end_uses(block, name)
-        || head_names(block, name)
+    let Some(ending) = &block.ending else {
+        return false;
+    };
+    let is_taken = match &ending.terminator {
+        Terminator::Return { value: Some(value) } | Terminator::Switch { value, .. } => {
+            is_register(value, name)
+        }
+        _ => false,
+    };
+    is_taken || any_names(ending.shows.as_slice(), name)
 }
 
 impl<'a> Lives<'a> {
@@ -133,68 +121,58 @@ impl<'a> Lives<'a> {
         is_live && !defines(to, name) || phi_takes(to.phis.as_slice(), name, &from.label)
     }
 
-    /// One round along the edges, the last one first; whether something was new.
-    fn go_back(&self, edges: &[Edge<'a>], at: &mut Vec<bool>, name: &str) -> bool {
-        let mut is_new = false;
-        for edge in edges.iter().rev() {
-            if edge.from < at.len()
-                && !at[edge.from]
-                && self.is_used_behind(*edge, at.as_slice(), name)
-            {
-                at[edge.from] = true;
-                is_new = true;
-            }
-        }
-        is_new
-    }
-
+    /// Where the register is used later on: round after round along the edges, the last one first, until nothing is new.
     fn find(&self, edges: &[Edge<'a>], name: &str) -> Vec<bool> {
-        let is_asked = head_asks(self.function, name) || feet_name(self.function, name);
+        let is_asked = is_asked(self.function, name);
         let mut at = self.heap.list();
         for block in self.function.blocks.as_slice() {
-            self.heap.push(&mut at, is_asked || is_used(block, name));
+            let is_used = is_asked
+                || block_uses(block, name)
+                || steps_use(block, name)
+                || head_names(block, name);
+            self.heap.push(&mut at, is_used);
         }
         for _round in 0..self.function.blocks.len() {
-            if !self.go_back(edges, &mut at, name) {
-                return at;
+            let mut is_new = false;
+            for edge in edges.iter().rev() {
+                if edge.from < at.len()
+                    && !at[edge.from]
+                    && self.is_used_behind(*edge, at.as_slice(), name)
+                {
+                    at[edge.from] = true;
+                    is_new = true;
+                }
+            }
+            if !is_new {
+                break;
             }
         }
         at
     }
 
-    fn index_of(&self, name: &str) -> Option<usize> {
-        for index in 0..self.lives.len() {
-            if self.lives[index].name == name {
-                return Some(index);
+    fn is_asked_for(&self, name: &str) -> bool {
+        for life in &self.lives {
+            if life.name == name {
+                return true;
             }
         }
-        None
+        false
     }
 
     /// Finds where the registers of a sum are used later on.
     pub fn ask(&mut self, edges: &[Edge<'a>], sum: &Sum<'a>) {
-        for (name, coefficient) in &sum.terms {
-            if *coefficient != 0 && self.index_of(name).is_none() {
+        for (name, _coefficient) in &sum.terms {
+            if !self.is_asked_for(name) {
                 let at = self.find(edges, name);
                 self.heap.push(&mut self.lives, Life { name, at });
             }
         }
     }
 
-    fn is_live(&self, block: usize, name: &str) -> bool {
-        match self.index_of(name) {
-            Some(index) if index < self.lives.len() => {
-                let at = self.lives[index].at.as_slice();
-                block < at.len() && at[block]
-            }
-            _ => true,
-        }
-    }
-
     /// Whether all registers of a sum that was asked for are used from a block on.
     pub fn are_live(&self, block: usize, sum: &Sum<'a>) -> bool {
-        for (name, coefficient) in &sum.terms {
-            if *coefficient != 0 && !self.is_live(block, name) {
+        for life in &self.lives {
+            if sum.has(life.name) && !life.at.get(block).copied().unwrap_or(false) {
                 return false;
             }
         }

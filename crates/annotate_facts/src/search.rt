@@ -13,8 +13,6 @@ struct Rest<'a> {
     /// How many facts were taken out until then, and how many show the whole at least: one more for each register that is left.
     steps: usize,
     facts: usize,
-    /// All its coefficients together, by which most others are seen to have other registers.
-    total: i128,
     /// The number of that rest; of the first one its own.
     of: usize,
     fact: usize,
@@ -25,13 +23,11 @@ struct Rest<'a> {
 
 impl<'a> Rest<'a> {
     fn new(sum: Sum<'a>, steps: usize, of: usize, fact: usize, times: i128) -> Rest<'a> {
-        let facts = steps.saturating_add(sum.size());
-        let total = sum.total();
+        let facts = steps.saturating_add(sum.terms.len());
         Rest {
             sum,
             steps,
             facts,
-            total,
             of,
             fact,
             times,
@@ -53,7 +49,7 @@ struct Search<'w, 'a> {
     heap: &'a Heap,
     facts: &'w [Sum<'a>],
     /// What the first rest is to show beside one more fact, if that is asked.
-    beside: Option<Sum<'a>>,
+    beside: Option<&'w Sum<'a>>,
     rests: Vec<Rest<'a>>,
     /// How many rests were compared with others since that was last counted.
     compared: usize,
@@ -78,28 +74,21 @@ pub fn is_factor(sum: &Sum<'_>, times: i128) -> bool {
 }
 
 impl<'a> Search<'_, 'a> {
-    /// How many facts have the register with the sign of this coefficient.
-    fn count_for(&self, name: &str, coefficient: i128) -> usize {
-        let mut count = 0usize;
-        for fact in self.facts {
-            if times_for(coefficient, fact.coefficient(name)).is_some() {
-                count = count.saturating_add(1);
-            }
-        }
-        count
-    }
-
-    /// The register of a rest that the fewest facts have, with its coefficient; none where one of them is in no fact.
+    /// The register of a rest that the fewest facts have with the sign of its coefficient, and that; none where one of them is in no fact.
     fn register_of(&self, rest: &Sum<'a>) -> Option<(&'a str, i128)> {
         let mut found = None;
         let mut least = usize::MAX;
-        for (name, coefficient) in &rest.terms {
-            if *coefficient != 0 {
-                let count = self.count_for(name, *coefficient);
-                if count < least {
-                    least = count;
-                    found = Some((*name, *coefficient));
+        for term in &rest.terms {
+            let (name, coefficient) = *term;
+            let mut count = 0usize;
+            for fact in self.facts {
+                if times_for(coefficient, fact.coefficient(name)).is_some() {
+                    count = count.saturating_add(1);
                 }
+            }
+            if count < least {
+                least = count;
+                found = Some(*term);
             }
         }
         if least == 0 { None } else { found }
@@ -110,14 +99,12 @@ impl<'a> Search<'_, 'a> {
     fn place_for(&self, next: &Rest<'a>) -> Option<usize> {
         let mut place = self.rests.len();
         for (number, rest) in self.rests.iter().enumerate() {
-            if rest.total == next.total {
-                if let Some(over) = rest.sum.apart_from(&next.sum) {
-                    if over >= 0 {
-                        return None;
-                    }
-                    if !rest.is_followed {
-                        place = number;
-                    }
+            if let Some(over) = rest.sum.apart_from(&next.sum) {
+                if over >= 0 {
+                    return None;
+                }
+                if !rest.is_followed {
+                    place = number;
                 }
             }
         }
@@ -182,8 +169,9 @@ impl<'a> Search<'_, 'a> {
             return None;
         }
         self.rests[of].is_followed = true;
-        let looks = self.rests[of].sum.terms.len().saturating_add(1);
-        let lines = match self.register_of(&self.rests[of].sum) {
+        let sum = &self.rests[of].sum;
+        let looks = sum.terms.len().saturating_add(1);
+        let lines = match self.register_of(sum) {
             Some((name, coefficient)) => self.take_out(of, name, coefficient),
             None => None,
         };
@@ -228,114 +216,70 @@ impl<'a> Search<'_, 'a> {
         None
     }
 
-    /// Adds so many times the fact of a rest. Whether it may stand in a line.
-    fn push_multiple(&self, rest: &Rest<'a>, lines: &mut Vec<Sum<'a>>) -> bool {
-        let facts = self.facts;
-        let Some(fact) = facts.get(rest.fact) else {
-            return false;
+    /// Adds the lines with which the facts show what the rest of this number was made of, on the way to the last one, which is shown. The number of what it was
+    /// made of, if all of them may stand in lines.
+    fn push_between(&self, number: usize, last: usize, lines: &mut Vec<Sum<'a>>) -> Option<usize> {
+        let rests = self.rests.as_slice();
+        let (Some(rest), Some(end)) = (rests.get(number), rests.get(last)) else {
+            return None;
         };
-        let multiple = fact.times(rest.times);
-        let is_line = multiple.is_form() && is_factor(&multiple, rest.times);
-        self.heap.push(lines, multiple);
-        is_line
-    }
-
-    /// Adds a rest less what is over in the end. Whether it may stand in a line.
-    fn push_rest(&self, rest: &Rest<'a>, over: i128, lines: &mut Vec<Sum<'a>>) -> bool {
-        let line = rest.sum.raised(0i128.saturating_sub(over));
-        let is_line = line.is_form();
-        self.heap.push(lines, line);
-        is_line
-    }
-
-    /// Adds the lines with which the facts show what the rest of this number was made of. Whether all of them may stand in lines.
-    fn push_between(&self, number: usize, end: End, lines: &mut Vec<Sum<'a>>) -> bool {
-        let Some(rest) = self.rests.get(number) else {
-            return false;
+        let (Some(whole), Some(fact)) = (rests.get(rest.of), self.facts.get(rest.fact)) else {
+            return None;
         };
-        let Some(whole) = self.rests.get(rest.of) else {
-            return false;
+        let is_last = number == last;
+        let counted = match (self.beside, rests.get(whole.of)) {
+            (Some(beside), _) if is_last && rest.of == 0 => beside,
+            (_, Some(before)) if is_last => &before.sum,
+            _ => &whole.sum,
         };
-        let is_last = number == end.last;
-        let may_count = if is_last && rest.of == 0 {
-            self.may_count_alone(rest.times)
-        } else {
-            self.may_count(if is_last { whole.of } else { rest.of }, rest.times)
-        };
-        if !may_count && !self.push_multiple(rest, lines) {
-            return false;
+        if !is_factor(counted, rest.times) {
+            let multiple = fact.times(rest.times);
+            if !multiple.is_form() || !is_factor(&multiple, rest.times) {
+                return None;
+            }
+            self.heap.push(lines, multiple);
         }
-        if is_last || rest.of == 0 && self.beside.is_none() {
-            return true;
+        if !is_last && (rest.of != 0 || self.beside.is_some()) {
+            let line = whole.sum.raised(end.sum.constant.saturating_neg());
+            if !line.is_form() {
+                return None;
+            }
+            self.heap.push(lines, line);
         }
-        self.push_rest(whole, end.over, lines)
-    }
-
-    /// Whether a fact may count so often where two facts show the rest of this number.
-    fn may_count(&self, number: usize, times: i128) -> bool {
-        match self.rests.get(number) {
-            Some(rest) => is_factor(&rest.sum, times),
-            None => false,
-        }
-    }
-
-    /// The same where one fact alone shows the first rest, and so the sum that this stands beside.
-    fn may_count_alone(&self, times: i128) -> bool {
-        match &self.beside {
-            Some(beside) => is_factor(beside, times),
-            None => self.may_count(0, times),
-        }
+        Some(rest.of)
     }
 
     /// The lines with which the facts show the first rest, by the one that is shown.
     fn lines_to(&self, last: usize) -> Option<Vec<Sum<'a>>> {
-        let over = match self.rests.get(last) {
-            Some(rest) => rest.sum.constant,
-            None => 0,
-        };
-        let end = End { last, over };
         let mut lines = self.heap.list();
         let mut number = last;
         for _step in 0..self.rests.len() {
             if number == 0 {
                 return Some(lines);
             }
-            if !self.push_between(number, end, &mut lines) {
+            let Some(of) = self.push_between(number, last, &mut lines) else {
                 return None;
-            }
-            number = match self.rests.get(number) {
-                Some(rest) => rest.of,
-                None => 0,
             };
+            number = of;
         }
         None
     }
 }
 
-/// The number of the rest that is shown, and what is over in it.
-#[derive(Clone, Copy)]
-struct End {
-    last: usize,
-    over: i128,
-}
-
 /// Lines with which facts show that a sum is at least 0: each of them is shown by two facts and those before it, and so is the sum. Where it is to show another
 /// sum `beside` one more fact, it is the last of them itself, unless one fact alone shows it, and as often as that other sum lets it count. None where none are
 /// found within the effort, of which what was looked at is taken off.
-pub fn lines_between<'a>(
+pub fn lines_between<'w, 'a>(
     heap: &'a Heap,
-    facts: &[Sum<'a>],
+    facts: &'w [Sum<'a>],
     sum: &Sum<'a>,
-    beside: Option<&Sum<'a>>,
+    beside: Option<&'w Sum<'a>>,
     effort: &mut usize,
 ) -> Option<Vec<Sum<'a>>> {
     let mut search = Search {
         heap,
         facts,
-        beside: match beside {
-            Some(beside) => Some(beside.copy()),
-            None => None,
-        },
+        beside,
         rests: heap.list(),
         compared: 0,
     };

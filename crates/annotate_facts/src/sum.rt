@@ -4,10 +4,9 @@ use crate::heap::Heap;
 use lists::TextBuffer;
 use syntax::{Form, Inequality, Operand, Relation};
 
-/// Registers times numbers, and a number. A register stands in it once at most; numbers past 128 bits stay at the last one.
+/// Registers times numbers, and a number. A register stands in it once at most, and never 0 times; numbers past 128 bits stay at the last one.
 pub struct Sum<'a> {
     heap: &'a Heap,
-    /// Some coefficients may be 0.
     pub terms: Vec<(&'a str, i128)>,
     pub constant: i128,
 }
@@ -75,14 +74,28 @@ impl<'a> Sum<'a> {
         self.constant = self.constant.saturating_add(number);
     }
 
-    pub fn add_term(&mut self, name: &'a str, coefficient: i128) {
-        for term in &mut self.terms {
+    /// Where the register stands among the terms; behind them all where it does not.
+    fn place_of(&self, name: &str) -> usize {
+        for (place, term) in self.terms.iter().enumerate() {
             if term.0 == name {
-                term.1 = term.1.saturating_add(coefficient);
-                return;
+                return place;
             }
         }
-        self.heap.push(&mut self.terms, (name, coefficient));
+        self.terms.len()
+    }
+
+    pub fn add_term(&mut self, name: &'a str, coefficient: i128) {
+        let place = self.place_of(name);
+        if place < self.terms.len() {
+            let both = self.terms[place].1.saturating_add(coefficient);
+            if both == 0 {
+                self.terms.remove(place);
+            } else {
+                self.terms[place].1 = both;
+            }
+        } else if coefficient != 0 {
+            self.heap.push(&mut self.terms, (name, coefficient));
+        }
     }
 
     /// Adds another sum so many times.
@@ -158,72 +171,71 @@ impl<'a> Sum<'a> {
         self.coefficient(name) != 0
     }
 
-    /// Whether no other register stands in the sum.
-    pub fn is_alone(&self, name: &str) -> bool {
-        for term in &self.terms {
-            if term.1 != 0 && term.0 != name {
-                return false;
-            }
-        }
-        true
-    }
-
-    /// The first term whose coefficient is not 0.
+    /// The first term.
     pub fn first(&self) -> Option<(&'a str, i128)> {
-        for term in &self.terms {
-            if term.1 != 0 {
-                return Some(*term);
-            }
-        }
-        None
+        self.terms.first().copied()
     }
 
     /// The number that the sum is; none where a register stands in it.
     pub fn as_number(&self) -> Option<i128> {
-        match self.first() {
-            Some(_) => None,
-            None => Some(self.constant),
-        }
-    }
-
-    /// By how much the sum is more than another one with the same registers as often; none where the other has others.
-    pub fn apart_from(&self, other: &Sum<'a>) -> Option<i128> {
-        if self.has_as_often(other) && other.has_as_often(self) {
-            Some(self.constant.saturating_sub(other.constant))
+        if self.terms.is_empty() {
+            Some(self.constant)
         } else {
             None
         }
     }
 
-    /// Whether each register of the other sum stands in this one as often.
-    fn has_as_often(&self, other: &Sum<'a>) -> bool {
-        for (name, coefficient) in &other.terms {
-            if self.coefficient(name) != *coefficient {
-                return false;
-            }
+    /// How much the number that the sum is lacks to be at least 0.
+    pub fn lack(&self) -> Option<i128> {
+        match self.as_number() {
+            Some(number) => Some(number.saturating_neg().max(0)),
+            None => None,
         }
-        true
     }
 
-    /// All coefficients together.
-    pub fn total(&self) -> i128 {
-        let mut total = 0i128;
-        for (_name, coefficient) in &self.terms {
-            total = total.saturating_add(*coefficient);
+    /// By how much the sum is more than another one with the same registers as often; none where the other has others.
+    pub fn apart_from(&self, other: &Sum<'a>) -> Option<i128> {
+        if self.terms.len() != other.terms.len() {
+            return None;
         }
-        total
+        for (name, coefficient) in &other.terms {
+            if self.coefficient(name) != *coefficient {
+                return None;
+            }
+        }
+        Some(self.constant.saturating_sub(other.constant))
+    }
+
+    /// The sum with the fact added as often as takes this register out of it, so no less than the sum; none where the fact has the register with the same sign
+    /// or does not divide it.
+    pub fn most_without(&self, name: &str, fact: &Sum<'a>) -> Option<Sum<'a>> {
+        let times = self.coefficient(name).checked_div(fact.coefficient(name));
+        let times = times.unwrap_or(0).saturating_neg();
+        if times <= 0 {
+            return None;
+        }
+        let most = self.with(fact, times);
+        if most.has(name) { None } else { Some(most) }
     }
 
     /// Takes the register out; how often it stood in the sum.
     fn take_out(&mut self, name: &str) -> i128 {
-        for term in &mut self.terms {
-            if term.0 == name {
-                let times = term.1;
-                term.1 = 0;
-                return times;
-            }
+        let place = self.place_of(name);
+        if place < self.terms.len() {
+            let (_name, times) = self.terms.remove(place);
+            times
+        } else {
+            0
         }
-        0
+    }
+
+    /// The part of the sum whose registers another one has not.
+    pub fn beside(&self, other: &Sum<'a>) -> Sum<'a> {
+        let mut part = self.copy();
+        for (name, _coefficient) in &other.terms {
+            part.take_out(name);
+        }
+        part
     }
 
     /// Takes the register out, and another sum in its place.
@@ -240,17 +252,6 @@ impl<'a> Sum<'a> {
         sum
     }
 
-    /// How many registers stand in the sum.
-    pub fn size(&self) -> usize {
-        let mut size = 0usize;
-        for term in &self.terms {
-            if term.1 != 0 {
-                size = size.saturating_add(1);
-            }
-        }
-        size
-    }
-
     /// Whether a form may name as many registers, with coefficients as great.
     pub fn has_form_terms(&self) -> bool {
         for term in &self.terms {
@@ -258,7 +259,7 @@ impl<'a> Sum<'a> {
                 return false;
             }
         }
-        self.size() <= MOST_TERMS
+        self.terms.len() <= MOST_TERMS
     }
 
     /// Whether a form may be as long and have numbers as great.
@@ -269,104 +270,60 @@ impl<'a> Sum<'a> {
     /// The terms in the order of their names.
     pub fn sorted(&self) -> Vec<(&'a str, i128)> {
         let mut terms = self.heap.list();
-        for term in &self.terms {
-            self.heap.push(&mut terms, *term);
-        }
+        self.heap
+            .kept(terms.extend_from_slice(self.terms.as_slice()));
         self.heap.kept(terms.sort());
         terms
     }
 
     /// Adds the form's canonical spelling.
     pub fn spell(&self, out: &mut TextBuffer) {
-        let terms = self.sorted();
-        spell_side(out, terms.as_slice(), Side::Whole, self.constant);
+        let mut is_first = true;
+        for (name, coefficient) in self.sorted() {
+            spell_number(out, is_first, coefficient, "*");
+            out.push_str("%");
+            out.push_str(name);
+            is_first = false;
+        }
+        if is_first || self.constant != 0 {
+            spell_number(out, is_first, self.constant, "");
+        }
     }
 
     /// Adds that the sum is at least 0: what has a minus on the lesser side, the rest on the other; what has registers stands first.
     pub fn spell_inequality(&self, out: &mut TextBuffer) {
-        let sorted = self.sorted();
-        let terms = sorted.as_slice();
-        let (first, relation, second) = if has_minus(terms) {
-            (Side::Lesser, " <= ", Side::Greater)
+        let mut greater = Sum::number(self.heap, self.constant.max(0));
+        let mut lesser = Sum::number(self.heap, self.constant.saturating_neg().max(0));
+        for (name, coefficient) in &self.terms {
+            greater.add_term(name, (*coefficient).max(0));
+            lesser.add_term(name, coefficient.saturating_neg().max(0));
+        }
+        if lesser.terms.is_empty() {
+            greater.spell(out);
+            out.push_str(" >= ");
+            lesser.spell(out);
         } else {
-            (Side::Greater, " >= ", Side::Lesser)
-        };
-        spell_side(out, terms, first, self.constant);
-        out.push_str(relation);
-        spell_side(out, terms, second, self.constant);
-    }
-}
-
-/// What is spelled of a sum: all, or where it is at least 0 what is added to its lesser side or what stands on the greater one.
-#[derive(Clone, Copy)]
-enum Side {
-    Whole,
-    Lesser,
-    Greater,
-}
-
-impl Side {
-    fn part_of(self, number: i128) -> i128 {
-        match self {
-            Side::Whole => number,
-            Side::Lesser => number.saturating_neg().max(0),
-            Side::Greater => number.max(0),
+            lesser.spell(out);
+            out.push_str(" <= ");
+            greater.spell(out);
         }
     }
-}
-
-fn has_minus(terms: &[(&str, i128)]) -> bool {
-    for (_name, coefficient) in terms {
-        if *coefficient < 0 {
-            return true;
-        }
-    }
-    false
-}
-
-/// The part of terms, which are in the order of their names, and of a number.
-fn spell_side(out: &mut TextBuffer, terms: &[(&str, i128)], side: Side, constant: i128) {
-    let mut is_first = true;
-    for (name, coefficient) in terms {
-        let coefficient = side.part_of(*coefficient);
-        if coefficient != 0 {
-            spell_term(out, is_first, name, coefficient);
-            is_first = false;
-        }
-    }
-    spell_constant(out, is_first, side.part_of(constant));
 }
 
 fn is_within(number: i128, most: i128) -> bool {
     number <= most && 0i128.saturating_sub(most) <= number
 }
 
-fn sign_of(is_first: bool, number: i128) -> &'static str {
+/// A number, with a sign before it unless it is the first and has no minus; how often a register stands in the sum is followed by a sign too, and left out
+/// where it is once.
+fn spell_number(out: &mut TextBuffer, is_first: bool, number: i128, times: &str) {
     if number < 0 {
-        "-"
-    } else if is_first {
-        ""
-    } else {
-        "+"
+        out.push_str("-");
+    } else if !is_first {
+        out.push_str("+");
     }
-}
-
-/// The number behind the terms, unless it is 0 and there are some.
-fn spell_constant(out: &mut TextBuffer, is_first: bool, constant: i128) {
-    if !is_first && constant == 0 {
-        return;
+    let size = number.unsigned_abs();
+    if size != 1 || times.is_empty() {
+        write!(out, "{size}{times}");
     }
-    out.push_str(sign_of(is_first, constant));
-    let size = constant.unsigned_abs();
-    write!(out, "{size}");
-}
-
-fn spell_term(out: &mut TextBuffer, is_first: bool, name: &str, coefficient: i128) {
-    out.push_str(sign_of(is_first, coefficient));
-    let size = coefficient.unsigned_abs();
-    if size != 1 {
-        write!(out, "{size}*");
-    }
-    out.push_str("%");
-    out.push_str(name);
 }

@@ -2,10 +2,11 @@
 //! says of it.
 
 use annotate_facts::{
-    Edge, Extra, Heap, Known, Sum, block_at, facts_of, greatest_number, is_used_beside, register_of,
+    Edge, Extra, Heap, Known, Sum, block_at, facts_of, greatest_number, is_used_beside, phi_value,
+    register_of,
 };
 use annotate_uses::Scope;
-use syntax::{Block, Operand, Phi};
+use syntax::{Block, Phi};
 
 /// The facts of a block's head that are looked at, and those of its end; the registers of them whose numbers are bounded.
 const MOST_AT_HEAD: usize = 128;
@@ -17,26 +18,17 @@ const MOST_REGISTERS: usize = 64;
 /// The most facts of a function that are found.
 const MOST_FOUND: usize = 512;
 
-/// The least and the greatest number that an operand may be.
+/// The greatest number that an operand may be, and that less than 0 it may be.
 #[derive(Clone, Copy)]
 struct Span {
-    low: Option<i128>,
-    high: Option<i128>,
+    above: Option<i128>,
+    below: Option<i128>,
 }
 
-impl Span {
-    /// The span that has both.
-    fn with(self, other: Span) -> Span {
-        Span {
-            low: match (self.low, other.low) {
-                (Some(one), Some(two)) => Some(one.min(two)),
-                _ => None,
-            },
-            high: match (self.high, other.high) {
-                (Some(one), Some(two)) => Some(one.max(two)),
-                _ => None,
-            },
-        }
+fn greater(one: Option<i128>, other: Option<i128>) -> Option<i128> {
+    match (one, other) {
+        (Some(one), Some(other)) => Some(one.max(other)),
+        _ => None,
     }
 }
 
@@ -51,27 +43,22 @@ struct Finder<'w, 'a> {
 }
 
 fn span_of<'a>(facts: &[Sum<'a>], sum: &Sum<'a>) -> Span {
-    let opposite = sum.times(-1);
-    let low = match greatest_number(facts, &opposite) {
-        Some(most) => Some(0i128.saturating_sub(most)),
-        None => None,
-    };
     Span {
-        low,
-        high: greatest_number(facts, sum),
+        above: greatest_number(facts, sum),
+        below: greatest_number(facts, &sum.times(-1)),
     }
 }
 
 /// That a register lies in a span.
 fn facts_of_span<'a>(heap: &'a Heap, name: &'a str, span: Span) -> Vec<Sum<'a>> {
     let mut facts = heap.list();
-    if let Some(low) = span.low {
+    if let Some(most) = span.below {
         let own = Sum::of_register(heap, name, 1);
-        heap.push(&mut facts, own.raised(low.saturating_neg()));
+        heap.push(&mut facts, own.raised(most));
     }
-    if let Some(high) = span.high {
+    if let Some(most) = span.above {
         let own = Sum::of_register(heap, name, -1);
-        heap.push(&mut facts, own.raised(high));
+        heap.push(&mut facts, own.raised(most));
     }
     facts
 }
@@ -106,7 +93,7 @@ impl<'a> Finder<'_, 'a> {
     }
 
     /// The registers of facts, each once.
-    fn registers_in(&self, facts: &[Sum<'a>]) -> Vec<&'a str> {
+    fn registers_in(&self, facts: &[Sum<'a>]) -> Sum<'a> {
         let mut all = Sum::number(self.scope.heap, 0);
         for fact in facts {
             for (name, _coefficient) in &fact.terms {
@@ -115,19 +102,15 @@ impl<'a> Finder<'_, 'a> {
                 }
             }
         }
-        let mut names = self.scope.heap.list();
-        for (name, _coefficient) in &all.terms {
-            self.scope.heap.push(&mut names, *name);
-        }
-        names
+        all
     }
 
     /// What is known where a block begins, with the bounds of its registers.
     fn facts_at(&self, index: usize) -> Vec<Sum<'a>> {
         let mut facts = self.known.facts_at(index);
         facts.truncate(MOST_AT_HEAD);
-        let names = self.registers_in(facts.as_slice());
-        for name in names {
+        let registers = self.registers_in(facts.as_slice());
+        for (name, _coefficient) in &registers.terms {
             self.bound(&mut facts, name);
         }
         facts
@@ -167,46 +150,39 @@ impl<'a> Finder<'_, 'a> {
         self.scope.heap.push(&mut self.ends, facts);
     }
 
-    /// What is known where an edge leads on.
-    fn facts_along(&self, number: usize, edge: Edge<'a>) -> Vec<Sum<'a>> {
+    /// Between which numbers what a phi takes along an edge lies, by what is known there.
+    fn span_along(&self, number: usize, edge: Edge<'a>, name: &str, phis: &'a [Phi]) -> Span {
         let heap = self.scope.heap;
-        let mut facts = heap.list();
+        let value = match block_at(self.scope.function, edge.from) {
+            Some(from) => phi_value(phis, name, &from.label),
+            None => None,
+        };
+        let Some(value) = value else {
+            return Span {
+                above: None,
+                below: None,
+            };
+        };
+        let mut facts = self.known.sums_on(number);
         if let Some(end) = self.ends.get(edge.from) {
             for fact in end {
                 heap.push(&mut facts, fact.copy());
             }
         }
-        for fact in self.known.facts_on(number) {
-            if let Some(fact) = self.known.facts.sums.get(*fact) {
-                heap.push(&mut facts, fact.copy());
-            }
-        }
-        facts
-    }
-
-    /// Between which numbers what a phi takes along an edge lies.
-    fn span_along(&self, number: usize, edge: Edge<'a>, value: &'a Operand) -> Span {
-        let facts = self.facts_along(number, edge);
-        span_of(
-            facts.as_slice(),
-            &Sum::of_operand(self.scope.heap, value, 1),
-        )
+        span_of(facts.as_slice(), &Sum::of_operand(heap, value, 1))
     }
 
     /// The same of all edges to its block.
-    fn span_of_phi(&self, index: usize, phi: &'a Phi) -> Option<Span> {
+    fn span_of_phi(&self, index: usize, name: &str, phis: &'a [Phi]) -> Option<Span> {
         let mut all = None;
         for (number, edge) in self.known.edges.iter().enumerate() {
             if edge.to == index {
-                let span = match value_along(self.scope, *edge, phi) {
-                    Some(value) => self.span_along(number, *edge, value),
-                    None => Span {
-                        low: None,
-                        high: None,
-                    },
-                };
+                let span = self.span_along(number, *edge, name, phis);
                 all = Some(match all {
-                    Some(other) => span.with(other),
+                    Some(Span { above, below }) => Span {
+                        above: greater(above, span.above),
+                        below: greater(below, span.below),
+                    },
                     None => span,
                 });
             }
@@ -214,64 +190,40 @@ impl<'a> Finder<'_, 'a> {
         all
     }
 
-    fn add_phis(&mut self, index: usize, block: &'a Block) {
-        for phi in block.phis.as_slice() {
-            if let Some(span) = self.span_of_phi(index, phi) {
-                self.push_span(index, true, phi.register.as_str(), span);
+    fn add_phis(&mut self, index: usize, phis: &'a [Phi]) {
+        for phi in phis {
+            let name = phi.register.as_str();
+            if let Some(span) = self.span_of_phi(index, name, phis) {
+                self.push_span(index, true, name, span);
             }
         }
     }
-
-    fn add_ends(&mut self) {
-        let function = self.scope.function;
-        for (index, block) in function.blocks.as_slice().iter().enumerate() {
-            self.add_end(index, block);
-        }
-    }
-
-    fn add_all(&mut self) {
-        let function = self.scope.function;
-        self.add_ends();
-        for (index, block) in function.blocks.as_slice().iter().enumerate() {
-            self.add_phis(index, block);
-        }
-    }
 }
 
-/// What a phi takes along an edge.
-fn value_along<'a>(scope: Scope<'a>, edge: Edge<'a>, phi: &'a Phi) -> Option<&'a Operand> {
-    let Some(from) = block_at(scope.function, edge.from) else {
-        return None;
-    };
-    for entry in phi.entries.as_slice() {
-        if entry.predecessor.is_same(&from.label) {
-            return Some(&entry.value);
-        }
-    }
-    None
-}
-
+/// What is known at the ends of the blocks, and the facts that are found there.
 fn finder_of<'w, 'a>(scope: Scope<'a>, known: &'w Known<'a>) -> Finder<'w, 'a> {
-    Finder {
+    let mut finder = Finder {
         scope,
         known,
         ends: scope.heap.list(),
         extras: scope.heap.list(),
+    };
+    for (index, block) in scope.function.blocks.as_slice().iter().enumerate() {
+        finder.add_end(index, block);
     }
+    finder
 }
 
 /// Facts that follow from what is known at the blocks, or may be so.
 pub fn derived<'w, 'a>(scope: Scope<'a>, known: &'w Known<'a>) -> Vec<Extra<'a>> {
     let mut finder = finder_of(scope, known);
-    finder.add_all();
-    let Finder { extras, .. } = finder;
-    extras
+    for (index, block) in scope.function.blocks.as_slice().iter().enumerate() {
+        finder.add_phis(index, block.phis.as_slice());
+    }
+    finder.extras
 }
 
 /// For each block what is known at its end.
 pub fn ends_of<'w, 'a>(scope: Scope<'a>, known: &'w Known<'a>) -> Vec<Vec<Sum<'a>>> {
-    let mut finder = finder_of(scope, known);
-    finder.add_ends();
-    let Finder { ends, .. } = finder;
-    ends
+    finder_of(scope, known).ends
 }

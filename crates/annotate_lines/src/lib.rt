@@ -1,17 +1,25 @@
-//! Annotations that follow from others, put into a module's text.
+//! Annotations that follow from others, put into a module's text, each of them tried.
 //!
-//! [`proposed`] adds lines and changes none. At each block it adds the `keeps` that all ways to it bring along, the `pending` zones that are
+//! `proposal` adds lines and changes none. At each block it adds the `keeps` that all ways to it bring along, the `pending` zones that are
 //! handed on to it, and what is `left` by what the block does and what is left behind it; within blocks the `shows` lines with which facts show what
-//! instructions and edges ask; at a function's head its `budget`, by what is left at its entry. It proposes and judges nothing: whether the lines are right is
-//! for the verifier to say.
+//! instructions and edges ask; at a function's head its `budget`, by what is left at its entry. [`with_lines`] tries them by the functions of the verifier's
+//! phases, and takes out again what these refuse; [`without_needless`] takes out what an accepted text can do without. Nothing is judged here: whether a text is
+//! accepted is for the verifier to say.
 #![tactic(auto)]
 
 mod derived;
 mod limits;
+mod needless;
+mod new_lines;
 mod order;
+mod plain;
 mod proposal;
 mod step;
+mod trial;
+mod tries;
 mod wanted;
 
 pub use limits::{Limit, MetLimit, limits_met};
-pub use proposal::{Kind, proposed};
+pub use needless::without_needless;
+pub use new_lines::NewLines;
+pub use tries::{is_long, with_lines};

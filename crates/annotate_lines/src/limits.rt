@@ -2,13 +2,13 @@
 
 use crate::proposal::{MOST_LINES, put_all_in_order};
 use annotate_facts::{
-    Heap, Known, MOST_BLOCKS, Place, dominators_of, has_many_instructions, known_of,
+    Heap, Known, MOST_BLOCKS, Place, block_at, dominators_of, has_many_instructions, known_of,
 };
 use ir_reader::read;
 use refusal::Refused;
 use std::alloc::Global;
 use std::hash::RandomState;
-use syntax::{Function, Module};
+use syntax::Function;
 
 /// A limit of what is looked at in a function or a block.
 #[derive(Clone, Copy)]
@@ -74,8 +74,10 @@ impl<'a> Limits<'a> {
             };
             let has_all_guesses = place.has_all_guesses(known.facts.sums.as_slice());
             self.push(block.line, Limit::Guesses, has_all_guesses);
-            let has_all_lines = has_all_lines(annotated, index);
-            self.push(block.line, Limit::Lines, has_all_lines);
+            if let Some(other) = block_at(annotated, index) {
+                let has_all_lines = other.notes.keeps.len() >= MOST_LINES;
+                self.push(block.line, Limit::Lines, has_all_lines);
+            }
         }
     }
 
@@ -91,30 +93,6 @@ impl<'a> Limits<'a> {
             self.push_blocks(&known, annotated);
         }
     }
-}
-
-/// Whether a block has all `keeps` lines that there is room for.
-fn has_all_lines(function: &Function, block: usize) -> bool {
-    match function.blocks.as_slice().get(block) {
-        Some(block) => block.notes.keeps.len() >= MOST_LINES,
-        None => false,
-    }
-}
-
-/// The limits of two modules' functions, of which one has the lines that were put into the other.
-fn limits_of<'a>(heap: &'a Heap, module: &'a Module, annotated: &Module) -> Vec<MetLimit> {
-    let mut limits = Limits {
-        heap,
-        met: heap.list(),
-    };
-    let others = annotated.functions.as_slice();
-    for (index, function) in module.functions.as_slice().iter().enumerate() {
-        if let Some(other) = others.get(index) {
-            limits.push_all(function, other);
-        }
-    }
-    let Limits { met, .. } = limits;
-    met
 }
 
 /// The limits that the functions and blocks of a text meet, so that lines that follow may be missing; `annotated` is the text with those that were put in.
@@ -133,7 +111,15 @@ pub fn limits_met(
     let heap = Heap::new(alloc);
     put_all_in_order(&heap, &mut module);
     put_all_in_order(&heap, &mut other);
-    let met = limits_of(&heap, &module, &other);
+    let mut limits = Limits {
+        heap: &heap,
+        met: heap.list(),
+    };
+    let others = other.functions.as_slice();
+    for (function, annotated) in module.functions.as_slice().iter().zip(others) {
+        limits.push_all(function, annotated);
+    }
+    let Limits { met, .. } = limits;
     heap.finish()?;
     Ok(met)
 }

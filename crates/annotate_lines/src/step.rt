@@ -24,6 +24,7 @@ pub struct Told {
 }
 
 /// What is known in a block as far as one has come.
+#[derive(Drop)]
 pub struct Walk<'a> {
     scope: Scope<'a>,
     place: usize,
@@ -44,26 +45,6 @@ pub struct Walk<'a> {
     pub missed: Vec<Sum<'a>>,
     /// The lines that were told.
     pub lines: Vec<Told>,
-}
-
-/// Written out, so that no crate above proves it anew.
-impl Drop for Walk<'_> {
-    fn drop(self) {
-        let Walk {
-            scope: _,
-            place: _,
-            block: _,
-            is_function: _,
-            facts: _,
-            effort: _,
-            covering: _,
-            told: _,
-            stated: _,
-            passed: _,
-            missed: _,
-            lines: _,
-        } = self;
-    }
 }
 
 /// What is at least 0 where cells do not begin before a zone.
@@ -111,26 +92,24 @@ impl<'a> Walk<'a> {
             missed: scope.heap.list(),
             lines: scope.heap.list(),
         };
-        walk.learn_all(if place == 0 {
+        let stated = if place == 0 {
             scope.function.notes.requirements.as_slice()
         } else {
             block.notes.keeps.as_slice()
-        });
-        walk.ask_lefts();
+        };
+        for inequality in stated {
+            walk.learn(Sum::of_inequality(scope.heap, inequality));
+        }
+        if let Some(left) = given(scope.heap, block) {
+            walk.ask_left(&left.calls);
+            walk.ask_left(&left.instructions);
+        }
         walk
     }
 
     fn learn(&mut self, fact: Sum<'a>) {
         if self.facts.len() < MOST_FACTS {
             self.scope.heap.push(&mut self.facts, fact);
-        }
-    }
-
-    /// States what the text says.
-    fn learn_all(&mut self, inequalities: &'a [Inequality]) {
-        for inequality in inequalities {
-            let sum = Sum::of_inequality(self.scope.heap, inequality);
-            self.learn(sum);
         }
     }
 
@@ -160,16 +139,21 @@ impl<'a> Walk<'a> {
         false
     }
 
-    /// Tells how the facts show a sum, or what shows another one beside one more fact; whether they do.
-    fn reach(&mut self, sum: &Sum<'a>, beside: Option<&Sum<'a>>) -> bool {
-        if let Some(number) = sum.as_number() {
-            return number >= 0;
-        }
+    /// The lines with which the facts show a sum, or what shows another one beside one more fact.
+    fn lines_to(&mut self, sum: &Sum<'a>, beside: Option<&Sum<'a>>) -> Option<Vec<Sum<'a>>> {
         let heap = self.scope.heap;
         let mut effort = self.effort;
         let found = lines_between(heap, self.facts.as_slice(), sum, beside, &mut effort);
         self.effort = effort;
-        match found {
+        found
+    }
+
+    /// Tells those lines; whether there are some.
+    fn reach(&mut self, sum: &Sum<'a>, beside: Option<&Sum<'a>>) -> bool {
+        if let Some(number) = sum.as_number() {
+            return number >= 0;
+        }
+        match self.lines_to(sum, beside) {
             Some(lines) => {
                 self.tell_all(lines);
                 true
@@ -192,23 +176,6 @@ impl<'a> Walk<'a> {
     fn ask(&mut self, goal: &Sum<'a>) {
         if !self.reach(goal, None) {
             self.miss(goal);
-        }
-    }
-
-    /// Tells how the facts show what an instruction asks.
-    fn reach_goals(&mut self, instruction: &'a Instruction) {
-        for goal in self.scope.goals(instruction) {
-            self.ask(&goal);
-        }
-    }
-
-    /// Tells how they show what a return of this value asks.
-    fn reach_return(&mut self, value: &'a Operand) {
-        let result = Sum::of_operand(self.scope.heap, value, 1);
-        for inequality in self.scope.function.notes.guarantees.as_slice() {
-            let mut goal = Sum::of_inequality(self.scope.heap, inequality);
-            goal.put(".ret", &result);
-            self.ask(&goal);
         }
     }
 
@@ -248,14 +215,7 @@ impl<'a> Walk<'a> {
         self.learn(own.below(high))
     }
 
-    /// States what an instruction makes known of the register that it defines.
-    fn learn_made(&mut self, name: &'a str, instruction: &'a Instruction) {
-        for fact in facts_of(self.scope.heap, name, instruction) {
-            self.learn(fact);
-        }
-    }
-
-    /// The same, where it is known that its operands are as that wants them.
+    /// States what an instruction makes known of the register that it defines, where it is known that its operands are as that wants them.
     fn learn_register(&mut self, name: &'a str, instruction: &'a Instruction) {
         match instruction {
             Instruction::Convert {
@@ -265,24 +225,21 @@ impl<'a> Walk<'a> {
             } => self.learn_conversion(name, *conversion, value),
             Instruction::Binary { operator, left, .. } => {
                 if !is_of_signed_parts(*operator) || self.is_at_least(1, left, 0) {
-                    self.learn_made(name, instruction);
+                    for fact in facts_of(self.scope.heap, name, instruction) {
+                        self.learn(fact);
+                    }
                 }
             }
-            _ => {},
+            _ => {}
         }
     }
 
-    /// States what the callee says of a call.
-    fn learn_call(&mut self, call: Call<'a>) {
-        for inequality in call.callee.notes.guarantees.as_slice() {
-            self.learn(call.said(inequality));
-        }
-    }
-
-    /// States what an instruction makes known.
+    /// States what an instruction makes known, and what the callee says of a call.
     fn learn_step(&mut self, instruction: &'a Instruction) {
         if let Some(call) = self.scope.call_of(instruction) {
-            self.learn_call(call);
+            for inequality in call.callee.notes.guarantees.as_slice() {
+                self.learn(call.said(inequality));
+            }
         }
         if let Some(name) = register_of(instruction) {
             self.learn_register(name, instruction);
@@ -318,17 +275,12 @@ impl<'a> Walk<'a> {
         heap.push(&mut self.lines, Told { behind, lines });
     }
 
-    /// Tells how the facts show that cells lie in a zone. Whether they do.
-    fn reach_ends(&mut self, cells: &Cells<'a>, zone: &'a Zone) -> bool {
-        let heap = self.scope.heap;
-        self.reach(&begin_in(cells, zone), None) && self.reach(&end_in(heap, cells, zone), None)
-    }
-
-    /// The same; nothing is told where they do not.
+    /// Tells how the facts show that cells lie in a zone, and nothing where they do not. Whether they do.
     fn reach_zone(&mut self, cells: &Cells<'a>, zone: &'a Zone) -> bool {
         let facts = self.facts.len();
         let told = self.told.len();
-        let is_covered = self.reach_ends(cells, zone);
+        let is_covered = self.reach(&begin_in(cells, zone), None)
+            && self.reach(&end_in(self.scope.heap, cells, zone), None);
         if !is_covered {
             self.facts.truncate(facts);
             self.told.truncate(told);
@@ -336,7 +288,7 @@ impl<'a> Walk<'a> {
         is_covered
     }
 
-    /// Tells how the facts show that one of these zones has the cells; whether they do.
+    /// Tells how the facts show that one of these zones has the cells, or keeps what would show that one has; whether they do.
     fn reach_among(&mut self, cells: &Cells<'a>, zones: &'a [Zone]) -> bool {
         for zone in zones {
             if cells.may_lie_in(zone) && self.reach_zone(cells, zone) {
@@ -345,16 +297,11 @@ impl<'a> Walk<'a> {
         }
         for zone in zones {
             if cells.may_lie_in(zone) {
-                self.miss_zone(cells, zone);
+                self.ask(&begin_in(cells, zone));
+                self.ask(&end_in(self.scope.heap, cells, zone));
             }
         }
         false
-    }
-
-    /// Keeps what would show that cells lie in a zone.
-    fn miss_zone(&mut self, cells: &Cells<'a>, zone: &'a Zone) {
-        self.ask(&begin_in(cells, zone));
-        self.ask(&end_in(self.scope.heap, cells, zone))
     }
 
     /// The same of the covering zones; of the function's own cells nothing where it touches them itself.
@@ -370,30 +317,20 @@ impl<'a> Walk<'a> {
         }
     }
 
-    /// The same of all cells that an instruction touches.
-    fn reach_covers(&mut self, instruction: &'a Instruction) {
-        let steps = self.block.steps.as_slice();
-        for cells in self.scope.touched(steps, instruction) {
-            self.reach_cover(&cells);
-        }
-    }
-
-    /// Tells how the facts show that the zones of new children are covered.
-    fn reach_foot(&mut self, child: &'a Block) {
-        for zone in child.notes.foot.as_slice() {
-            self.reach_cover(&Cells::of_zone(self.scope.heap, zone));
-        }
-    }
-
-    /// Goes over a step.
+    /// Goes over a step: tells how the facts show what it asks, and that the cells that it touches are covered.
     pub fn pass(&mut self, step: &'a Step) {
         self.begin(step.shows.as_slice());
         if self.effort == 0 {
             return;
         }
-        self.reach_goals(&step.instruction);
-        self.effort = self.effort.saturating_sub(self.block.steps.len());
-        self.reach_covers(&step.instruction);
+        for goal in self.scope.goals(&step.instruction) {
+            self.ask(&goal);
+        }
+        let steps = self.block.steps.as_slice();
+        self.effort = self.effort.saturating_sub(steps.len());
+        for cells in self.scope.touched(steps, &step.instruction) {
+            self.reach_cover(&cells);
+        }
         self.learn_step(&step.instruction);
         self.passed = self.passed.saturating_add(1);
         self.flush(step.line)
@@ -431,37 +368,25 @@ impl<'a> Walk<'a> {
 
     /// Keeps what is left at the block's head, where two facts do not show that it is at least 0.
     fn ask_left(&mut self, sum: &Sum<'a>) {
-        let heap = self.scope.heap;
-        let mut effort = self.effort;
-        let found = lines_between(heap, self.facts.as_slice(), sum, None, &mut effort);
-        self.effort = effort;
-        let is_shown = match &found {
+        let is_shown = match self.lines_to(sum, None) {
             Some(lines) => lines.is_empty(),
             None => false,
         };
         if sum.as_number().is_none() && !is_shown {
-            heap.push(&mut self.missed, sum.copy());
-        }
-    }
-
-    /// The same of self calls and instructions.
-    fn ask_lefts(&mut self) {
-        if let Some(left) = given(self.scope.heap, self.block) {
-            self.ask_left(&left.calls);
-            self.ask_left(&left.instructions);
+            self.scope.heap.push(&mut self.missed, sum.copy());
         }
     }
 
     /// What is left behind an edge, where its target has a line for it.
     fn left_behind(&self, edge: Edge<'a>) -> Option<Need<'a>> {
         let heap = self.scope.heap;
-        match block_at(self.scope.function, edge.to) {
-            Some(to) => match given(heap, to) {
-                Some(left) => Some(left.moved(heap, &self.block.label, to.phis.as_slice())),
-                None => None,
-            },
-            None => None,
-        }
+        let Some(to) = block_at(self.scope.function, edge.to) else {
+            return None;
+        };
+        let Some(left) = given(heap, to) else {
+            return None;
+        };
+        Some(left.moved(heap, &self.block.label, to.phis.as_slice()))
     }
 
     /// Tells how the facts show that enough is left behind the edges of the block; of a detach behind both together.
@@ -494,40 +419,40 @@ impl<'a> Walk<'a> {
         }
     }
 
-    /// Tells how the facts show what a block's head asks along an edge.
-    fn reach_edge(&mut self, known: &Known<'a>, edge: usize, to: &'a Block) {
+    /// Tells how the facts show what a block's head asks along an edge, and that the zones of new children are covered.
+    fn reach_edge(&mut self, known: &Known<'a>, number: usize, way: Way<'a>, to: &'a Block) {
+        let heap = self.scope.heap;
         for inequality in to.notes.keeps.as_slice() {
-            let goal = Sum::of_inequality(self.scope.heap, inequality);
-            let goal = moved(
-                self.scope.heap,
-                &goal,
-                &self.block.label,
-                to.phis.as_slice(),
-            );
-            self.reach_along(known, edge, &goal);
+            let asked = Sum::of_inequality(heap, inequality);
+            let goal = moved(heap, &asked, &self.block.label, to.phis.as_slice());
+            self.reach_along(known, number, &goal);
         }
-    }
-
-    fn reach_edges(&mut self, known: &Known<'a>) {
-        for (number, edge) in known.edges.iter().enumerate() {
-            if edge.from == self.place {
-                if let Some(to) = block_at(self.scope.function, edge.to) {
-                    self.reach_edge(known, number, to);
-                    if matches!(edge.way, Way::Detached) {
-                        self.reach_foot(to);
-                    }
-                }
+        if matches!(way, Way::Detached) {
+            for zone in to.notes.foot.as_slice() {
+                self.reach_cover(&Cells::of_zone(heap, zone));
             }
         }
     }
 
-    /// Goes over the end of the block.
+    /// Goes over the end of the block: tells how the facts show what a return asks of its value, and what the edges ask.
     pub fn end(&mut self, known: &Known<'a>, ending: &'a Ending, uses: &Need<'a>) {
+        let Scope { heap, function, .. } = self.scope;
         self.begin(ending.shows.as_slice());
         if let Terminator::Return { value: Some(value) } = &ending.terminator {
-            self.reach_return(value);
+            let result = Sum::of_operand(heap, value, 1);
+            for inequality in function.notes.guarantees.as_slice() {
+                let mut goal = Sum::of_inequality(heap, inequality);
+                goal.put(".ret", &result);
+                self.ask(&goal);
+            }
         }
-        self.reach_edges(known);
+        for (number, edge) in known.edges.iter().enumerate() {
+            if edge.from == self.place {
+                if let Some(to) = block_at(function, edge.to) {
+                    self.reach_edge(known, number, edge.way, to);
+                }
+            }
+        }
         self.reach_lefts(known, uses);
         self.flush(ending.line)
     }

@@ -25,7 +25,7 @@ pub struct Wants<'w, 'a> {
     heap: &'a Heap,
     function: &'a Function,
     edges: &'w [Edge<'a>],
-    /// For each block one that is on all ways to it.
+    /// For each block one that is on all ways to it, once the facts are looked for.
     above: Vec<usize>,
     wants: Vec<Want<'a>>,
     extras: Vec<Extra<'a>>,
@@ -37,7 +37,7 @@ impl<'w, 'a> Wants<'w, 'a> {
             heap,
             function,
             edges,
-            above: dominators_of(heap, edges, function.blocks.len()),
+            above: heap.list(),
             wants: heap.list(),
             extras: heap.list(),
         }
@@ -140,6 +140,7 @@ impl<'w, 'a> Wants<'w, 'a> {
     /// The facts that would show what is wanted.
     pub fn finish(self) -> Vec<Extra<'a>> {
         let mut wants = self;
+        wants.above = dominators_of(wants.heap, wants.edges, wants.function.blocks.len());
         for index in 0..MOST_WANTS {
             let Some(want) = wants.wants.get(index) else {
                 break;

@@ -1,11 +1,9 @@
 //! The cells that instructions touch, and the zones that may cover them.
 
-use crate::goal::{Call, Scope};
+use crate::goal::{Call, Scope, pointer_cells};
 use annotate_facts::{Edge, Heap, Sum, Way, block_at};
 use lists::Name;
-use syntax::{
-    Address, Argument, Function, FunctionNotes, Instruction, Mode, Operand, Parameter, Step, Zone,
-};
+use syntax::{Address, Argument, Function, FunctionNotes, Instruction, Mode, Operand, Step, Zone};
 
 /// How often the edges are gone along to find the children that blocks belong to.
 const MOST_ROUNDS: usize = 16;
@@ -73,20 +71,9 @@ impl<'a> Cells<'a> {
     pub fn is_own(&self, function: &Function) -> bool {
         match self.object {
             Address::Global(_) => false,
-            Address::Register(name) => !is_pointer(function.parameters.as_slice(), name),
+            Address::Register(name) => pointer_cells(function, name).is_none(),
         }
     }
-}
-
-fn is_pointer(parameters: &[Parameter], name: &Name) -> bool {
-    for parameter in parameters {
-        if let Parameter::Pointer { name: own, .. } = parameter {
-            if own.is_same(name) {
-                return true;
-            }
-        }
-    }
-    false
 }
 
 /// The caller's object that a zone of the callee is of.
@@ -100,74 +87,44 @@ fn object_of<'a>(call: Call<'a>, zone: &'a Zone) -> Option<&'a Address> {
     }
 }
 
-/// The object that a `getelementptr` leads into, and the operand that says to which cell.
-#[derive(Clone, Copy)]
-struct Element<'a> {
-    object: &'a Address,
-    cell: &'a Operand,
-}
-
-/// What the `getelementptr` among these is that defines an address.
-fn element_of<'a>(steps: &'a [Step], address: &Address) -> Option<Element<'a>> {
-    let Address::Register(name) = address else {
-        return None;
-    };
-    for step in steps {
-        if let Instruction::ElementPointer {
-            register,
-            base,
-            index,
-        } = &step.instruction
-        {
-            if register.is_same(name) {
-                return Some(Element {
-                    object: base,
-                    cell: index,
-                });
-            }
-        }
-    }
-    None
-}
-
-/// The address that an instruction touches, how, and how many cells from there on.
-#[derive(Clone, Copy)]
-struct Access<'a> {
-    address: &'a Address,
-    mode: Mode,
-    count: i128,
-}
-
-fn access_of(instruction: &Instruction) -> Option<Access<'_>> {
-    let (address, mode, count) = match instruction {
+/// The cells that an instruction of a block touches by an address: those of the object itself, or from where the `getelementptr` leads that defines the address.
+fn accessed<'a>(
+    heap: &'a Heap,
+    steps: &'a [Step],
+    instruction: &'a Instruction,
+) -> Option<Cells<'a>> {
+    let (object, mode, count) = match instruction {
         Instruction::Load { address, .. } => (address, Mode::Reads, 1),
         Instruction::Store { address, .. } => (address, Mode::Writes, 1),
         Instruction::AtomicAdd { address, .. } => (address, Mode::Adds, 1),
-        Instruction::StoreZeros { address, cells } => {
-            (address, Mode::Writes, i128::from(*cells))
-        }
+        Instruction::StoreZeros { address, cells } => (address, Mode::Writes, i128::from(*cells)),
         _ => return None,
     };
-    Some(Access {
-        address,
+    let mut cells = Cells {
         mode,
-        count,
-    })
-}
-
-/// The cells that an instruction of a block touches by its address.
-fn accessed<'a>(heap: &'a Heap, steps: &'a [Step], access: Access<'a>) -> Cells<'a> {
-    let (object, low) = match element_of(steps, access.address) {
-        Some(Element { object, cell }) => (object, Sum::of_operand(heap, cell, 1)),
-        None => (access.address, Sum::number(heap, 0)),
-    };
-    let high = low.raised(access.count);
-    Cells {
-        mode: access.mode,
         object,
-        low,
-        high,
+        low: Sum::number(heap, 0),
+        high: Sum::number(heap, count),
+    };
+    let Address::Register(name) = object else {
+        return Some(cells);
+    };
+    for step in steps {
+        match &step.instruction {
+            Instruction::ElementPointer {
+                register,
+                base,
+                index,
+            } if register.is_same(name) => {
+                cells.object = base;
+                cells.low.add_operand(index, 1);
+                cells.high.add_operand(index, 1);
+                break;
+            }
+            _ => {}
+        }
     }
+    Some(cells)
 }
 
 /// The zones of a function, by their modes.
@@ -192,8 +149,8 @@ impl<'a> Scope<'a> {
     /// The cells that an instruction of a block touches.
     pub fn touched(self, steps: &'a [Step], instruction: &'a Instruction) -> Vec<Cells<'a>> {
         let mut out = self.heap.list();
-        if let Some(access) = access_of(instruction) {
-            self.heap.push(&mut out, accessed(self.heap, steps, access));
+        if let Some(cells) = accessed(self.heap, steps, instruction) {
+            self.heap.push(&mut out, cells);
         }
         if let Some(call) = self.call_of(instruction) {
             for zones in &zones_of(&call.callee.notes) {
@@ -214,25 +171,15 @@ impl<'a> Scope<'a> {
 
 /// Says along an edge that its target is of the same child, or the first block of a new one. Whether that is new.
 fn pass_on(firsts: &mut Vec<Option<usize>>, edge: Edge<'_>) -> bool {
-    if edge.from >= firsts.len() || edge.to >= firsts.len() || firsts[edge.to].is_some() {
-        return false;
-    }
     let first = match edge.way {
         Way::Detached => Some(edge.to),
-        _ => firsts[edge.from],
+        _ => firsts.get(edge.from).copied().flatten(),
     };
+    if edge.to >= firsts.len() || firsts[edge.to].is_some() {
+        return false;
+    }
     firsts[edge.to] = first;
     first.is_some()
-}
-
-fn pass_all_on(firsts: &mut Vec<Option<usize>>, edges: &[Edge<'_>]) -> bool {
-    let mut is_new = false;
-    for edge in edges {
-        if pass_on(firsts, *edge) {
-            is_new = true;
-        }
-    }
-    is_new
 }
 
 /// For each block the first one of the child that it belongs to: the entry, where that is the function itself; none where it is not known.
@@ -242,8 +189,12 @@ pub fn firsts_of(heap: &Heap, edges: &[Edge<'_>], count: usize) -> Vec<Option<us
         heap.push(&mut firsts, if block == 0 { Some(0) } else { None });
     }
     for _round in 0..MOST_ROUNDS {
-        if !pass_all_on(&mut firsts, edges) {
-            return firsts;
+        let mut is_new = false;
+        for edge in edges {
+            is_new = pass_on(&mut firsts, *edge) || is_new;
+        }
+        if !is_new {
+            break;
         }
     }
     firsts

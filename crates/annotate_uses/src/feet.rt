@@ -19,13 +19,6 @@ pub struct Stand<'w, 'a> {
     pub place: Place<'w, 'a>,
 }
 
-/// A fact with which a register is taken out of an end.
-#[derive(Drop)]
-struct Choice<'a> {
-    sum: Sum<'a>,
-    rank: usize,
-}
-
 /// The zones of one place, while they are gathered.
 #[derive(Drop)]
 struct Finder<'w, 'a> {
@@ -33,112 +26,76 @@ struct Finder<'w, 'a> {
     touched: Vec<Cells<'a>>,
 }
 
-/// The difference of two sums, where it is a number.
-fn apart<'a>(one: &Sum<'a>, other: &Sum<'a>) -> Option<i128> {
-    one.with(other, -1).as_number()
-}
-
-/// Whether an end is closer to the cells than another one: less where it is high, and more where it is low.
-fn is_closer<'a>(one: &Sum<'a>, other: &Sum<'a>, is_high: bool) -> bool {
-    match apart(one, other) {
-        Some(number) => { if is_high { number < 0 } else { number > 0 } }
-        None => false,
-    }
-}
-
 impl<'a> Stand<'_, 'a> {
     /// A register of a sum that has no value where the zones stand.
-    fn unknown_in(&self, sum: &Sum<'a>) -> Option<(&'a str, i128)> {
-        for (name, coefficient) in &sum.terms {
-            if *coefficient != 0 && !self.place.has_value(name) {
-                return Some((*name, *coefficient));
+    fn unknown_in(&self, sum: &Sum<'a>) -> Option<&'a str> {
+        for (name, _coefficient) in &sum.terms {
+            if !self.place.has_value(name) {
+                return Some(*name);
             }
         }
         None
-    }
-
-    /// How many registers of a sum have no value there.
-    fn count_unknown(&self, sum: &Sum<'a>) -> usize {
-        let mut count = 0usize;
-        for (name, coefficient) in &sum.terms {
-            if *coefficient != 0 && !self.place.has_value(name) {
-                count = count.saturating_add(1);
-            }
-        }
-        count
     }
 
     /// How little is known of a sum: first its registers that have no value there, then whether it is but a number.
     fn rank_of(&self, sum: &Sum<'a>) -> usize {
-        let unknown = self.count_unknown(sum).saturating_mul(2);
-        if sum.first().is_some() {
-            unknown
-        } else {
-            unknown.saturating_add(1)
+        let mut rank = if sum.terms.is_empty() { 1usize } else { 0 };
+        for (name, _coefficient) in &sum.terms {
+            if !self.place.has_value(name) {
+                rank = rank.saturating_add(2);
+            }
         }
+        rank
     }
 
-    /// No less than a sum, if it is to be high, and else no more: without this register, by the fact that leaves the best one.
-    fn without(
-        &self,
-        facts: &[Sum<'a>],
-        sum: &Sum<'a>,
-        name: &'a str,
-        is_high: bool,
-    ) -> Option<Sum<'a>> {
-        let sign = if is_high { -1 } else { 1 };
-        let mut best: Option<Choice<'a>> = None;
+    /// No less than a sum, without this register, by the fact that leaves the best one: of that the least is known, and of as little the closest.
+    fn without(&self, facts: &[Sum<'a>], sum: &Sum<'a>, name: &'a str) -> Option<Sum<'a>> {
+        let mut best: Option<Sum<'a>> = None;
+        let mut least = usize::MAX;
         for fact in facts {
-            let times = sum
-                .coefficient(name)
-                .checked_div(fact.coefficient(name))
-                .unwrap_or(0);
-            let times = times.saturating_mul(sign);
-            if times > 0 {
-                let rest = sum.with(fact, times.saturating_mul(0i128.saturating_sub(sign)));
+            if let Some(rest) = sum.most_without(name, fact) {
                 let rank = self.rank_of(&rest);
-                let is_better = match &best {
-                    Some(choice) => rank < choice.rank
-                        || rank == choice.rank && is_closer(&rest, &choice.sum, is_high),
+                let is_closer = match &best {
+                    Some(best) => matches!(rest.apart_from(best), Some(over) if over < 0),
                     None => true,
                 };
-                if is_better && !rest.has(name) {
-                    best = Some(Choice { sum: rest, rank });
+                if rank < least || rank == least && is_closer {
+                    best = Some(rest);
+                    least = rank;
                 }
             }
         }
-        match best {
-            Some(choice) => Some(choice.sum),
-            None => None,
-        }
+        best
     }
 
-    /// An end of cells by registers that have their values where the zones stand; none where none is found.
-    fn end_of(&self, facts: &[Sum<'a>], sum: &Sum<'a>, is_high: bool) -> Option<Sum<'a>> {
-        let mut end = sum.copy();
+    /// No less than a sum, by registers that have their values where the zones stand; none where none is found.
+    fn most_of(&self, facts: &[Sum<'a>], sum: &Sum<'a>) -> Option<Sum<'a>> {
+        let mut most = sum.copy();
         for _step in 0..MOST_STEPS {
-            let Some((name, _coefficient)) = self.unknown_in(&end) else {
-                return if end.is_form() { Some(end) } else { None };
+            let Some(name) = self.unknown_in(&most) else {
+                return if most.is_form() { Some(most) } else { None };
             };
-            end = match value_of(self.scope.heap, self.scope.function, name) {
-                Some(value) => {
-                    end.put(name, &value);
-                    end
-                }
-                None => {
-                    let Some(rest) = self.without(facts, &end, name, is_high) else {
-                        return None;
-                    };
-                    rest
-                }
-            };
+            if let Some(value) = value_of(self.scope.heap, self.scope.function, name) {
+                most.put(name, &value);
+            } else {
+                let Some(rest) = self.without(facts, &most, name) else {
+                    return None;
+                };
+                most = rest;
+            }
         }
         None
     }
 
-    /// All cells of an object.
-    fn whole(&self, cells: &Cells<'a>) -> Option<Cells<'a>> {
+    /// The cells as they are seen where the zones stand: all of the object, where an end is not known there.
+    fn seen(&self, facts: &[Sum<'a>], cells: &Cells<'a>) -> Option<Cells<'a>> {
         let heap = self.scope.heap;
+        if let (Some(below), Some(high)) = (
+            self.most_of(facts, &cells.low.times(-1)),
+            self.most_of(facts, &cells.high),
+        ) {
+            return Some(cells.between(below.times(-1), high));
+        }
         match self.scope.cells_of(cells.object) {
             Some(count) => {
                 let end = Sum::number(heap, i128::from(count));
@@ -146,17 +103,6 @@ impl<'a> Stand<'_, 'a> {
             }
             None => None,
         }
-    }
-
-    /// The cells as they are seen where the zones stand: all of the object, where an end is not known there.
-    fn seen(&self, facts: &[Sum<'a>], cells: &Cells<'a>) -> Option<Cells<'a>> {
-        let Some(low) = self.end_of(facts, &cells.low, false) else {
-            return self.whole(cells);
-        };
-        let Some(high) = self.end_of(facts, &cells.high, true) else {
-            return self.whole(cells);
-        };
-        Some(cells.between(low, high))
     }
 }
 
@@ -177,45 +123,33 @@ impl<'a> Cells<'a> {
             && (self.mode == other.mode || self.mode == Mode::Writes && other.mode == Mode::Reads)
     }
 
-    /// Makes the ends those that have both.
-    fn widen(&mut self, other: &Cells<'a>, low: i128, high: i128) {
-        if low > 0 {
-            self.low = other.low.copy();
-        }
-        if high < 0 {
-            self.high = other.high.copy();
-        }
-    }
-
-    /// Takes in others that begin where these end, or end where they begin; whether they do.
-    fn join(&mut self, other: &Cells<'a>) -> bool {
-        if matches!(apart(&self.high, &other.low), Some(0)) {
-            self.high = other.high.copy();
-            return true;
-        }
-        if matches!(apart(&self.low, &other.high), Some(0)) {
-            self.low = other.low.copy();
-            return true;
-        }
-        false
-    }
-
     /// Takes others in, where both are next to each other; whether they are.
     fn take_in(&mut self, other: &Cells<'a>) -> bool {
         if !self.is_like(other) {
             return false;
         }
         let is_same = self.mode == other.mode;
-        let low = apart(&self.low, &other.low);
-        let high = apart(&self.high, &other.high);
+        let low = self.low.apart_from(&other.low);
+        let high = self.high.apart_from(&other.high);
         if let (Some(low), Some(high)) = (low, high) {
-            let is_within = low <= 0 && high >= 0;
-            if is_same || is_within {
-                self.widen(other, low, high);
+            if is_same || low <= 0 && high >= 0 {
+                if low > 0 {
+                    self.low = other.low.copy();
+                }
+                if high < 0 {
+                    self.high = other.high.copy();
+                }
                 return true;
             }
         }
-        is_same && self.join(other)
+        let is_before = is_same && matches!(self.high.apart_from(&other.low), Some(0));
+        let is_behind = is_same && matches!(self.low.apart_from(&other.high), Some(0));
+        if is_before {
+            self.high = other.high.copy();
+        } else if is_behind {
+            self.low = other.low.copy();
+        }
+        is_before || is_behind
     }
 }
 
@@ -276,8 +210,7 @@ pub fn zones_from<'w, 'a>(stand: Stand<'w, 'a>) -> Vec<Zone> {
     }
     let mut zones = heap.list();
     for cells in &finder.touched {
-        let zone = zone_of(heap, cells.mode, cells.object, &cells.low, &cells.high);
-        heap.push(&mut zones, zone);
+        heap.push(&mut zones, zone_of(heap, cells));
     }
     zones
 }

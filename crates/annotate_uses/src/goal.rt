@@ -55,9 +55,7 @@ impl<'a> Call<'a> {
     fn put_in(self, sum: &Sum<'a>) -> Sum<'a> {
         let mut placed = Sum::number(self.heap, sum.constant);
         for (name, coefficient) in &sum.terms {
-            if *coefficient != 0 {
-                self.put_term(&mut placed, name, *coefficient);
-            }
+            self.put_term(&mut placed, name, *coefficient);
         }
         placed
     }
@@ -79,6 +77,18 @@ pub fn ends_of(width: Width) -> (i128, i128) {
         Width::Bits64 => (-9_223_372_036_854_775_808, 9_223_372_036_854_775_807),
         Width::Bits32 => (-2_147_483_648, 2_147_483_647),
     }
+}
+
+/// How many cells the object of a pointer has that is a parameter of this name.
+pub fn pointer_cells(function: &Function, name: &Name) -> Option<u64> {
+    for parameter in function.parameters.as_slice() {
+        if let Parameter::Pointer { name: own, cells } = parameter {
+            if own.is_same(name) {
+                return Some(*cells);
+            }
+        }
+    }
+    None
 }
 
 /// The size of an `alloca` among these.
@@ -113,23 +123,12 @@ impl<'a> Scope<'a> {
         None
     }
 
-    fn parameter_cells(self, name: &Name) -> Option<u64> {
-        for parameter in self.function.parameters.as_slice() {
-            if let Parameter::Pointer { name: own, cells } = parameter {
-                if own.is_same(name) {
-                    return Some(*cells);
-                }
-            }
-        }
-        None
-    }
-
     /// How many cells an object has.
     pub fn cells_of(self, address: &Address) -> Option<u64> {
         match address {
             Address::Global(name) => self.global_cells(name),
             Address::Register(name) => match (
-                self.parameter_cells(name),
+                pointer_cells(self.function, name),
                 block_at(self.function, 0),
             ) {
                 (None, Some(entry)) => alloca_cells(entry.steps.as_slice(), name),

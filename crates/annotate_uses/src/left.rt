@@ -1,7 +1,7 @@
 //! What a block needs, from its own instructions and from what is left behind it.
 
 use crate::reserve::reserves_of;
-use crate::ring::{Ring, fall_of, names_inner, ring_of};
+use crate::ring::{Ring, along, fall_of, names_inner, ring_of};
 use annotate_facts::{
     Edge, Heap, Known, MOST_BLOCKS, Sum, Way, block_at, greatest, most_before, moved,
 };
@@ -36,6 +36,14 @@ struct Finder<'w, 'a> {
     /// The loops whose rounds are counted.
     rings: &'w [Ring<'a>],
     lefts: Vec<Option<Need<'a>>>,
+}
+
+/// What is needed behind a loop, at its head.
+#[derive(Drop)]
+struct Exits<'a> {
+    need: Need<'a>,
+    /// Whether the rounds that the rank counts cover what is done before.
+    is_covered: bool,
 }
 
 /// What a call of another function costs at most.
@@ -110,43 +118,53 @@ impl<'a> Need<'a> {
         }
     }
 
-    /// Makes each of its sums the greater one of it and the other's, as far as that is known at the block.
-    fn raise(&mut self, known: &Known<'a>, block: usize, other: &Need<'a>) {
-        self.calls = known.greater(block, &self.calls, &other.calls);
-        self.instructions = known.greater(block, &self.instructions, &other.instructions);
+    /// Joins what is needed along one more edge to what is needed along those before: at a detach that of both targets together, else of that which needs most,
+    /// as far as that is known at the block.
+    fn joined(
+        self,
+        known: &Known<'a>,
+        block: usize,
+        way: Way<'a>,
+        all: Option<Need<'a>>,
+    ) -> Need<'a> {
+        match all {
+            None => self,
+            Some(all) if matches!(way, Way::Continued(_)) => Need {
+                calls: all.calls.with(&self.calls, 1),
+                instructions: all.instructions.with(&self.instructions, 1),
+            },
+            Some(all) => Need {
+                calls: known.greater(block, &all.calls, &self.calls),
+                instructions: known.greater(block, &all.instructions, &self.instructions),
+            },
+        }
+    }
+
+    /// Whether it names a register that a block of the loop defines, but for its head's phis.
+    fn names_inner(&self, known: &Known<'a>, ring: &Ring<'a>) -> bool {
+        names_inner(known, ring.head, ring.last, &self.calls)
+            || names_inner(known, ring.head, ring.last, &self.instructions)
     }
 }
 
 impl<'a> Finder<'_, 'a> {
-    /// A sum at the start of an edge's target, as it is at the start of its source: what that block's instructions define is replaced by what it is made of,
-    /// or by what it is at most. None where nothing says that.
-    fn sum_along(
-        &self,
-        number: usize,
-        sum: &Sum<'a>,
-        from: &'a Block,
-        phis: &'a [Phi],
-    ) -> Option<Sum<'a>> {
-        let heap = self.known.heap;
-        let facts = self.known.sums_on(number);
-        let sum = moved(heap, sum, &from.label, phis);
-        most_before(heap, &sum, from.steps.as_slice(), facts.as_slice())
-    }
-
-    /// What the target of the edge of this number needs, at the start of the block where the edge begins.
+    /// What the target of the edge of this number needs, at the start of the block where the edge begins: what that block's instructions define is replaced by
+    /// what it is made of, or by what it is at most. None where nothing says that.
     fn behind(&self, number: usize, edge: Edge<'a>) -> Option<Need<'a>> {
-        let function = self.known.function;
-        let (Some(from), Some(to), Some(Some(left))) = (
-            block_at(function, edge.from),
-            block_at(function, edge.to),
+        let known = self.known;
+        let (Some(from), Some(Some(left))) = (
+            block_at(known.function, edge.from),
             self.lefts.get(edge.to),
         ) else {
             return None;
         };
-        let phis = to.phis.as_slice();
+        let calls = along(known, edge, &left.calls);
+        let instructions = along(known, edge, &left.instructions);
+        let steps = from.steps.as_slice();
+        let facts = known.sums_on(number);
         match (
-            self.sum_along(number, &left.calls, from, phis),
-            self.sum_along(number, &left.instructions, from, phis),
+            most_before(known.heap, &calls, steps, facts.as_slice()),
+            most_before(known.heap, &instructions, steps, facts.as_slice()),
         ) {
             (Some(calls), Some(instructions)) => Some(Need {
                 calls,
@@ -156,73 +174,41 @@ impl<'a> Finder<'_, 'a> {
         }
     }
 
-    /// Joins what is needed along one more edge: at a detach that of both targets together, else of that which needs most. Whether it
-    /// is known.
-    fn join(&self, number: usize, edge: Edge<'a>, is_first: bool, all: &mut Need<'a>) -> bool {
-        let Some(next) = self.behind(number, edge) else {
-            return false;
-        };
-        if is_first || matches!(edge.way, Way::Continued(_)) {
-            all.add(&next);
-        } else {
-            all.raise(self.known, edge.from, &next);
-        }
-        true
-    }
-
-    /// Joins what is needed behind all edges of a block to nothing. Whether it is known.
-    fn join_all(&self, block: usize, all: &mut Need<'a>) -> bool {
-        let mut is_first = true;
+    /// What is needed behind all edges of a block; none where it is not known.
+    fn join_all(&self, block: usize) -> Option<Need<'a>> {
+        let mut all = None;
         for (number, edge) in self.known.edges.iter().enumerate() {
             if edge.from == block {
-                if !self.join(number, *edge, is_first, all) {
-                    return false;
-                }
-                is_first = false;
+                let Some(next) = self.behind(number, *edge) else {
+                    return None;
+                };
+                all = Some(next.joined(self.known, block, edge.way, all));
             }
         }
-        true
+        Some(all.unwrap_or(Need::none(self.known.heap)))
     }
 
-    /// Joins what is needed behind an edge that leads out of a loop, at the loop's head. Whether it is known there.
-    fn join_exit(
-        &self,
-        ring: &Ring<'a>,
-        number: usize,
-        is_first: bool,
-        all: &mut Need<'a>,
-    ) -> bool {
-        let Some(edge) = self.known.edges.get(number).copied() else {
-            return false;
-        };
-        let Some(next) = self.behind(number, edge) else {
-            return false;
-        };
-        if is_first {
-            all.add(&next);
-        } else {
-            all.raise(self.known, ring.head, &next);
-        }
-        edge.from == ring.head
-            || !names_inner(self.known, ring.head, ring.last, &next.calls)
-                && !names_inner(self.known, ring.head, ring.last, &next.instructions)
-    }
-
-    /// Joins what is needed behind all edges out of a loop to nothing. Whether the rounds that the rank counts cover what is done before; none where it is not
-    /// known.
-    fn join_exits(&self, ring: &Ring<'a>, all: &mut Need<'a>) -> Option<bool> {
-        let mut is_first = true;
-        let mut is_tested_first = true;
+    /// What is needed behind all edges out of a loop, at its head, and whether the rounds that the rank counts cover what is done before; none where it is not
+    /// known there.
+    fn join_exits(&self, ring: &Ring<'a>) -> Option<Exits<'a>> {
+        let mut all = None;
+        let mut is_covered = true;
         for (number, edge) in self.known.edges.iter().enumerate() {
             if ring.has(edge.from) && !ring.has(edge.to) {
-                if !self.join_exit(ring, number, is_first, all) {
-                    return None;
+                let is_at_head = edge.from == ring.head;
+                match self.behind(number, *edge) {
+                    Some(next) if is_at_head || !next.names_inner(self.known, ring) => {
+                        all = Some(next.joined(self.known, ring.head, edge.way, all));
+                    }
+                    _ => return None,
                 }
-                is_first = false;
-                is_tested_first = is_tested_first && edge.from == ring.head;
+                is_covered = is_covered && is_at_head;
             }
         }
-        Some(is_tested_first || ring.is_tested_first)
+        Some(Exits {
+            need: all.unwrap_or(Need::none(self.known.heap)),
+            is_covered: is_covered || ring.is_tested_first,
+        })
     }
 
     /// Adds what the instructions of a block do, and its terminator.
@@ -253,7 +239,7 @@ impl<'a> Finder<'_, 'a> {
             rings: self.rings,
             lefts: self.lefts_around(ring, need),
         };
-        finder.count_until_known();
+        finder.count();
         finder.need_behind(ring.head, head)
     }
 
@@ -284,27 +270,12 @@ impl<'a> Finder<'_, 'a> {
         None
     }
 
-    /// What is needed at the head of a loop: so many rounds, as the rank says, and what is needed behind it, unless that falls from round to round and so pays
-    /// for them.
-    fn need_of_ring(&self, ring: &Ring<'a>, head: &'a Block) -> Option<Need<'a>> {
-        let mut behind = Need::none(self.known.heap);
-        if self.join_exits(ring, &mut behind).is_none() {
-            return None;
-        }
-        if fall_of(self.known, ring.head, &behind.instructions).is_some() {
-            if let Some(need) = self.need_that_falls(ring, head, &behind) {
-                return Some(need);
-            }
-        }
-        self.need_of_rounds(ring, head)
-    }
-
-    /// The same, whether that falls or not.
-    fn need_of_rounds(&self, ring: &Ring<'a>, head: &Block) -> Option<Need<'a>> {
-        let mut need = Need::none(self.known.heap);
-        let Some(is_covered) = self.join_exits(ring, &mut need) else {
-            return None;
-        };
+    /// What is needed at the head of a loop: so many rounds, as the rank says, and what is needed behind it.
+    fn need_of_rounds(&self, ring: &Ring<'a>, head: &Block, exits: Exits<'a>) -> Need<'a> {
+        let Exits {
+            mut need,
+            is_covered,
+        } = exits;
         if is_covered {
             self.add_steps(&mut need, head);
         } else {
@@ -314,18 +285,30 @@ impl<'a> Finder<'_, 'a> {
         ring.add_rounds(&mut need.calls, ring.calls);
         ring.add_rounds(&mut need.instructions, ring.instructions);
         need.instructions.add(&ring.reserve, 1);
-        Some(need)
+        need
+    }
+
+    /// The same, unless what is needed behind the loop falls from round to round and so pays for them.
+    fn need_of_ring(&self, ring: &Ring<'a>, head: &'a Block) -> Option<Need<'a>> {
+        let Some(exits) = self.join_exits(ring) else {
+            return None;
+        };
+        if fall_of(self.known, ring.head, &exits.need.instructions).is_some() {
+            let need = self.need_that_falls(ring, head, &exits.need);
+            if need.is_some() {
+                return need;
+            }
+        }
+        Some(self.need_of_rounds(ring, head, exits))
     }
 
     /// What a block needs by the edges behind it, if that is known.
     fn need_behind(&self, number: usize, block: &Block) -> Option<Need<'a>> {
-        let mut need = Need::none(self.known.heap);
-        if self.join_all(number, &mut need) {
-            self.add_steps(&mut need, block);
-            Some(need)
-        } else {
-            None
+        let mut need = self.join_all(number);
+        if let Some(need) = &mut need {
+            self.add_steps(need, block);
         }
+        need
     }
 
     /// What a block needs. None where that is not known.
@@ -345,7 +328,10 @@ impl<'a> Finder<'_, 'a> {
             return None;
         };
         match ring_at(self.rings, number) {
-            Some(ring) => self.need_of_rounds(ring, block),
+            Some(ring) => match self.join_exits(ring) {
+                Some(exits) => Some(self.need_of_rounds(ring, block, exits)),
+                None => None,
+            },
             None => self.need_behind(number, block),
         }
     }
@@ -366,57 +352,35 @@ impl<'a> Finder<'_, 'a> {
         }
     }
 
-    /// One round over the blocks, the last one first; whether a need was found.
-    fn draw_all(&mut self) -> bool {
-        let mut is_new = false;
-        for block in (0..self.lefts.len()).rev() {
-            if self.is_open(block) {
-                let found = self.need(block);
-                if self.keep(block, found) {
-                    is_new = true;
+    /// Finds what the blocks need, the last one first, round after round until nothing new is found.
+    fn draw(&mut self) {
+        for _round in 0..self.lefts.len() {
+            let mut is_new = false;
+            for block in (0..self.lefts.len()).rev() {
+                if self.is_open(block) {
+                    let found = self.need(block);
+                    is_new = self.keep(block, found) || is_new;
                 }
             }
-        }
-        is_new
-    }
-
-    /// Round after round until nothing new is found.
-    fn draw_until_known(&mut self) {
-        for _round in 0..self.lefts.len() {
-            if !self.draw_all() {
+            if !is_new {
                 return;
             }
         }
     }
 
-    /// One round over the blocks where each loop is counted by its rounds; whether a need was found.
-    fn count_all(&mut self) -> bool {
-        let mut is_new = false;
-        for block in (0..self.lefts.len()).rev() {
-            if self.is_open(block) {
-                let found = self.counted_need(block);
-                if self.keep(block, found) {
-                    is_new = true;
+    /// The same where each loop is counted by its rounds.
+    fn count(&mut self) {
+        for _round in 0..self.lefts.len() {
+            let mut is_new = false;
+            for block in (0..self.lefts.len()).rev() {
+                if self.is_open(block) {
+                    let found = self.counted_need(block);
+                    is_new = self.keep(block, found) || is_new;
                 }
             }
-        }
-        is_new
-    }
-
-    /// Round after round of these until nothing new is found.
-    fn count_until_known(&mut self) {
-        for _round in 0..self.lefts.len() {
-            if !self.count_all() {
+            if !is_new {
                 return;
             }
-        }
-    }
-
-    /// Begins with what the lines of the blocks say.
-    fn begin(&mut self) {
-        for block in self.known.function.blocks.as_slice() {
-            let given = given(self.known.heap, block);
-            self.known.heap.push(&mut self.lefts, given);
         }
     }
 }
@@ -458,26 +422,22 @@ impl<'a> Counting<'_, 'a> {
     /// What a round needs, where only what the loop holds in reserve is needed once it is done, and nothing behind the loop.
     fn round_need(self, ring: &Ring<'a>) -> Option<Need<'a>> {
         let heap = self.known.heap;
+        let mut lefts = heap.list();
+        for block in 0..self.known.function.blocks.len() {
+            let mut none = Need::none(heap);
+            if block == ring.head {
+                none.instructions.add(&ring.reserve, 1);
+            }
+            let is_open = block != ring.head && ring.has(block);
+            heap.push(&mut lefts, if is_open { None } else { Some(none) });
+        }
         let mut finder = Finder {
             known: self.known,
             costs: self.costs,
             rings: self.rings,
-            lefts: heap.list(),
+            lefts,
         };
-        for block in 0..self.known.function.blocks.len() {
-            let left = if block == ring.head {
-                Some(Need {
-                    calls: Sum::number(heap, 0),
-                    instructions: ring.reserve.copy(),
-                })
-            } else if ring.has(block) {
-                None
-            } else {
-                Some(Need::none(heap))
-            };
-            heap.push(&mut finder.lefts, left);
-        }
-        finder.draw_until_known();
+        finder.draw();
         match block_at(self.known.function, ring.head) {
             Some(head) => finder.need_behind(ring.head, head),
             None => None,
@@ -570,25 +530,22 @@ pub fn given<'a>(heap: &'a Heap, block: &'a Block) -> Option<Need<'a>> {
     })
 }
 
-/// The same, where the rounds of loops are counted.
-fn needs_by<'w, 'a>(
+/// What each block needs: what its line says, and where it has none what follows, from the ends back. None where that is not known.
+pub fn needs_of<'w, 'a>(
     known: &'w Known<'a>,
     costs: &'w [(&'a str, u128)],
-    rings: &'w [Ring<'a>],
 ) -> Vec<Option<Need<'a>>> {
+    let rings = rings_of(known, costs);
+    let mut lefts = known.heap.list();
+    for block in known.function.blocks.as_slice() {
+        known.heap.push(&mut lefts, given(known.heap, block));
+    }
     let mut finder = Finder {
         known,
         costs,
-        rings,
-        lefts: known.heap.list(),
+        rings: rings.as_slice(),
+        lefts,
     };
-    finder.begin();
-    finder.draw_until_known();
+    finder.draw();
     finder.lefts
-}
-
-/// What each block needs: what its line says, and where it has none what follows, from the ends back. None where that is not known.
-pub fn needs_of<'a>(known: &Known<'a>, costs: &[(&'a str, u128)]) -> Vec<Option<Need<'a>>> {
-    let rings = rings_of(known, costs);
-    needs_by(known, costs, rings.as_slice())
 }

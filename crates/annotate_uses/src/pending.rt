@@ -1,9 +1,9 @@
 //! The zones that children may still touch where a block begins, because they are handed on to it.
 
-use crate::cells::is_same_object;
+use crate::cells::{Cells, is_same_object};
 use crate::hull::Hull;
-use annotate_facts::{Edge, Heap, Place, Sum, Way, block_at, dominators_of, names_own};
-use syntax::{Block, Form, Function, Pending, Zone};
+use annotate_facts::{Edge, Heap, Place, Way, block_at, dominators_of, names_own};
+use syntax::{Block, Function, Zone};
 
 /// A zone that is pending of a region.
 #[derive(Clone, Copy)]
@@ -12,35 +12,16 @@ pub struct Handed<'a> {
     pub zone: &'a Zone,
 }
 
-/// Whether two forms are the same number whatever the registers hold.
-fn are_same<'a>(heap: &'a Heap, one: &'a Form, other: &'a Form) -> bool {
-    let mut difference = Sum::of_form(heap, one);
-    difference.add_form(other, -1);
-    matches!(difference.as_number(), Some(0))
-}
-
 impl<'a> Handed<'a> {
     /// Whether both are of one region and zone.
     fn is_same(self, heap: &'a Heap, other: Handed<'a>) -> bool {
-        let one = self.zone;
-        let two = other.zone;
+        let one = Cells::of_zone(heap, self.zone);
+        let two = Cells::of_zone(heap, other.zone);
         self.region == other.region
             && one.mode == two.mode
-            && is_same_object(&one.object, &two.object)
-            && are_same(heap, &one.low, &two.low)
-            && are_same(heap, &one.high, &two.high)
-    }
-
-    /// Whether an end of the zone names a register that the block defines.
-    fn is_renamed(self, heap: &'a Heap, block: &Block) -> bool {
-        names_own(block, &Sum::of_form(heap, &self.zone.low))
-            || names_own(block, &Sum::of_form(heap, &self.zone.high))
-    }
-
-    /// Whether the registers of both ends have their values at a place.
-    fn may_stand(self, place: Place<'_, 'a>) -> bool {
-        place.has_values(&Sum::of_form(place.heap, &self.zone.low))
-            && place.has_values(&Sum::of_form(place.heap, &self.zone.high))
+            && is_same_object(one.object, two.object)
+            && matches!(one.low.apart_from(&two.low), Some(0))
+            && matches!(one.high.apart_from(&two.high), Some(0))
     }
 
     /// Whether a block says itself what is pending of the region's object.
@@ -55,9 +36,16 @@ impl<'a> Handed<'a> {
         false
     }
 
-    /// Whether a block says that itself, or a register of the zone is another one there, or has no value.
+    /// Whether a block says that itself, or a register of the zone has no value at this place.
     fn is_kept_out(self, place: Place<'_, 'a>, block: &Block) -> bool {
-        self.is_said(block) || self.is_renamed(place.heap, block) || !self.may_stand(place)
+        let cells = Cells::of_zone(place.heap, self.zone);
+        self.is_said(block) || !place.has_values(&cells.low) || !place.has_values(&cells.high)
+    }
+
+    /// Whether a register of the zone is another one at a block.
+    fn is_renamed(self, heap: &'a Heap, block: &Block) -> bool {
+        let cells = Cells::of_zone(heap, self.zone);
+        names_own(block, &cells.low) || names_own(block, &cells.high)
     }
 }
 
@@ -99,6 +87,7 @@ impl<'a> Waiting<'a> {
         };
         if to >= self.handed.len()
             || next.is_kept_out(self.place(to), block)
+            || next.is_renamed(self.heap, block)
             || is_put(self.heap, self.handed[to].as_slice(), next)
         {
             return false;
@@ -112,87 +101,56 @@ impl<'a> Waiting<'a> {
         for edge in self.edges {
             if edge.from == from && matches!(edge.way, Way::Detached) {
                 if let Some(child) = block_at(self.function, edge.to) {
-                    self.push_foot(along, region, child.notes.foot.as_slice());
+                    for zone in child.notes.foot.as_slice() {
+                        self.heap.push(along, Handed { region, zone });
+                    }
                 }
             }
         }
     }
 
-    fn push_foot(&self, along: &mut Vec<Handed<'a>>, region: &'a str, foot: &'a [Zone]) {
-        for zone in foot {
-            self.heap.push(along, Handed { region, zone });
-        }
-    }
-
-    fn push_pending(&self, along: &mut Vec<Handed<'a>>, way: Way<'a>, all: &'a [Pending]) {
-        for pending in all {
-            let region = pending.region.as_str();
-            if goes_on(way, region) {
+    /// The zones that are pending at the end of a block, of which some go on along an edge.
+    fn pending_at(&self, from: usize) -> Vec<Handed<'a>> {
+        let mut all = self.heap.list();
+        if let Some(block) = block_at(self.function, from) {
+            for pending in block.notes.pending.as_slice() {
+                let region = pending.region.as_str();
                 let zone = &pending.zone;
-                self.heap.push(along, Handed { region, zone });
+                self.heap.push(&mut all, Handed { region, zone });
             }
         }
-    }
-
-    fn push_handed(&self, along: &mut Vec<Handed<'a>>, way: Way<'a>, all: &[Handed<'a>]) {
-        for next in all {
-            if goes_on(way, next.region) {
-                self.heap.push(along, *next);
-            }
+        if let Some(handed) = self.handed.get(from) {
+            self.heap.kept(all.extend_from_slice(handed.as_slice()));
         }
-    }
-
-    /// The zones that go on along an edge.
-    fn along(&self, edge: Edge<'a>) -> Vec<Handed<'a>> {
-        let mut along = self.heap.list();
-        if let Some(from) = block_at(self.function, edge.from) {
-            self.push_pending(&mut along, edge.way, from.notes.pending.as_slice());
-        }
-        if let Some(handed) = self.handed.get(edge.from) {
-            self.push_handed(&mut along, edge.way, handed.as_slice());
-        }
-        if let Way::Continued(region) = edge.way {
-            self.push_feet(&mut along, edge.from, region);
-        }
-        along
+        all
     }
 
     /// Hands on what goes along an edge; whether something was new.
     fn hand_on(&mut self, edge: Edge<'a>) -> bool {
+        let mut along = self.pending_at(edge.from);
+        if let Way::Continued(region) = edge.way {
+            self.push_feet(&mut along, edge.from, region);
+        }
         let mut is_new = false;
-        for next in self.along(edge) {
-            if self.put(edge.to, next) {
+        for next in along {
+            if goes_on(edge.way, next.region) && self.put(edge.to, next) {
                 is_new = true;
             }
         }
         is_new
     }
 
-    /// One round along all edges; whether something was new.
-    fn hand_all_on(&mut self) -> bool {
-        let mut is_new = false;
-        let edges = self.edges;
-        for edge in edges {
-            if self.hand_on(*edge) {
-                is_new = true;
-            }
-        }
-        is_new
-    }
-
-    /// Round after round until nothing is new.
+    /// Goes along all edges, round after round, until nothing is new.
     fn hand_down(&mut self) {
+        let edges = self.edges;
         for _round in 0..self.handed.len() {
-            if !self.hand_all_on() {
+            let mut is_new = false;
+            for edge in edges {
+                is_new = self.hand_on(*edge) || is_new;
+            }
+            if !is_new {
                 return;
             }
-        }
-    }
-
-    /// Begins with nothing at each block.
-    fn begin(&mut self) {
-        for _block in self.function.blocks.as_slice() {
-            self.heap.push(&mut self.handed, self.heap.list());
         }
     }
 
@@ -204,7 +162,7 @@ impl<'a> Waiting<'a> {
             zone: &hull.zone,
         };
         if let Some(block) = block_at(self.function, to) {
-            if to < self.handed.len() && !next.is_said(block) && next.may_stand(self.place(to)) {
+            if to < self.handed.len() && !next.is_kept_out(self.place(to), block) {
                 self.heap.push(&mut self.handed[to], next);
             }
         }
@@ -234,7 +192,9 @@ pub fn handed_of<'a>(
         above: dominators_of(heap, edges, function.blocks.len()),
         handed: heap.list(),
     };
-    waiting.begin();
+    for _block in function.blocks.as_slice() {
+        heap.push(&mut waiting.handed, heap.list());
+    }
     for hull in hulls {
         waiting.guess(hull);
     }

@@ -47,7 +47,7 @@ impl<'a> Finder<'_, 'a> {
             return;
         };
         for (name, coefficient) in &inner.rank.terms {
-            if *coefficient != 0 && is_phi(head.phis.as_slice(), name) {
+            if is_phi(head.phis.as_slice(), name) {
                 let cost = inner.instructions.saturating_mul(*coefficient);
                 let over = inner.step.saturating_sub(1);
                 let over = if cost < 0 {

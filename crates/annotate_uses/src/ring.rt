@@ -4,7 +4,7 @@ use annotate_facts::{
     Edge, Known, Sum, block_at, greatest_apart, greatest_number, is_phi, last_of, moved,
     names_made, names_own, phi_value, value_of,
 };
-use syntax::{Block, Function, Operand};
+use syntax::{Function, Operand};
 
 /// A loop, from the block at its head to the last one in the text from which an edge leads back.
 #[derive(Drop)]
@@ -82,13 +82,18 @@ fn add_next<'a>(known: &Known<'a>, fall: &mut Sum<'a>, value: &'a Operand, times
     fall.add_operand(value, times);
 }
 
-/// By how much a sum at the head falls along an edge that leads back from this block.
-fn fall_along<'a>(known: &Known<'a>, head: &'a Block, from: &'a Block, rank: &Sum<'a>) -> Sum<'a> {
+/// By how much a sum at the head falls along an edge that leads back to it.
+fn fall_along<'a>(known: &Known<'a>, edge: Edge<'a>, rank: &Sum<'a>) -> Sum<'a> {
     let mut fall = Sum::number(known.heap, 0);
-    for (name, coefficient) in &rank.terms {
-        if let Some(value) = phi_value(head.phis.as_slice(), name, &from.label) {
-            fall.add_term(name, *coefficient);
-            add_next(known, &mut fall, value, 0i128.saturating_sub(*coefficient));
+    if let (Some(head), Some(from)) = (
+        block_at(known.function, edge.to),
+        block_at(known.function, edge.from),
+    ) {
+        for (name, coefficient) in &rank.terms {
+            if let Some(value) = phi_value(head.phis.as_slice(), name, &from.label) {
+                fall.add_term(name, *coefficient);
+                add_next(known, &mut fall, value, coefficient.saturating_neg());
+            }
         }
     }
     fall
@@ -109,48 +114,30 @@ pub fn fall_of<'a>(known: &Known<'a>, head: usize, rank: &Sum<'a>) -> Option<i12
     let mut found = None;
     for edge in &known.edges {
         if edge.to == head && edge.from >= head {
-            let fall = fall_by(known, *edge, rank);
-            if fall.is_none() || found.is_some() && found != fall {
-                return None;
+            match least_of(known, head, &fall_along(known, *edge, rank)) {
+                Some(fall) if fall >= 1 && fall == found.unwrap_or(fall) => found = Some(fall),
+                _ => return None,
             }
-            found = fall;
         }
     }
     found
 }
 
-fn fall_by<'a>(known: &Known<'a>, edge: Edge<'a>, rank: &Sum<'a>) -> Option<i128> {
-    let (Some(head), Some(from)) = (
-        block_at(known.function, edge.to),
-        block_at(known.function, edge.from),
-    ) else {
-        return None;
-    };
-    let fall = fall_along(known, head, from, rank);
-    match least_of(known, edge.to, &fall) {
-        Some(fall) if fall >= 1 => Some(fall),
-        _ => None,
-    }
-}
-
-/// What is at least 0 at the head, if this is so on an edge that leads back to it from this block: each phi in place of what it takes there.
-fn at_head<'a>(head: &'a Block, from: &Block, fact: &Sum<'a>) -> Sum<'a> {
+/// What is at least 0 at the head, if this is so on an edge within the loop: where that leads back to the head, each phi in place of what it takes there.
+fn rank_by<'a>(function: &'a Function, head: usize, edge: Edge<'a>, fact: &Sum<'a>) -> Sum<'a> {
     let mut rank = fact.copy();
-    for phi in head.phis.as_slice() {
-        let name = phi.register.as_str();
-        if let Some(Operand::Register(next)) = phi_value(head.phis.as_slice(), name, &from.label) {
-            rank = rank.renamed(next.as_str(), name);
+    if let (Some(to), Some(from)) = (block_at(function, edge.to), block_at(function, edge.from)) {
+        if edge.to == head {
+            let phis = to.phis.as_slice();
+            for phi in phis {
+                let name = phi.register.as_str();
+                if let Some(Operand::Register(next)) = phi_value(phis, name, &from.label) {
+                    rank = rank.renamed(next.as_str(), name);
+                }
+            }
         }
     }
     rank
-}
-
-/// The same of an edge within the loop; where it does not lead back to the head, the fact itself.
-fn rank_by<'a>(function: &'a Function, head: usize, edge: Edge<'a>, fact: &Sum<'a>) -> Sum<'a> {
-    match (block_at(function, edge.to), block_at(function, edge.from)) {
-        (Some(to), Some(from)) if edge.to == head => at_head(to, from, fact),
-        _ => fact.copy(),
-    }
 }
 
 /// The least number that a rank has at the head where it falls by `step`.
@@ -194,42 +181,39 @@ fn rank_by_numbers<'a>(known: &Known<'a>, head: usize, rank: &Sum<'a>) -> Option
         return None;
     };
     let facts = known.facts_at(head);
-    let mut plain = Sum::number(known.heap, rank.constant);
+    let mut plain = Sum::number(known.heap, 0);
+    let mut rest = rank.copy();
     for (name, coefficient) in &rank.terms {
         if is_phi(block.phis.as_slice(), name) {
             plain.add_term(name, *coefficient);
-        } else if *coefficient != 0 {
-            let own = Sum::of_register(known.heap, name, *coefficient);
-            match greatest_apart(facts.as_slice(), &own) {
-                Some(most) => plain.add_number(most),
-                None => return None,
-            }
+            rest.add_term(name, coefficient.saturating_neg());
         }
     }
-    Some(plain)
-}
-
-/// How far above its least number the rank of a loop is at most where the loop is entered.
-fn most_at_start<'a>(known: &Known<'a>, ring: &Ring<'a>) -> Option<i128> {
-    let facts = known.facts_at(ring.head);
-    let mut most = None;
-    for edge in &known.edges {
-        if edge.to == ring.head && edge.from < ring.head {
-            let start = at_start(known, *edge, &ring.rank);
-            match greatest_number(facts.as_slice(), &start) {
-                Some(next) => most = Some(next.max(most.unwrap_or(next))),
-                None => return None,
-            }
-        }
-    }
-    match most {
-        Some(most) => Some(most.saturating_sub(ring.least)),
+    match greatest_apart(facts.as_slice(), &rest) {
+        Some(most) => Some(plain.raised(most)),
         None => None,
     }
 }
 
-/// A sum at a loop's head, by what the head's phis take along an edge.
-fn at_start<'a>(known: &Known<'a>, edge: Edge<'a>, sum: &Sum<'a>) -> Sum<'a> {
+/// How far above its least number the rank of a loop is at most where the loop is entered, by what the head's phis take there.
+fn most_at_start<'a>(known: &Known<'a>, ring: &Ring<'a>) -> Option<i128> {
+    let facts = known.facts_at(ring.head);
+    let mut all = None;
+    for edge in &known.edges {
+        if edge.to == ring.head && edge.from < ring.head {
+            let start = along(known, *edge, &ring.rank);
+            let Some(most) = greatest_number(facts.as_slice(), &start) else {
+                return None;
+            };
+            let most = most.saturating_sub(ring.least);
+            all = Some(most.max(all.unwrap_or(most)));
+        }
+    }
+    all
+}
+
+/// A sum at the target of an edge, as it is along the edge.
+pub fn along<'a>(known: &Known<'a>, edge: Edge<'a>, sum: &Sum<'a>) -> Sum<'a> {
     match (
         block_at(known.function, edge.to),
         block_at(known.function, edge.from),
@@ -258,29 +242,14 @@ fn with_fewer<'a>(known: &Known<'a>, edge: Edge<'a>, ring: Ring<'a>) -> Ring<'a>
         return ring;
     };
     match (most_at_start(known, &plain), most_at_start(known, &ring)) {
-        (Some(few), Some(many)) if few < many => plain,
         (Some(few), Some(many))
-            if few == many && is_bounded(known, &plain) && !is_bounded(known, &ring) => plain,
+            if few < many
+                || few == many && is_bounded(known, &plain) && !is_bounded(known, &ring) => plain,
         _ => ring,
     }
 }
 
-/// What falls each time round a loop, by this fact on this edge within it.
-fn ring_by<'a>(
-    known: &Known<'a>,
-    last: usize,
-    head: usize,
-    edge: Edge<'a>,
-    fact: &Sum<'a>,
-) -> Option<Ring<'a>> {
-    let rank = rank_by(known.function, head, edge, fact);
-    match ring_with(known, last, edge, head, rank) {
-        Some(ring) => Some(with_fewer(known, edge, ring)),
-        None => None,
-    }
-}
-
-/// What falls each time round a loop by a fact on this edge.
+/// What falls each time round a loop by a fact on this edge within it.
 fn ring_on<'a>(
     known: &Known<'a>,
     head: usize,
@@ -288,12 +257,10 @@ fn ring_on<'a>(
     number: usize,
     edge: Edge<'a>,
 ) -> Option<Ring<'a>> {
-    for fact in known.facts_on(number) {
-        if *fact < known.facts.sums.len() {
-            let ring = ring_by(known, last, head, edge, &known.facts.sums[*fact]);
-            if ring.is_some() {
-                return ring;
-            }
+    for fact in &known.sums_on(number) {
+        let rank = rank_by(known.function, head, edge, fact);
+        if let Some(ring) = ring_with(known, last, edge, head, rank) {
+            return Some(with_fewer(known, edge, ring));
         }
     }
     None

@@ -12,9 +12,10 @@ use crate::modules::{no_memory, verified_file};
 use crate::report::Report;
 use std::hash::RandomState;
 use std::io;
+use std::ops::Range;
 use std::rt::Files;
 
-/// Runs a module by so many seeds. `cell` is what the first cell of `a` holds at the start. Where memory is refused that no call asks for, it is done once
+/// Runs a module by these seeds. `cell` is what the first cell of `a` holds at the start. Where memory is refused that no call asks for, it is done once
 /// more.
 fn runs_of<R: AllocGlobal + Files>(
     rt: &R,
@@ -22,7 +23,7 @@ fn runs_of<R: AllocGlobal + Files>(
     file: &str,
     begin: (i64, &[i64]),
     wanted: Ending,
-    seeds: u64,
+    seeds: &Range<u64>,
     report: &mut Report,
 ) -> io::Result<()> {
     let verified = verified_file(rt, state, file)?;
@@ -39,7 +40,7 @@ fn runs_of<R: AllocGlobal + Files>(
 pub fn answer_few<R: AllocGlobal + Files>(
     rt: &R,
     state: RandomState,
-    seeds: u64,
+    seeds: &Range<u64>,
     report: &mut Report,
 ) -> io::Result<()> {
     report.title("boards");
@@ -52,7 +53,7 @@ pub fn answer_few<R: AllocGlobal + Files>(
 pub fn answer<R: AllocGlobal + Files>(
     rt: &R,
     state: RandomState,
-    seeds: u64,
+    seeds: &Range<u64>,
     report: &mut Report,
 ) -> io::Result<()> {
     answer_few(rt, state, seeds, report)?;

@@ -4,58 +4,46 @@ ghost use Rattle.std.specs.Prelude.{IfOk, Option, ℕ};
 ghost use Rattle.cli_answers.specs.Undecided.{IsSpentWithin};
 ghost use Rattle.verifier.specs.Accepted.{IsUnverified};
 
+use crate::answer::{Answer, Unanswered};
+use crate::faults::utf8_of;
 use crate::limits::note_limits;
-use crate::refusals::print_unverified;
 use annotate::{NewLines, annotated, pruned};
-use cli_words::{Beside, Request, Status, print_refused};
+use cli_words::{Beside, Question, Request, Status};
 use explain_findings::line_at;
 use std::alloc::{AllocError, Global};
 use std::hash::RandomState;
-use std::io;
-use std::io::Write;
 use verifier::{Effort, Refused, Unverified};
 
-/// Prints a text, or keeps it for the module's own file if that is asked for.
-fn give<W: Write>(
-    alloc: Global,
-    request: &Request,
-    text: &[u8],
-    output: &mut W,
-    beside: &mut Beside,
-) -> io::Result<Status> {
-    if request.annotating.writes {
-        let text = String::from_str(alloc, str::from_utf8(text).unwrap_or(""))?;
-        beside.keep_file(request.file.as_str(), text)?;
-    } else {
-        output.write_all(text)?;
-    }
-    Ok(Status::Done)
-}
-
-/// Gives a module's text with lines put in that follow from others, or without those that it does not need.
-pub fn print_annotated<W: Write>(
-    alloc: Global,
-    state: RandomState,
-    request: &Request,
+/// A module's text with lines put in that follow from others, or without those that it does not need; or it is kept for the module's own file if that is asked for.
+pub fn annotation(
+    question: Question<'_>,
     text: &[u8],
     effort: &Effort,
-    output: &mut W,
     beside: &mut Beside,
-) -> io::Result<Status> {
-    if request.annotating.takes_out {
-        return match pruned(alloc, state, text, effort) {
-            Ok(text) => give(alloc, request, text.as_slice(), output, beside),
-            Err(unverified) => print_unverified(&unverified, output, beside),
-        };
+) -> Result<Answer, Unanswered> {
+    let Question {
+        alloc,
+        state,
+        request,
+        ..
+    } = question;
+    let file = request.file.as_str();
+    let mut made = if request.annotating.takes_out {
+        pruned(alloc, state, text, effort)?
+    } else {
+        let more = annotated(alloc, state, text, effort)?;
+        note_limits(alloc, state, file, text, more.as_slice(), effort, beside)?;
+        more
+    };
+    if request.annotating.writes {
+        let kept = String::from_str(alloc, utf8_of(made.as_slice()))?;
+        beside.keep_file(file, kept)?;
+        made.clear();
     }
-    match annotated(alloc, state, text, effort) {
-        Ok(more) => {
-            let file = request.file.as_str();
-            note_limits(alloc, state, file, text, more.as_slice(), effort, beside)?;
-            give(alloc, request, more.as_slice(), output, beside)
-        }
-        Err(refused) => print_refused(&refused, output),
-    }
+    Ok(Answer {
+        text: made,
+        status: Status::Done,
+    })
 }
 
 /// The text that is judged: with lines put in that follow from others, if the request asks for that.
@@ -69,33 +57,12 @@ pub fn judged_text(
     if request.annotating.puts_in {
         return annotated(alloc, state, text, effort);
     }
-    let mut more = Vec::new(alloc);
-    more.extend_from_slice(text)?;
-    Ok(more)
-}
-
-/// The text, where it is UTF-8.
-fn utf8_of(text: &[u8]) -> &str {
-    str::from_utf8(text).unwrap_or("")
+    Ok(Vec::from_slice(alloc, text)?)
 }
 
 /// The lines that a text has more than another one.
 pub fn lines_put_in(alloc: Global, text: &[u8], more: &[u8]) -> Result<NewLines, AllocError> {
-    let text = utf8_of(text);
-    let more = utf8_of(more);
-    NewLines::between(alloc, text, more)
-}
-
-/// Says which line was put in.
-fn note_put_in(
-    alloc: Global,
-    more: &[u8],
-    line: u32,
-    beside: &mut Beside,
-) -> Result<(), AllocError> {
-    let put_in = line_at(utf8_of(more), line).unwrap_or("").trim();
-    let note = format!(in alloc; "of the line that was put in: {put_in}")?;
-    beside.note(note.as_str())
+    NewLines::between(alloc, utf8_of(text), utf8_of(more))
 }
 
 /// Why a text with lines put in is not verified, by the lines of the text without them; which line was put in is told beside it.
@@ -115,7 +82,9 @@ pub fn in_own_lines(
     };
     let new = lines_put_in(alloc, text, more)?;
     if new.has(line) {
-        note_put_in(alloc, more, line, beside)?;
+        let put_in = line_at(utf8_of(more), line).unwrap_or("").trim();
+        let note = format!(in alloc; "of the line that was put in: {put_in}")?;
+        beside.note(note.as_str())?;
     }
     let line = new.own_line(line);
     Ok(Unverified::Refused(Refused::Fault { number, line }))

@@ -1,57 +1,32 @@
 //! Faults of a file, told on standard error so that editors find the line.
 
-use cli_words::Beside;
+use cli_words::{Beside, Question};
 use explain_findings::line_at;
 use refusal::push_heads;
-use std::alloc::{AllocError, Global};
-use verifier::{Refused, Unverified};
+use std::alloc::AllocError;
 
-/// Says on which line of the file a rule is broken, and what the rule means.
-pub fn note_fault(
-    alloc: Global,
-    file: &str,
-    text: &[u8],
-    number: u16,
-    line: u32,
-    beside: &mut Beside,
-) -> Result<(), AllocError> {
-    note_fault_at(alloc, file, line, text, number, line, beside)
+/// The text, where it is UTF-8.
+pub fn utf8_of(text: &[u8]) -> &str {
+    str::from_utf8(text).unwrap_or("")
 }
 
-/// The same of a text with lines put in, where the file has the line at another place.
-pub fn note_fault_at(
-    alloc: Global,
-    file: &str,
+/// Says on which line of the file a rule is broken, and what the rule means. Where lines are put in, the text has the line at another place.
+pub fn note_fault(
+    question: Question<'_>,
     own_line: u32,
     text: &[u8],
     number: u16,
     line: u32,
     beside: &mut Beside,
 ) -> Result<(), AllocError> {
-    let text = str::from_utf8(text).unwrap_or("");
-    let broken = line_at(text, line).unwrap_or("").trim();
-    let mut heads = String::new(alloc);
+    let broken = line_at(utf8_of(text), line).unwrap_or("").trim();
+    let mut heads = String::new(question.alloc);
     if push_heads(&mut heads, number, broken).is_err() {
         return Err(AllocError);
     }
-    let what = format!(in alloc; "rule {}", heads.as_str().trim())?;
+    let what = format!(in question.alloc; "rule {}", heads.as_str().trim())?;
+    let file = question.request.file.as_str();
     beside.note_at(file, u64::from(own_line), what.as_str())
-}
-
-/// The same of a module that is not verified, if it is refused.
-pub fn note_unverified(
-    alloc: Global,
-    file: &str,
-    text: &[u8],
-    unverified: &Unverified,
-    beside: &mut Beside,
-) -> Result<(), AllocError> {
-    match unverified {
-        Unverified::Refused(Refused::Fault { number, line }) => {
-            note_fault(alloc, file, text, *number, *line, beside)
-        }
-        _ => Ok(()),
-    }
 }
 
 /// Says that the effort is spent.

@@ -2,11 +2,11 @@
 //!
 //! What a verdict or an explanation says is what the words of `verify`, `explain` and `show` say; here it has names.
 
-mod answer;
 mod explanation;
 mod fault;
 mod known;
 mod list;
 mod verdict;
 
-pub use answer::answer_json;
+pub use explanation::explanation_json;
+pub use verdict::verdict_json;

@@ -1,14 +1,15 @@
 //! From a question to its answer, or to a module that is to run.
 
-use crate::accepted::print_verified;
-use crate::refusals::answer_unverified;
-use crate::requests::{answer_module, answer_without_module};
-use crate::shown::print_known;
+use crate::accepted::print_accepted;
+use crate::answer::{Answer, Unanswered, print_answer, print_unanswered};
+use crate::faults::note_fault;
+use crate::requests::{of_text, without_module};
 use crate::verdict::{Verdict, verdict_on};
-use cli_words::{Beside, Question, Status, Verb, print_unreadable};
+use cli_words::{Beside, Question, Status, Verb};
 use std::io;
 use std::io::Write;
-use verifier::Verified;
+use verifier::{Refused, Unverified, Verified};
+use view_module::show;
 
 /// A module that the verifier took, and that is to run.
 #[derive(Drop)]
@@ -27,51 +28,54 @@ pub enum Judgement {
     Accepted(Accepted),
 }
 
-/// Answers a question about a module that the verifier took, where nothing is to run.
-fn answer_accepted<W: Write>(
-    question: &Question<'_>,
-    accepted: Accepted,
-    output: &mut W,
-) -> io::Result<Judgement> {
-    let Question {
-        alloc,
-        state,
-        request,
-        ..
-    } = *question;
-    let status = match request.verb {
-        Verb::Serial | Verb::Run | Verb::Replay | Verb::Debug => {
-            return Ok(Judgement::Accepted(accepted));
-        }
-        Verb::Show => {
-            let text = accepted.text.as_slice();
-            print_known(alloc, state, text, &accepted.verified, output)
-        }
-        _ => print_verified(&accepted.verified, request, output),
-    };
-    Ok(Judgement::Answered(status?))
+/// A question about a module, before its answer is printed.
+#[derive(Drop)]
+enum Reply {
+    Answer(Answer),
+    Accepted(Accepted),
 }
 
-/// The verdict on a module's text, and what is to be answered by it.
-fn judge<W: Write>(
-    question: &Question<'_>,
-    text: &[u8],
-    output: &mut W,
-    beside: &mut Beside,
-) -> io::Result<Judgement> {
+/// The verdict on a module's text, and what is to be answered by it. For `verify` it is also noted, for editors, which line of the file is at fault.
+fn judge(question: Question<'_>, text: &[u8], beside: &mut Beside) -> Result<Reply, Unanswered> {
     let Question {
         alloc,
         state,
         request,
         ..
-    } = *question;
-    let Verdict { text, answer } = verdict_on(alloc, state, request, text, beside)?;
+    } = question;
+    let Verdict { text: more, answer } = verdict_on(alloc, state, request, text, beside)?;
     match answer {
-        Ok(verified) => answer_accepted(question, Accepted { text, verified }, output),
-        Err(unverified) => {
-            let status = answer_unverified(question, &unverified, output, beside)?;
-            Ok(Judgement::Answered(status))
+        Ok(verified) if matches!(request.verb, Verb::Show) => {
+            let shown = show(alloc, state, more.as_slice(), &verified)?;
+            Ok(Reply::Answer(Answer::of(shown, Status::Done)))
         }
+        Ok(verified) => Ok(Reply::Accepted(Accepted {
+            text: more,
+            verified,
+        })),
+        Err(unverified) => {
+            if let (Verb::Verify, Unverified::Refused(Refused::Fault { number, line })) = (
+                request.verb,
+                unverified,
+            ) {
+                note_fault(question, line, text, number, line, beside)?;
+            }
+            Err(Unanswered::from(unverified))
+        }
+    }
+}
+
+/// What comes of a question, before its answer is printed.
+fn replied(question: Question<'_>, beside: &mut Beside) -> Result<Reply, Unanswered> {
+    if let Some(answer) = without_module(question.alloc, question.request)? {
+        return Ok(Reply::Answer(answer));
+    }
+    let Some(text) = question.module else {
+        return Err(Unanswered::Unreadable);
+    };
+    match of_text(question, text, beside)? {
+        Some(answer) => Ok(Reply::Answer(answer)),
+        None => judge(question, text, beside),
     }
 }
 
@@ -81,16 +85,15 @@ pub fn judged<W: Write>(
     output: &mut W,
     beside: &mut Beside,
 ) -> io::Result<Judgement> {
-    let Question { alloc, request, .. } = question;
-    if let Some(status) = answer_without_module(alloc, request, output)? {
-        return Ok(Judgement::Answered(status));
-    }
-    let Some(text) = question.module else {
-        let status = print_unreadable(alloc, request.file.as_str(), output)?;
-        return Ok(Judgement::Answered(status));
+    let status = match replied(question, beside) {
+        Ok(Reply::Answer(answer)) => print_answer(&answer, output),
+        Ok(Reply::Accepted(accepted)) => match question.request.verb {
+            Verb::Serial | Verb::Run | Verb::Replay | Verb::Debug => {
+                return Ok(Judgement::Accepted(accepted));
+            }
+            _ => print_accepted(&accepted.verified, question.request, output),
+        },
+        Err(unanswered) => print_unanswered(question, unanswered, output, beside),
     };
-    match answer_module(&question, text, output, beside)? {
-        Some(status) => Ok(Judgement::Answered(status)),
-        None => judge(&question, text, output, beside),
-    }
+    Ok(Judgement::Answered(status?))
 }

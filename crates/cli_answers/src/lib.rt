@@ -6,15 +6,14 @@
 
 mod accepted;
 mod annotations;
+mod answer;
 mod faults;
 mod json;
 mod judging;
 mod limits;
 mod own_lines;
 mod reasons;
-mod refusals;
 mod requests;
-mod shown;
 mod verdict;
 
 pub use judging::{Accepted, Judgement, judged};

@@ -1,20 +1,17 @@
 //! Runs that a request's verb asks for, but those on threads and by a debugger.
 
+use crate::halt::Halt;
 use crate::job::Job;
-use crate::runs::{prepared, print_unprepared, run_serial};
+use crate::runs::{prepared, run_serial};
 use crate::tell::{run_replay, tell_course};
 use cli_words::{Beside, Status, Verb};
-use std::io;
 use std::io::Write;
 use view_events::Crew;
 use view_run::Draw;
 
 /// Runs by events that are drawn by the seed, and tells of them where that is asked for.
-fn run_drawn<W: Write>(job: &Job<'_>, output: &mut W, beside: &mut Beside) -> io::Result<Status> {
-    let memory = match prepared(job, beside) {
-        Ok(memory) => memory,
-        Err(status) => return print_unprepared(status, output),
-    };
+fn run_drawn<W: Write>(job: &Job<'_>, output: &mut W, beside: &mut Beside) -> Result<Status, Halt> {
+    let memory = prepared(job, beside)?;
     let seed = job.request.telling.seed.unwrap_or(0);
     let mut draw = Draw::new(job.alloc, seed, job.request.workers);
     tell_course(job, memory, &mut draw, Crew::none(), output, beside)
@@ -25,7 +22,7 @@ pub fn answer_run<W: Write>(
     job: &Job<'_>,
     output: &mut W,
     beside: &mut Beside,
-) -> io::Result<Status> {
+) -> Result<Status, Halt> {
     match job.request.verb {
         Verb::Replay => run_replay(job, output, beside),
         Verb::Run => run_drawn(job, output, beside),

@@ -2,25 +2,13 @@
 
 ghost use Rattle.view_run.specs.store.Made.{IsMadeFor};
 
+use crate::halt::Halt;
+use crate::job::Job;
 use lists::OutOfMemory;
 use std::alloc::{AllocError, Global};
-use std::io;
 use std::io::Write;
-use view_events::{Settings, Start, Teller, Told, Wanted, Words};
-use view_run::{Course, Event, Machine, Memory, RunFault, Verified, Watch};
-
-/// A run that is to be told.
-#[derive(Clone, Copy)]
-pub struct Subject<'a> {
-    pub alloc: Global,
-    pub verified: &'a Verified,
-    /// What a page is headed by.
-    pub title: &'a str,
-    /// The module's text.
-    pub source: &'a str,
-    pub arguments: &'a [i64],
-    pub workers: usize,
-}
+use view_events::{Crew, Names, Settings, Start, Teller, Told, Wanted, Whole, Words};
+use view_run::{Course, Event, Machine, Memory, Watch};
 
 /// What a run that has ended came to.
 fn ended(alloc: Global, value: i64, instructions: u64, peak: u64) -> Result<String, AllocError> {
@@ -80,43 +68,25 @@ fn tell_next<C: Course>(
     Ok(Some(teller.add(words, &event, &moment)?))
 }
 
-/// All events, told.
-fn tell_all<C: Course, W: Write>(
-    words: Words<'_>,
-    watch: &mut Watch<'_>,
-    teller: &mut Teller,
-    course: &mut C,
-    output: &mut W,
-) -> io::Result<()> {
-    for _event in 0..u64::MAX {
-        match tell_next(words, watch, teller, course) {
-            Ok(Some(line)) => output.write_all(line.as_bytes())?,
-            Ok(None) => return Ok(()),
-            Err(OutOfMemory) => return Err(io::Error::from(AllocError)),
-        }
-    }
-    Ok(())
-}
-
 /// What tells of a run whose root is given these registers.
 fn teller_with<'a>(
-    subject: Subject<'a>,
+    job: &'a Job<'_>,
     words: Words<'a>,
     wanted: Wanted,
     root: &'a Settings,
 ) -> Result<Teller, OutOfMemory> {
     let start = Start {
-        title: subject.title,
-        source: subject.source,
-        workers: subject.workers,
+        title: job.request.file.as_str(),
+        source: job.source(),
+        workers: job.request.workers,
         root,
     };
-    Teller::new(subject.alloc, words, wanted, start)
+    Teller::new(job.alloc, words, wanted, start)
 }
 
 /// What tells of a run that has not begun yet.
 fn teller_of(
-    subject: Subject<'_>,
+    job: &Job<'_>,
     words: Words<'_>,
     watch: &mut Watch<'_>,
     wanted: Wanted,
@@ -124,59 +94,55 @@ fn teller_of(
     let given = if wanted.json || wanted.page {
         watch.begin_details()?
     } else {
-        Settings::none(subject.alloc)
+        Settings::none(job.alloc)
     };
-    teller_with(subject, words, wanted, &given)
+    teller_with(job, words, wanted, &given)
 }
 
 /// A run that has begun, told.
 fn tell_from<C: Course, W: Write>(
-    subject: Subject<'_>,
+    job: &Job<'_>,
     words: Words<'_>,
     watch: &mut Watch<'_>,
     course: &mut C,
     wanted: Wanted,
     output: &mut W,
-) -> io::Result<Told> {
-    let Ok(mut teller) = teller_of(subject, words, watch, wanted) else {
-        return Err(io::Error::from(AllocError));
-    };
-    tell_all(words, watch, &mut teller, course, output)?;
-    let answer = answer_of(subject.alloc, words, watch.machine())?;
-    match teller.finish(words, answer.as_str()) {
-        Ok(told) => Ok(told),
-        Err(OutOfMemory) => Err(io::Error::from(AllocError)),
+) -> Result<Told, Halt> {
+    let mut teller = teller_of(job, words, watch, wanted)?;
+    for _event in 0..u64::MAX {
+        match tell_next(words, watch, &mut teller, course)? {
+            Some(line) => output.write_all(line.as_bytes())?,
+            None => break,
+        }
     }
+    let answer = answer_of(job.alloc, words, watch.machine())?;
+    Ok(teller.finish(words, answer.as_str())?)
 }
 
-/// Runs the module by the events of a course, and tells of them. The trace goes to the output. The answer is what was told, and the machine
-/// after the last event; or why the run could not start.
-///
-/// # Errors
-///
-/// Those of the output; want of memory is one of them.
+/// Runs the module by the events of a course, and tells of them with these names and lines. The trace goes to the output. The answer is what was told, and the
+/// machine after the last event.
 pub fn tell<'v, C: Course, W: Write>(
-    subject: Subject<'v>,
-    words: Words<'_>,
+    job: &Job<'v>,
+    names: &Names<'_>,
+    lines: &[&str],
     memory: Memory,
     course: &mut C,
+    crew: Crew<'_>,
+    whole: Option<Whole>,
     wanted: Wanted,
     output: &mut W,
-) -> io::Result<Result<(Told, Machine<'v>), RunFault>>
-    requires { IsMadeFor subject.verified.now memory }
+) -> Result<(Told, Machine<'v>), Halt>
+    requires { IsMadeFor job.now.verified.now memory }
 {
-    let started = Watch::start(
-        subject.alloc,
-        subject.verified,
-        subject.arguments,
-        memory,
-        subject.workers,
-    );
-    match started {
-        Ok(mut watch) => {
-            let told = tell_from(subject, words, &mut watch, course, wanted, output)?;
-            Ok(Ok((told, watch.into_machine())))
-        }
-        Err(fault) => Ok(Err(fault)),
-    }
+    let words = Words {
+        names,
+        lines,
+        crew,
+        whole,
+    };
+    let args = job.request.args.as_slice();
+    let workers = job.request.workers;
+    let mut watch = Watch::start(job.alloc, job.verified, args, memory, workers)?;
+    let told = tell_from(job, words, &mut watch, course, wanted, output)?;
+    Ok((told, watch.into_machine()))
 }

@@ -1,5 +1,5 @@
 //! The run of one worker alone: there is nobody to share with.
-ghost use Rattle.std.specs.Prelude.{◌≡◌, ℕ, Err, None, IfErr, IfOk, OnOk};
+ghost use Rattle.std.specs.Prelude.{◌≡◌, Err, None, IfErr, IfOk, OnOk};
 ghost use Rattle.shared_run.specs.store.Requirements.{unmet_in};
 ghost use Rattle.shared_run.specs.store.Made.{IsMadeFor};
 ghost use Rattle.shared_run.specs.Answer.{IsSerialAnswer};

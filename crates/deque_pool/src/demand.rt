@@ -1,7 +1,7 @@
 use std::sync::Wait;
 use std::sync::atomic::{AtomicU64, Ordering};
 use std::time::Duration;
-use strand_turns::Hunger;
+use strand_turns::{Hunger, Told};
 
 /// What workers tell one another: how many of them have no task, how many tasks are ready, and a bell for those that sleep meanwhile. These are hints on
 /// which nothing rests.
@@ -31,32 +31,26 @@ impl Demand {
         0 < self.ready.load(Ordering::SeqCst).cast_signed()
     }
 
-    /// A worker has no task any more.
-    pub(crate) fn idle(&self) {
-        let _before = self.idle.fetch_add(1, Ordering::SeqCst);
-    }
-
-    /// A worker has a task that was not ready.
-    pub(crate) fn begin(&self) {
-        let _before = self.idle.fetch_sub(1, Ordering::SeqCst);
-    }
-
-    /// So many tasks more are ready.
-    pub(crate) fn offer(&self, count: usize) {
-        if 0 < count {
-            let _before = self.ready.fetch_add(count as u64, Ordering::SeqCst);
+    /// Notes which worker has a task.
+    pub(crate) fn note(&self, told: Told) {
+        if let Told::Steal = told {
+            self.take_back();
         }
+        let _before = match told {
+            Told::Rest => self.idle.fetch_add(1, Ordering::SeqCst),
+            Told::Begin | Told::Steal => self.idle.fetch_sub(1, Ordering::SeqCst),
+            Told::Publication { .. } | Told::Step | Told::Stranger => 0,
+        };
     }
 
-    /// A worker goes on with a task that was ready, from another that ended.
+    /// One task more is ready.
+    pub(crate) fn offer(&self) {
+        let _before = self.ready.fetch_add(1, Ordering::SeqCst);
+    }
+
+    /// A task that was ready is a worker's now.
     pub(crate) fn take_back(&self) {
         let _before = self.ready.fetch_sub(1, Ordering::SeqCst);
-    }
-
-    /// A worker that had no task has one that was ready.
-    pub(crate) fn claim(&self) {
-        self.take_back();
-        self.begin();
     }
 
     /// How often the bell was rung up to now.

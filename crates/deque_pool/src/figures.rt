@@ -1,4 +1,4 @@
-use strand_turns::Reason;
+use strand_turns::{Reason, Told};
 
 /// What a worker did in a run. Each number stays at 2^64 - 1.
 #[derive(Clone, Copy)]
@@ -42,27 +42,28 @@ impl Figures {
         }
     }
 
-    /// The worker did so many instructions.
-    pub(crate) fn count_instructions(&mut self, instructions: u64) {
-        self.instructions = self.instructions.saturating_add(instructions);
-    }
-
-    /// A strand of so many instructions was put on the board.
-    pub(crate) fn count_publication(&mut self, instructions: u64, why: Reason) {
-        self.count_instructions(instructions);
-        self.publications = self.publications.saturating_add(1);
-        let reason = match why {
-            Reason::Border => &mut self.at_borders,
-            Reason::Full => &mut self.at_full_logs,
-            Reason::Asked => &mut self.for_others,
-            Reason::Limit => &mut self.at_limits,
+    /// Counts what the worker did at the board.
+    pub(crate) fn count(&mut self, told: Told) {
+        let count = match told {
+            Told::Publication {
+                instructions,
+                reason,
+            } => {
+                self.instructions = self.instructions.saturating_add(instructions);
+                self.publications = self.publications.saturating_add(1);
+                match reason {
+                    Reason::Border => &mut self.at_borders,
+                    Reason::Full => &mut self.at_full_logs,
+                    Reason::Asked => &mut self.for_others,
+                    Reason::Limit => &mut self.at_limits,
+                }
+            }
+            Told::Step => &mut self.instructions,
+            Told::Stranger => &mut self.strangers,
+            Told::Steal => &mut self.steals,
+            Told::Begin | Told::Rest => return,
         };
-        *reason = reason.saturating_add(1);
-    }
-
-    /// A strand was done for nothing.
-    pub(crate) fn count_stranger(&mut self) {
-        self.strangers = self.strangers.saturating_add(1);
+        *count = count.saturating_add(1);
     }
 
     /// A strand begins. The answer is how many began before.
@@ -70,15 +71,5 @@ impl Figures {
         let before = self.strands;
         self.strands = self.strands.saturating_add(1);
         before
-    }
-
-    /// The worker looks for a task.
-    pub(crate) fn count_search(&mut self) {
-        self.searches = self.searches.saturating_add(1);
-    }
-
-    /// It took one.
-    pub(crate) fn count_steal(&mut self) {
-        self.steals = self.steals.saturating_add(1);
     }
 }

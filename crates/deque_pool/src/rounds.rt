@@ -51,7 +51,7 @@ pub(crate) fn run_by<L: Bench + Send + Sync, G: Gate + Sync, R: Threads + Wait +
     let (mut shared, mut seats) = Shared::<L>::new(
         alloc, verified, arguments, memory, workers, keeping, blank,
     )?;
-    let Ok(mut figures) = no_figures(alloc, workers) else {
+    let Ok(mut figures) = vec![in alloc; Figures::none(); workers] else {
         return Err(RunFault::OutOfMemory);
     };
     for _ in rt.forever() {
@@ -77,11 +77,6 @@ pub(crate) fn run_by<L: Bench + Send + Sync, G: Gate + Sync, R: Threads + Wait +
         }
     }
     unreachable!()
-}
-
-/// Nothing was done yet by so many workers.
-fn no_figures(alloc: Global, workers: usize) -> Result<Vec<Figures>, OutOfMemory> {
-    Ok(vec![in alloc; Figures::none(); workers]?)
 }
 
 /// Lets all workers work until they leave: their seats, and why each of them left.

@@ -17,7 +17,7 @@ pub(crate) struct Ends<'w> {
 
 impl Tasks for Ends<'_> {
     fn offer(&mut self, _worker: u8, ticket: Ticket) {
-        self.demand.offer(1);
+        self.demand.offer();
         let _ = self.hands.offer(ticket);
     }
 
@@ -43,27 +43,8 @@ impl Tasks for Ends<'_> {
         None
     }
 
-    fn rest(&mut self) {
-        self.demand.idle();
-    }
-
-    fn begin(&mut self) {
-        self.demand.begin();
-    }
-
-    fn claim(&mut self) {
-        self.demand.claim();
-    }
-
     fn note(&mut self, told: Told) {
-        match told {
-            Told::Publication {
-                instructions,
-                reason,
-            } => self.figures.count_publication(instructions, reason),
-            Told::Step => self.figures.count_instructions(1),
-            Told::Stranger => self.figures.count_stranger(),
-            Told::Steal => self.figures.count_steal(),
-        }
+        self.demand.note(told);
+        self.figures.count(told);
     }
 }

@@ -151,7 +151,7 @@ fn search<L: Bench, R: Wait>(
     worker: &mut Worker<'_, L>,
     rests: u32,
 ) -> Next {
-    worker.figures.count_search();
+    worker.figures.searches = worker.figures.searches.saturating_add(1);
     let heard = demand.rings();
     if !demand.is_met() && rests < PAUSES + YIELDS {
         return Next::Rest { heard };

@@ -23,13 +23,7 @@ fn is_unneeded(means: &Means<'_>, source: Source<'_>, number: u32) -> bool {
         return false;
     }
     let without = means.made(with_line_at(means.alloc, source.text, number, ""));
-    match fault_of(means.alloc, source.state, without.as_str(), means.effort) {
-        Ok(fault) => fault.is_none(),
-        Err(lack) => {
-            means.note(lack);
-            false
-        }
-    }
+    matches!(fault_of(means, source.state, without.as_str()), Some(None))
 }
 
 /// The annotations without which the module is accepted as well, each taken away alone.

@@ -36,20 +36,12 @@ impl Reading<'_> {
         let means = &self.means;
         let before = after.saturating_add(1);
         let changed = means.made(with_line_before(means.alloc, self.source.text, before, new));
-        match fault_of(
-            means.alloc,
-            self.source.state,
-            changed.as_str(),
-            means.effort,
-        ) {
-            Ok(Some((number, at))) => {
+        match fault_of(means, self.source.state, changed.as_str()) {
+            Some(Some((number, at))) => {
                 number > 402 || (number == 402 && at > self.line.saturating_add(1))
             }
-            Ok(None) => true,
-            Err(lack) => {
-                means.note(lack);
-                false
-            }
+            Some(None) => true,
+            None => false,
         }
     }
 
@@ -128,19 +120,20 @@ pub fn alloca_notes(
     line: u32,
     effort: &Effort,
 ) -> Result<String, Unanswered> {
-    let Some(matched) = match_text(alloc, source.state, source.text.as_bytes(), false)? else {
-        return Ok(String::new(alloc));
-    };
-    let program = &matched.graph.program;
     let mut reading = Reading {
         means: Means::new(alloc, effort),
         source,
         line,
         notes: TextBuffer::new(alloc),
     };
-    for index in 0..program.functions.len() {
-        if let Some(scene) = Scene::of(alloc, program, &matched.whole, index)? {
-            reading.push_scene(&scene);
+    let matched = match_text(alloc, source.state, source.text.as_bytes(), false);
+    if let Some(matched) = reading.means.found(matched) {
+        let program = &matched.graph.program;
+        for index in 0..program.functions.len() {
+            let scene = Scene::of(alloc, program, &matched.whole, index);
+            if let Some(scene) = reading.means.found(scene) {
+                reading.push_scene(&scene);
+            }
         }
     }
     let Reading { means, notes, .. } = reading;

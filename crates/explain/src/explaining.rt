@@ -6,43 +6,14 @@ use crate::alloca::alloca_notes;
 use crate::report::Explanation;
 use crate::tries::with_judged_tries;
 use explain_costs::told_cost_findings;
-use explain_facts::{Matched, match_text, number_findings};
-use explain_findings::{Finding, Source, name_finding, word_findings};
+use explain_facts::{match_text, number_findings};
+use explain_findings::{Finding, Source, name_finding, push_finding, word_findings};
 use explain_zones::zone_findings;
 use lists::{ListBuffer, OutOfMemory, Seq, TextBuffer};
 use ranges::Unanswered;
 use std::alloc::Global;
 use std::hash::RandomState;
 use verifier::{Effort, Refused, Unverified, verify_within};
-
-/// A fault without a cause that is told.
-fn lone_finding(number: u16, line: u32, notes: String) -> Finding {
-    Finding {
-        number,
-        line,
-        cause: None,
-        follows: false,
-        notes,
-    }
-}
-
-/// The faults of a phase over the program: that of numbers, of zones or of costs.
-fn matched_findings(
-    alloc: Global,
-    source: Source<'_>,
-    matched: &Matched,
-    number: u16,
-    effort: &Effort,
-) -> Result<Vec<Finding>, Unanswered> {
-    if number < 600 {
-        number_findings(alloc, source, matched, effort)
-    } else if number < 700 {
-        let findings = zone_findings(alloc, source, matched, effort)?;
-        with_judged_tries(alloc, source, findings, effort)
-    } else {
-        told_cost_findings(alloc, source, matched, effort)
-    }
-}
 
 /// The faults of the phase of numbers, zones or costs.
 fn program_findings(
@@ -51,9 +22,16 @@ fn program_findings(
     number: u16,
     effort: &Effort,
 ) -> Result<Vec<Finding>, Unanswered> {
-    match match_text(alloc, source.state, source.text.as_bytes(), true)? {
-        Some(matched) => matched_findings(alloc, source, &matched, number, effort),
-        None => Ok(Vec::new(alloc)),
+    let Some(matched) = match_text(alloc, source.state, source.text.as_bytes(), true)? else {
+        return Ok(Vec::new(alloc));
+    };
+    if number < 600 {
+        number_findings(alloc, source, &matched, effort)
+    } else if number < 700 {
+        let findings = zone_findings(alloc, source, &matched, effort)?;
+        with_judged_tries(alloc, source, findings.as_slice(), effort)
+    } else {
+        told_cost_findings(alloc, source, &matched, effort)
     }
 }
 
@@ -65,66 +43,63 @@ fn findings_of(
     line: u32,
     effort: &Effort,
 ) -> Result<Vec<Finding>, Unanswered> {
-    if number < 200 {
-        return Ok(word_findings(alloc, source, number, line)?);
-    }
     if number >= 500 {
         return program_findings(alloc, source, number, effort);
     }
-    let finding = if number == 402 {
-        lone_finding(number, line, alloca_notes(alloc, source, line, effort)?)
+    if number < 200 {
+        return Ok(word_findings(alloc, source, number, line)?);
+    }
+    let mut findings: Vec<Finding> = Vec::new(alloc);
+    if number == 402 {
+        let notes = alloca_notes(alloc, source, line, effort)?;
+        push_finding(&mut findings, number, line, notes)?;
     } else {
-        name_finding(alloc, source, number, line)?
-    };
-    Ok(vec![in alloc; finding]?)
+        findings.push(name_finding(alloc, source, number, line)?)?;
+    }
+    Ok(findings)
 }
 
-/// The faults of the phase as far as the effort reaches; where it is spent, the fault alone that the verifier names, and that no more is told.
-fn findings_within(
-    alloc: Global,
-    source: Source<'_>,
-    number: u16,
-    line: u32,
-    effort: &Effort,
-) -> Result<Vec<Finding>, OutOfMemory> {
-    match findings_of(alloc, source, number, line, effort) {
-        Ok(findings) => Ok(findings),
-        Err(Unanswered::OutOfMemory) => Err(OutOfMemory),
-        Err(Unanswered::OutOfEffort) => {
-            let notes = String::from_str(alloc, "  the effort is spent: no more is told\n")?;
-            Ok(vec![in alloc; lone_finding(number, line, notes)]?)
-        }
-    }
+/// What is told beside the fault that the verifier names.
+#[derive(Drop)]
+struct Told {
+    cause: Option<&'static str>,
+    notes: String,
+    others: Vec<Finding>,
 }
 
 /// What is to be told where the verifier names this fault: of it, and of the others of its phase in the order of their lines, those last that may
-/// follow from earlier ones.
+/// follow from earlier ones. Where the effort is spent, that no more is told.
 fn told_of(
     alloc: Global,
     source: Source<'_>,
     number: u16,
     line: u32,
     effort: &Effort,
-) -> Result<(Finding, Vec<Finding>), OutOfMemory> {
-    let findings = findings_within(alloc, source, number, line, effort)?;
+) -> Result<Told, OutOfMemory> {
     let mut cause = None;
     let mut notes = TextBuffer::new(alloc);
     let mut others: ListBuffer<Finding> = ListBuffer::new(alloc);
-    for finding in findings {
-        if finding.number == number && finding.line == line {
-            cause = cause.or(finding.cause);
-            notes.push_str(finding.notes.as_str());
-        } else {
-            others.push(finding);
+    match findings_of(alloc, source, number, line, effort) {
+        Ok(findings) => for finding in findings {
+            if finding.number == number && finding.line == line {
+                cause = cause.or(finding.cause);
+                notes.push_str(finding.notes.as_str());
+            } else {
+                others.push(finding);
+            }
+        },
+        Err(Unanswered::OutOfEffort) => {
+            notes.push_str("  the effort is spent: no more is told\n")
         }
+        Err(Unanswered::OutOfMemory) => return Err(OutOfMemory),
     }
-    let first = Finding {
-        cause,
-        ..lone_finding(number, line, notes.finish()?)
-    };
     let mut others = others.finish()?;
     others.sort_by_key(|finding| (finding.follows, finding.line, finding.number))?;
-    Ok((first, others))
+    Ok(Told {
+        cause,
+        notes: notes.finish()?,
+        others,
+    })
 }
 
 /// Why a module's text is refused, or what it could do without. Its names are hashed with `state`.
@@ -149,12 +124,18 @@ pub fn explain(
             remarks: remarks(alloc, source, verified.program(), effort)?,
         }),
         Err(Unverified::Refused(Refused::Fault { number, line })) => {
-            let (first, others) = told_of(alloc, source, number, line, effort)?;
+            let Told {
+                cause,
+                notes,
+                others,
+            } = told_of(alloc, source, number, line, effort)?;
             Ok(Explanation::Refused {
                 first: Finding {
                     number,
                     line,
-                    ..first
+                    cause,
+                    follows: false,
+                    notes,
                 },
                 others: Seq::from_vec(others),
             })

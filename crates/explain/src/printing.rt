@@ -9,38 +9,22 @@ use std::alloc::Global;
 /// How many faults others are compared with, to tell alike ones as one.
 const MOST_COMPARED: usize = 64;
 
-/// What it means that this line breaks a rule; where its cause is known, without the others that the rule has.
-fn meaning_of(alloc: Global, finding: &Finding, broken: &str) -> Result<String, OutOfMemory> {
-    let mut meaning = String::new(alloc);
-    if finding.cause.is_some() {
-        push_heads(&mut meaning, finding.number, broken)?;
-    } else {
-        push_meanings(&mut meaning, finding.number, broken)?;
+/// What is told of a fault: what it means that its line breaks the rule, of the rule's causes only the one that it is where that is known, and after the
+/// notes how to mend it.
+fn reasons_of(alloc: Global, text: &str, finding: &Finding) -> Result<String, OutOfMemory> {
+    let number = finding.number;
+    let broken = line_at(text, finding.line).unwrap_or("").trim();
+    let mut reasons = String::new(alloc);
+    match finding.cause {
+        Some(cause) => {
+            push_heads(&mut reasons, number, broken)?;
+            writeln!(reasons, "  here: {cause}")?;
+        }
+        None => push_meanings(&mut reasons, number, broken)?,
     }
-    Ok(meaning)
-}
-
-/// How to mend a line that breaks a rule.
-fn mends_of(alloc: Global, number: u16, broken: &str) -> Result<String, OutOfMemory> {
-    let mut mends = String::new(alloc);
-    push_mends(&mut mends, number, broken)?;
-    Ok(mends)
-}
-
-/// What it means that this line breaks a rule, of its causes only the one that it is where that is known, and after the notes how to mend it.
-fn push_reasons(
-    alloc: Global,
-    out: &mut TextBuffer,
-    broken: &str,
-    finding: &Finding,
-) -> Result<(), OutOfMemory> {
-    out.push_str(meaning_of(alloc, finding, broken)?.as_str());
-    if let Some(cause) = finding.cause {
-        writeln!(out, "  here: {cause}");
-    }
-    out.push_str(finding.notes.as_str());
-    out.push_str(mends_of(alloc, finding.number, broken)?.as_str());
-    Ok(())
+    reasons.push_str(finding.notes.as_str())?;
+    push_mends(&mut reasons, number, broken)?;
+    Ok(reasons)
 }
 
 /// A fault with what is told of it, and the lines of later ones of its rule of which the same is told.
@@ -51,36 +35,26 @@ struct Entry<'a> {
     alike: Vec<u32>,
 }
 
-/// What is told of a fault.
-fn entry_of<'a>(alloc: Global, text: &str, finding: &'a Finding) -> Result<Entry<'a>, OutOfMemory> {
-    let mut reasons = TextBuffer::new(alloc);
-    let line = line_at(text, finding.line).unwrap_or("").trim();
-    push_reasons(alloc, &mut reasons, line, finding)?;
-    Ok(Entry {
-        finding,
-        reasons: reasons.finish()?,
-        alike: Vec::new(alloc),
-    })
-}
-
-/// Where the same is told of a fault of the same rule.
-fn place_alike(all: &[Entry<'_>], new: &Entry<'_>) -> Option<usize> {
-    for (place, told) in all.iter().enumerate() {
-        let is_same_rule = told.finding.number == new.finding.number;
-        if is_same_rule && told.reasons.as_str() == new.reasons.as_str() {
-            return Some(place);
+/// Adds a fault, or only its line where the same is told of one before. Of very many faults the later ones stand for themselves.
+fn push_entry<'a>(
+    alloc: Global,
+    all: &mut Vec<Entry<'a>>,
+    text: &str,
+    finding: &'a Finding,
+) -> Result<(), OutOfMemory> {
+    let reasons = reasons_of(alloc, text, finding)?;
+    for told in all.iter_mut().take(MOST_COMPARED) {
+        let is_same_rule = told.finding.number == finding.number;
+        if is_same_rule && told.reasons.as_str() == reasons.as_str() {
+            told.alike.push(finding.line)?;
+            return Ok(());
         }
     }
-    None
-}
-
-/// Adds a fault, or only its line where the same is told of one before. Of very many faults the later ones stand for themselves.
-fn push_entry<'a>(all: &mut Vec<Entry<'a>>, new: Entry<'a>) -> Result<(), OutOfMemory> {
-    let compared = all.len().min(MOST_COMPARED);
-    match place_alike(&all[..compared], &new) {
-        Some(place) if place < all.len() => all[place].alike.push(new.finding.line)?,
-        _ => all.push(new)?,
-    }
+    all.push(Entry {
+        finding,
+        reasons,
+        alike: Vec::new(alloc),
+    })?;
     Ok(())
 }
 
@@ -111,18 +85,18 @@ fn push_finding(out: &mut TextBuffer, text: &str, word: &str, told: &Entry<'_>) 
 }
 
 /// The fault that the verifier names, and those that are told beside it in full: they do not follow from an earlier one.
-fn push_refused(
+fn push_refused<'a>(
     alloc: Global,
     out: &mut TextBuffer,
     text: &str,
-    first: &Finding,
-    others: &[Finding],
+    first: &'a Finding,
+    others: &'a [Finding],
 ) -> Result<(), OutOfMemory> {
-    let mut all: Vec<Entry<'_>> = Vec::new(alloc);
-    all.push(entry_of(alloc, text, first)?)?;
+    let mut all: Vec<Entry<'a>> = Vec::new(alloc);
+    push_entry(alloc, &mut all, text, first)?;
     for other in others {
         if !other.follows {
-            push_entry(&mut all, entry_of(alloc, text, other)?)?;
+            push_entry(alloc, &mut all, text, other)?;
         }
     }
     let mut word = "refused";

@@ -1,24 +1,24 @@
 //! What the verifier says of a text that is tried.
 
+use explain_facts::Means;
 use ranges::Unanswered;
-use std::alloc::Global;
 use std::hash::RandomState;
-use verifier::{Effort, Refused, Unverified, verify_within};
+use verifier::{Refused, Unverified, verify_within};
 
-/// The rule that the verifier names of a text, and the line that breaks it; none where it takes the text.
-pub fn fault_of(
-    alloc: Global,
-    state: RandomState,
-    text: &str,
-    effort: &Effort,
-) -> Result<Option<(u16, u32)>, Unanswered> {
-    match verify_within(alloc, state, text.as_bytes(), effort) {
+/// The rule that the verifier names of a text, and the line that breaks it; none inside where it takes the text, and none at all where memory or effort
+/// did not reach.
+pub fn fault_of(means: &Means<'_>, state: RandomState, text: &str) -> Option<Option<(u16, u32)>> {
+    let lack = match verify_within(means.alloc, state, text.as_bytes(), means.effort) {
         Ok(verified) => {
             drop(verified);
-            Ok(None)
+            return Some(None);
         }
-        Err(Unverified::Refused(Refused::Fault { number, line })) => Ok(Some((number, line))),
-        Err(Unverified::Refused(Refused::Memory)) => Err(Unanswered::OutOfMemory),
-        Err(Unverified::OutOfEffort { .. }) => Err(Unanswered::OutOfEffort),
-    }
+        Err(Unverified::Refused(Refused::Fault { number, line })) => {
+            return Some(Some((number, line)));
+        }
+        Err(Unverified::Refused(Refused::Memory)) => Unanswered::OutOfMemory,
+        Err(Unverified::OutOfEffort { .. }) => Unanswered::OutOfEffort,
+    };
+    means.note(lack);
+    None
 }

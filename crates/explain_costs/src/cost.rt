@@ -1,20 +1,18 @@
 //! Faults of costs, each with both sides and the difference.
 
-use crate::left::Bare;
 use crate::missing_budget::missing_budget;
 use crate::sums::{Counted, Share, amount};
+use cfg::BlockEdges;
 use cost_table::{Table, Work, make_table, work_of};
 use explain_facts::{
     Known, Matched, Means, Scene, Trying, edge_known, fact_lines, lack_of, plural, push_form,
-    start_lines,
 };
 use explain_findings::{Finding, Source, push_found};
-use linear::Form;
+use linear::{Fact, Form};
 use lists::TextBuffer;
-use program::{Argument, Block, BlockId, Ending, Function, Instruction, Left, Step, Terminator};
+use program::{Block, BlockId, Instruction, Left, Step, Terminator};
 use ranges::{
     BlockFacts, EdgeFacts, Effort, Move, Sum, Unanswered, argument_moves, block_facts, start_facts,
-    stated,
 };
 use std::alloc::Global;
 
@@ -23,70 +21,78 @@ const GREATEST_COST: u64 = 1_000_000_000_000;
 
 /// A block beside what it does and what is known at its end.
 #[derive(Clone, Copy)]
-struct Doing<'s, 'a> {
+pub struct Doing<'s, 'a> {
+    pub trying: Trying<'s, 'a>,
+    pub block: &'a Block,
+    pub work: Work,
+}
+
+/// What is tried where this is known, the first `stated` of the facts to a `shows` line there.
+fn trying_where<'s, 'a>(
     trying: Trying<'s, 'a>,
-    block: &'a Block,
-    work: Work,
+    facts: &'a [Fact],
+    stated: usize,
+    line: u32,
+) -> Trying<'s, 'a> {
+    Trying {
+        known: Known {
+            facts,
+            stated,
+            line,
+            ..trying.known
+        },
+        ..trying
+    }
 }
 
 impl Doing<'_, '_> {
-    /// What is left of the block behind what it does and what is left at all of these places.
-    fn rest(&self, counted: Counted, shares: &[Share<'_>]) -> Sum {
-        let means = self.trying.known.means;
-        let done = amount(counted.of_work(self.work));
-        let start = means.sum(0i128.saturating_sub(done));
-        let mut rest = means.plus(start, &[], counted.of_left(&self.block.left));
+    /// What is left of the block behind what it does and what is left at all of these places; and says all of these, as the sides of that.
+    fn rest(&self, counted: Counted, shares: &[Share<'_>], sides: &mut TextBuffer) -> Sum {
+        let known = self.trying.known;
+        let means = known.means;
+        let unit = counted.unit();
+        let left = counted.of_left(&self.block.left);
+        let done = counted.of_work(self.work);
+        write!(sides, "  {unit}s: left ");
+        push_form(known.scene, left, sides);
+        write!(sides, ", the block does {done}");
+        let start = means.sum(0i128.saturating_sub(amount(done)));
+        let mut rest = means.plus(start, &[], left);
         for share in shares {
-            rest = means.less(rest, share.moves, counted.of_left(share.left));
+            let label = known.scene.label(share.to);
+            let left = counted.of_left(share.left);
+            write!(sides, ", left at %{label} ");
+            push_form(known.scene, left, sides);
+            rest = means.less(rest, share.moves, left);
         }
         rest
-    }
-
-    /// What is left at the block's start, what it does of that, and what is left at each of these places.
-    fn push_sides(&self, counted: Counted, shares: &[Share<'_>], out: &mut TextBuffer) {
-        let unit = counted.unit();
-        let done = counted.of_work(self.work);
-        let scene = self.trying.known.scene;
-        write!(out, "  {unit}s: left ");
-        push_form(scene, counted.of_left(&self.block.left), out);
-        write!(out, ", the block does {done}");
-        for share in shares {
-            let label = scene.label(share.to);
-            write!(out, ", left at %{label} ");
-            push_form(scene, counted.of_left(share.left), out);
-        }
-        out.push_str("\n");
-    }
-
-    /// The edge, where there is only one.
-    fn push_edge_to(&self, shares: &[Share<'_>], out: &mut TextBuffer) {
-        if let [only] = shares {
-            let label = self.trying.known.scene.label(only.to);
-            write!(out, " on the edge to %{label}");
-        }
-        out.push_str("\n");
     }
 
     /// How much too little is left, if it is: a number, or what is to be shown.
     fn push_counted(&self, counted: Counted, shares: &[Share<'_>], out: &mut TextBuffer) {
         let known = self.trying.known;
-        let rest = self.rest(counted, shares);
+        let mut sides = TextBuffer::new(known.means.alloc);
+        let rest = self.rest(counted, shares, &mut sides);
         if known.shows(&rest) {
             return;
         }
-        self.push_sides(counted, shares, out);
-        match lack_of(known.means, &rest) {
+        out.push_str(known.means.text(sides).as_str());
+        let lack = lack_of(known.means, &rest);
+        match lack {
             Some(lack) => {
                 let unit = counted.unit();
                 let s = plural(lack);
-                write!(out, "    {lack} {unit}{s} too few");
-                self.push_edge_to(shares, out);
+                write!(out, "\n    {lack} {unit}{s} too few");
             }
-            None => {
-                out.push_str("    that may be too few");
-                self.push_edge_to(shares, out);
-                self.trying.push_detail(&rest, "    ", out);
-            }
+            None => out.push_str("\n    that may be too few"),
+        }
+        if let [only] = shares {
+            let label = known.scene.label(only.to);
+            write!(out, " on the edge to %{label}");
+        }
+        out.push_str("\n");
+        if lack.is_none() {
+            self.trying.push_detail(&rest, "    ", out);
         }
     }
 
@@ -104,52 +110,33 @@ impl Doing<'_, '_> {
         notes: TextBuffer,
         findings: &mut Vec<Finding>,
     ) {
-        let means = self.trying.known.means;
-        let line = self.trying.known.line;
-        let has_left = self.block.left.line != self.block.line;
-        if notes.is_empty() || has_left || self.trying.source.is_none() {
-            return push_if_written(means, findings, 702, line, notes);
-        }
-        let bare = Bare {
-            trying: self.trying,
-            block: self.block,
-            work: self.work,
-            shares,
-            is_one_way,
-        };
-        let mut notes = TextBuffer::new(means.alloc);
-        let follows = bare.push_missing(&mut notes);
-        push_finding(means, findings, 702, line, means.text(notes), follows);
-    }
-
-    /// What there is to say of an edge to this place.
-    fn push_edge(&self, edge: &EdgeFacts, share: Share<'_>, notes: &mut TextBuffer) {
         let known = self.trying.known;
-        let facts = known
-            .means
-            .items(edge_known(known.means.alloc, known.facts, edge));
-        let there = Doing {
-            trying: Trying {
-                known: Known {
-                    facts: facts.as_slice(),
-                    ..known
-                },
-                ..self.trying
-            },
-            ..*self
-        };
-        there.push_lack(&[share], notes);
+        let mut notes = notes;
+        let mut follows = false;
+        let has_left = self.block.left.line != self.block.line;
+        if !notes.is_empty() && !has_left && self.trying.source.is_some() {
+            notes = TextBuffer::new(known.means.alloc);
+            follows = self.push_missing(shares, is_one_way, &mut notes);
+        }
+        push_finding(known.means, findings, 702, known.line, notes, follows);
     }
 
     /// 702 on each edge.
     fn push_edges(&self, edges: &[EdgeFacts], findings: &mut Vec<Finding>) {
-        let means = self.trying.known.means;
-        let blocks = self.trying.known.scene.function.blocks.as_slice();
+        let known = self.trying.known;
+        let means = known.means;
+        let blocks = known.scene.function.blocks.as_slice();
         let mut notes = TextBuffer::new(means.alloc);
         let mut shares: Vec<Share<'_>> = Vec::new(means.alloc);
         for edge in edges {
             if let Some(share) = share_of(blocks, edge.to, edge.moves.as_slice()) {
-                self.push_edge(edge, share, &mut notes);
+                let facts = means.items(edge_known(means.alloc, known.facts, edge));
+                let facts = facts.as_slice();
+                let there = Doing {
+                    trying: trying_where(self.trying, facts, known.stated, known.line),
+                    ..*self
+                };
+                there.push_lack(&[share], &mut notes);
                 means.push(&mut shares, share);
             }
         }
@@ -203,15 +190,19 @@ fn share_of<'a>(blocks: &'a [Block], to: BlockId, moves: &'a [Move]) -> Option<S
     }
 }
 
-/// Adds a fault, or what there is to say of it to the last one, if that is the same.
+/// Adds a fault with what was written of it, if anything was, or that to the last one, if that is the same.
 fn push_finding(
     means: &Means<'_>,
     findings: &mut Vec<Finding>,
     number: u16,
     line: u32,
-    notes: String,
+    notes: TextBuffer,
     follows: bool,
 ) {
+    let notes = means.text(notes);
+    if notes.is_empty() {
+        return;
+    }
     let found = Finding {
         number,
         line,
@@ -221,20 +212,6 @@ fn push_finding(
     };
     if push_found(findings, found).is_err() {
         means.note(Unanswered::OutOfMemory);
-    }
-}
-
-/// A fault with what was written of it, if anything was.
-fn push_if_written(
-    means: &Means<'_>,
-    findings: &mut Vec<Finding>,
-    number: u16,
-    line: u32,
-    notes: TextBuffer,
-) {
-    let notes = means.text(notes);
-    if !notes.is_empty() {
-        push_finding(means, findings, number, line, notes, false);
     }
 }
 
@@ -279,89 +256,49 @@ fn push_start(trying: Trying<'_, '_>, left: &Left, findings: &mut Vec<Finding>) 
     push_low(trying, what, &[], &left.self_calls, &mut notes);
     let what = "the instructions left are at least 0";
     push_low(trying, what, &[], &left.instructions, &mut notes);
-    push_if_written(means, findings, 701, left.line, notes);
+    push_finding(means, findings, 701, left.line, notes, false);
 }
 
-/// 703 of a self call.
+/// 703 of a self call: what is not shown of the measure that it has, by itself and beside the one here; of a function without a `measure` line that it has
+/// none, where the measure stands on the function's own.
 fn push_call(trying: Trying<'_, '_>, step: &Step, findings: &mut Vec<Finding>) {
-    match &step.instruction {
-        Instruction::Call {
-            callee,
-            arguments,
-            ..
-        } if callee.0 == trying.known.scene.index => {
-            let notes = call_notes(trying, arguments.as_slice());
-            push_if_written(trying.known.means, findings, 703, step.line, notes);
-        }
-        _ => {}
+    let Instruction::Call {
+        callee,
+        arguments,
+        ..
+    } = &step.instruction
+    else {
+        return;
+    };
+    let scene = trying.known.scene;
+    if callee.0 != scene.index {
+        return;
     }
-}
-
-/// Whether the function has a `measure` line: where it has none, the measure stands on the function's own.
-fn has_measure(function: &Function) -> bool {
-    function.measure.line != function.line
-}
-
-/// What is not shown of the measure that a self call has, by itself and beside the one here; of a function without a `measure` line that it has none.
-fn call_notes(trying: Trying<'_, '_>, arguments: &[Argument]) -> TextBuffer {
-    let known = trying.known;
-    let means = known.means;
-    let form = &known.scene.function.measure.form;
-    let moves = means.items(argument_moves(means.alloc, arguments));
+    let means = trying.known.means;
+    let measure = &scene.function.measure;
+    let form = &measure.form;
+    let moves = means.items(argument_moves(means.alloc, arguments.as_slice()));
     let moves = moves.as_slice();
     let mut notes = TextBuffer::new(means.alloc);
-    push_low(
-        trying,
-        "the call's measure is at least 0",
-        moves,
-        form,
-        &mut notes,
-    );
+    let what = "the call's measure is at least 0";
+    push_low(trying, what, moves, form, &mut notes);
     let falls = means.less(means.plus(means.sum(-1), &[], form), moves, form);
     let what = "the call's measure is below the one here";
     push_sum(trying, what, &falls, &mut notes);
-    if notes.is_empty() || has_measure(known.scene.function) {
-        return notes;
-    }
-    let name = known.scene.written.name.as_str();
-    let after = known.scene.function.line;
-    let mut notes = TextBuffer::new(means.alloc);
-    writeln!(
-        notes,
-        "  @{name} has no `measure` line, without which no self call is taken\n    \
+    let after = scene.function.line;
+    if !notes.is_empty() && measure.line == after {
+        let name = scene.written.name.as_str();
+        notes = TextBuffer::new(means.alloc);
+        writeln!(
+            notes,
+            "  @{name} has no `measure` line, without which no self call is taken\n    \
 write ;! measure F max N, after line {after}: F is a form of the parameters that each self call makes less, N the most that it may be"
-    );
-    notes
+        );
+    }
+    push_finding(means, findings, 703, step.line, notes, false);
 }
 
-/// 703 and 704 at a function's head.
-fn push_head(
-    means: &Means<'_>,
-    source: Option<Source<'_>>,
-    scene: &Scene<'_>,
-    findings: &mut Vec<Finding>,
-) {
-    let function = scene.function;
-    let Some(entry) = function.blocks.as_slice().first() else {
-        return;
-    };
-    let facts = means.items(stated(means.alloc, function.requirements.as_slice()));
-    let lines = start_lines(means, function, 0, entry);
-    let known = Known {
-        scene: &*scene,
-        edges: &[],
-        block: BlockId(0),
-        facts: facts.as_slice(),
-        lines: lines.as_slice(),
-        stated: 0,
-        line: function.line,
-        means: &*means,
-    };
-    let trying = Trying::of(source, known);
-    push_measure(trying, findings);
-    push_budget(trying, &entry.left, findings);
-}
-
+/// 703 at a function's head.
 fn push_measure(trying: Trying<'_, '_>, findings: &mut Vec<Finding>) {
     let means = trying.known.means;
     let measure = &trying.known.scene.function.measure;
@@ -370,37 +307,26 @@ fn push_measure(trying: Trying<'_, '_>, findings: &mut Vec<Finding>) {
     push_low(trying, what, &[], &measure.form, &mut notes);
     let what = "the measure is at most its bound";
     push_high(trying, what, measure.bound, &measure.form, &mut notes);
-    push_if_written(means, findings, 703, measure.line, notes);
+    push_finding(means, findings, 703, measure.line, notes, false);
 }
 
+/// 704 at a function's head.
 fn push_budget(trying: Trying<'_, '_>, left: &Left, findings: &mut Vec<Finding>) {
     let means = trying.known.means;
     let function = trying.known.scene.function;
     let budget = &function.budget;
     let mut notes = TextBuffer::new(means.alloc);
     let what = "the self calls left at the entry are within the budget";
-    push_high(
-        trying,
-        what,
-        budget.self_calls,
-        &left.self_calls,
-        &mut notes,
-    );
+    let calls = budget.self_calls;
+    push_high(trying, what, calls, &left.self_calls, &mut notes);
     let what = "the instructions left at the entry are within the budget";
-    push_high(
-        trying,
-        what,
-        budget.instructions,
-        &left.instructions,
-        &mut notes,
-    );
+    let instructions = budget.instructions;
+    push_high(trying, what, instructions, &left.instructions, &mut notes);
     let has_line = budget.line != function.line;
     if !notes.is_empty() && !has_line && trying.source.is_some() {
-        let notes = missing_budget(trying, left, means.text(notes).as_str());
-        push_if_written(means, findings, 704, budget.line, notes);
-    } else {
-        push_if_written(means, findings, 704, budget.line, notes);
+        notes = missing_budget(trying, left, means.text(notes).as_str());
     }
+    push_finding(means, findings, 704, budget.line, notes, false);
 }
 
 /// 705 of a function.
@@ -416,59 +342,10 @@ fn push_whole(means: &Means<'_>, scene: &Scene<'_>, table: &Table, findings: &mu
         notes,
         "  a call of measure {measure} may cost {cost}{more}; the greatest is {GREATEST_COST}"
     );
-    push_if_written(means, findings, 705, scene.function.line, notes);
+    push_finding(means, findings, 705, scene.function.line, notes, false);
 }
 
-/// Adds the faults of self calls in a block.
-fn push_steps(
-    trying: Trying<'_, '_>,
-    block: &Block,
-    table: &BlockFacts,
-    findings: &mut Vec<Finding>,
-) {
-    for (place, step) in block.steps.as_slice().iter().enumerate() {
-        let facts = table.at_step(place);
-        let there = Trying {
-            known: Known {
-                facts,
-                stated: facts.len(),
-                line: step.line,
-                ..trying.known
-            },
-            ..trying
-        };
-        push_call(there, step, findings);
-    }
-}
-
-/// Adds the fault at the end of a block.
-fn push_end(
-    trying: Trying<'_, '_>,
-    block: &Block,
-    ending: &Ending,
-    table: &BlockFacts,
-    findings: &mut Vec<Finding>,
-) {
-    let known = trying.known;
-    let functions = known.scene.program.functions.as_slice();
-    let facts = table.facts.as_slice();
-    let doing = Doing {
-        trying: Trying {
-            known: Known {
-                facts,
-                stated: facts.len(),
-                line: ending.line,
-                ..known
-            },
-            ..trying
-        },
-        block: &*block,
-        work: work_of(functions, known.scene.index, block),
-    };
-    doing.push_ending(&ending.terminator, table.edges.as_slice(), findings);
-}
-
-/// Adds the faults inside a block with this table of facts.
+/// Adds the faults inside a block with this table of facts; inside a function's first one also those at its head.
 fn push_tabled_block(
     trying: Trying<'_, '_>,
     block: &Block,
@@ -476,50 +353,50 @@ fn push_tabled_block(
     findings: &mut Vec<Finding>,
 ) {
     let known = trying.known;
-    let means = known.means;
-    let function = known.scene.function;
-    let lines = fact_lines(means, function, known.block.0, block, table);
-    let start = means.items(start_facts(means.alloc, function, known.block.0, block));
-    let trying = Trying {
-        known: Known {
-            facts: start.as_slice(),
-            lines: lines.as_slice(),
-            ..known
-        },
-        ..trying
-    };
+    if known.block.0 == 0 {
+        let head = trying_where(trying, known.facts, 0, known.scene.function.line);
+        push_measure(head, findings);
+        push_budget(head, &block.left, findings);
+    }
     push_start(trying, &block.left, findings);
-    push_steps(trying, block, table, findings);
+    for (place, step) in block.steps.as_slice().iter().enumerate() {
+        let facts = table.at_step(place);
+        let there = trying_where(trying, facts, facts.len(), step.line);
+        push_call(there, step, findings);
+    }
     if let Some(ending) = &block.ending {
-        push_end(trying, block, ending, table, findings);
+        let functions = known.scene.program.functions.as_slice();
+        let facts = table.facts.as_slice();
+        let doing = Doing {
+            trying: trying_where(trying, facts, facts.len(), ending.line),
+            block: &*block,
+            work: work_of(functions, known.scene.index, block),
+        };
+        doing.push_ending(&ending.terminator, table.edges.as_slice(), findings);
     }
 }
 
-/// Adds the faults inside the blocks of a function.
+/// Adds the faults inside the blocks of a function, and at its head.
 fn push_blocks(
     means: &Means<'_>,
     source: Option<Source<'_>>,
     scene: &Scene<'_>,
-    matched: &Matched,
+    edges: &[BlockEdges],
     findings: &mut Vec<Finding>,
 ) {
-    let edges = matched.edges(scene.index);
-    for (index, block) in scene.function.blocks.as_slice().iter().enumerate() {
-        let made = block_facts(
-            means.alloc,
-            scene.program,
-            scene.function,
-            index,
-            block,
-            means.effort,
-        );
+    let alloc = means.alloc;
+    let function = scene.function;
+    for (index, block) in function.blocks.as_slice().iter().enumerate() {
+        let made = block_facts(alloc, scene.program, function, index, block, means.effort);
         if let Some((table, _)) = means.kept(made) {
+            let lines = fact_lines(means, function, index, block, &table);
+            let facts = means.items(start_facts(alloc, function, index, block));
             let known = Known {
                 scene: &*scene,
                 edges,
                 block: BlockId(index),
-                facts: &[],
-                lines: &[],
+                facts: facts.as_slice(),
+                lines: lines.as_slice(),
                 stated: 0,
                 line: block.line,
                 means: &*means,
@@ -542,8 +419,8 @@ fn findings_of(
     for index in 0..program.functions.len() {
         if let Some(scene) = means.found(Scene::of(alloc, program, &matched.whole, index)) {
             push_whole(&means, &scene, &table, &mut findings);
-            push_head(&means, source, &scene, &mut findings);
-            push_blocks(&means, source, &scene, matched, &mut findings);
+            let edges = matched.edges(index);
+            push_blocks(&means, source, &scene, edges, &mut findings);
         }
     }
     means.finish()?;

@@ -5,18 +5,14 @@ use linear::Form;
 use lists::TextBuffer;
 use program::Left;
 
-/// The least number that a form is known to be at most, if it is at most a number.
+/// The least number that a form is known to be at most, if it is at most a number: one less than what makes up for its opposite and one less being at least 0.
 fn greatest(known: Known<'_>, form: &Form) -> Option<u64> {
     let means = known.means;
-    let less = means.less(means.sum(0), &[], form);
-    if known.shows(&less) {
-        return Some(0);
-    }
-    let Some(less) = means.form(&less) else {
+    let Some(less) = means.form(&means.less(means.sum(-1), &[], form)) else {
         return None;
     };
     match shortfall(means, known.facts, &less) {
-        Some(amount) => u64::try_from(amount).ok(),
+        Some(amount) => u64::try_from(amount.saturating_sub(1)).ok(),
         None => None,
     }
 }

@@ -1,6 +1,6 @@
 //! Faults of numbers, each with what was to be shown.
 
-use crate::gap::{edge_known, first_facts};
+use crate::gap::{facts_with, first_facts};
 use crate::known::{Known, fact_lines};
 use crate::means::Means;
 use crate::missing::Missing;
@@ -10,9 +10,9 @@ use crate::trial::Matched;
 use crate::tries::Trying;
 use crate::unmet::{Unmet, all_unmet};
 use explain_findings::{Finding, Source, line_at, push_found};
-use lists::{OutOfMemory, TextBuffer};
-use program::{Block, BlockId, Instruction, Step, Width};
-use ranges::{BlockFacts, Effort, Sum, Unanswered, block_facts};
+use lists::TextBuffer;
+use program::{Block, BlockId, Instruction, Width};
+use ranges::{BlockFacts, EdgeFacts, Effort, Sum, Unanswered};
 use std::alloc::Global;
 
 /// What asks it: an annotation, and where it stands on an edge the edge's target.
@@ -20,7 +20,7 @@ fn push_asked(
     text: &str,
     scene: &Scene<'_>,
     unmet: &Unmet,
-    edge: Option<BlockId>,
+    edge: Option<&EdgeFacts>,
     notes: &mut TextBuffer,
 ) {
     let Some(line) = unmet.asked else {
@@ -28,8 +28,8 @@ fn push_asked(
     };
     let text = line_at(text, line).unwrap_or("").trim();
     write!(notes, "  asked by line {line}: {text}");
-    if let Some(target) = edge {
-        let label = scene.label(target);
+    if let Some(edge) = edge {
+        let label = scene.label(edge.to);
         write!(notes, ", on the edge to %{label}");
     }
     notes.push_str("\n");
@@ -73,22 +73,14 @@ fn push_range(scene: &Scene<'_>, instruction: &Instruction, notes: &mut TextBuff
     }
 }
 
-/// The step of a block that stands in this line.
-fn step_at(block: &Block, line: u32) -> Option<&Step> {
-    for step in block.steps.as_slice() {
-        if step.line == line {
-            return Some(step);
-        }
-    }
-    None
-}
-
-/// The range that a line of the block asks for, where the rule is one of ranges.
+/// What a line asks for, in words, where it is an index or a result that has to be in a range, and there is something to show.
 fn push_asked_range(scene: &Scene<'_>, block: &Block, unmet: &Unmet, notes: &mut TextBuffer) {
-    let is_of_range = matches!(unmet.number, 501 | 503) && !unmet.choices.is_empty();
-    match step_at(block, unmet.site.line) {
-        Some(step) if is_of_range => push_range(scene, &step.instruction, notes),
-        _ => {}
+    if matches!(unmet.number, 501 | 503) && !unmet.choices.is_empty() {
+        for step in block.steps.as_slice() {
+            if step.line == unmet.site.line {
+                push_range(scene, &step.instruction, notes);
+            }
+        }
     }
 }
 
@@ -110,27 +102,7 @@ struct Telling<'s, 'a> {
 }
 
 impl Telling<'_, '_> {
-    /// What there is to say of a place, with the block that its edge leads to; and whether it may follow from what is missing before.
-    fn push_place_notes(
-        self,
-        known: Known<'_>,
-        edge: Option<BlockId>,
-        unmet: &Unmet,
-        missing: &mut Missing,
-        notes: &mut TextBuffer,
-    ) -> bool {
-        let trying = Trying {
-            source: Some(self.source),
-            known,
-            old: self.unmet,
-        };
-        push_asked(self.source.text, known.scene, unmet, edge, notes);
-        push_choices(trying, unmet.choices.as_slice(), notes);
-        push_silent_compare(known.scene, known.block, edge, unmet, notes);
-        missing.take(known, unmet)
-    }
-
-    /// What there is to say of a place of a block, where this is known in the block.
+    /// What there is to say of a place of a block, where this is known in the block; and whether it may follow from what is missing before.
     fn push_table_notes(
         self,
         scene: &Scene<'_>,
@@ -142,33 +114,38 @@ impl Telling<'_, '_> {
     ) -> bool {
         let means = self.means;
         let site = unmet.site;
+        let edge = match site.edge {
+            Some(place) => table.edges.as_slice().get(place),
+            None => None,
+        };
+        let learned = match edge {
+            Some(edge) => edge.facts.as_slice(),
+            None => &[],
+        };
         let lines = fact_lines(means, scene.function, site.block, block, table);
         let facts = first_facts(table.facts.as_slice(), site.count);
+        let facts = means.items(facts_with(means.alloc, facts, learned));
         let known = Known {
             scene: &*scene,
             edges: self.matched.edges(site.function),
             block: BlockId(site.block),
-            facts,
+            facts: facts.as_slice(),
             lines: lines.as_slice(),
             stated: site.count,
             line: site.line,
             means,
         };
-        let edge = match site.edge {
-            Some(place) => table.edges.as_slice().get(place),
-            None => None,
+        let trying = Trying {
+            source: Some(self.source),
+            known,
+            old: self.unmet,
         };
-        match edge {
-            Some(edge) => {
-                let facts = means.items(edge_known(means.alloc, facts, edge));
-                let known = Known {
-                    facts: facts.as_slice(),
-                    ..known
-                };
-                self.push_place_notes(known, Some(edge.to), unmet, missing, notes)
-            }
-            None => self.push_place_notes(known, None, unmet, missing, notes),
+        push_asked(self.source.text, scene, unmet, edge, notes);
+        push_choices(trying, unmet.choices.as_slice(), notes);
+        if let Some(edge) = edge {
+            push_silent_compare(block, edge.to, unmet, notes);
         }
+        missing.take(known, unmet)
     }
 
     /// Adds what there is to say of a fault, as far as that is not said where there is more of the same line; and whether it may follow from what is
@@ -189,50 +166,30 @@ impl Telling<'_, '_> {
         if !is_more {
             push_asked_range(scene, block, unmet, notes);
         }
-        if !means.spend(block.steps.len()) {
-            return false;
-        }
-        let made = block_facts(
-            means.alloc,
-            scene.program,
-            scene.function,
-            index,
-            block,
-            means.effort,
-        );
-        match means.kept(made) {
+        match means.table(scene.program, scene.function, index, block) {
             Some((table, _)) => self.push_table_notes(scene, block, &table, unmet, missing, notes),
             None => false,
         }
     }
 
     /// A fault with what there is to say of it; `is_more` where the last finding is of the same line and rule.
-    fn finding_of(
-        self,
-        unmet: &Unmet,
-        is_more: bool,
-        missing: &mut Missing,
-    ) -> Result<Finding, OutOfMemory> {
-        let alloc = self.means.alloc;
+    fn finding_of(self, unmet: &Unmet, is_more: bool, missing: &mut Missing) -> Finding {
+        let means = self.means;
         let matched = self.matched;
-        let mut notes = TextBuffer::new(alloc);
-        let scene = Scene::of(
-            alloc,
-            &matched.graph.program,
-            &matched.whole,
-            unmet.site.function,
-        )?;
-        let follows = match &scene {
+        let index = unmet.site.function;
+        let scene = Scene::of(means.alloc, &matched.graph.program, &matched.whole, index);
+        let mut notes = TextBuffer::new(means.alloc);
+        let follows = match &means.found(scene) {
             Some(scene) => self.push_notes(scene, unmet, is_more, missing, &mut notes),
             None => false,
         };
-        Ok(Finding {
+        Finding {
             number: unmet.number,
             line: unmet.site.line,
             cause: None,
             follows,
-            notes: notes.finish()?,
-        })
+            notes: means.text(notes),
+        }
     }
 }
 
@@ -255,10 +212,10 @@ pub fn number_findings(
     let mut missing = Missing::none(alloc);
     for unmet in &all {
         let is_more = is_of_last(findings.as_slice(), unmet);
-        push_found(
-            &mut findings,
-            telling.finding_of(unmet, is_more, &mut missing)?,
-        )?;
+        let found = telling.finding_of(unmet, is_more, &mut missing);
+        if push_found(&mut findings, found).is_err() {
+            means.note(Unanswered::OutOfMemory);
+        }
     }
     means.finish()?;
     Ok(findings)

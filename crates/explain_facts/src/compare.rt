@@ -1,9 +1,11 @@
-//! Tests by which a block is reached: a loop's test that lets its counter go too far.
+//! Compares by which a block is reached, and a loop's test that lets its counter go too far.
 
 use crate::scene::Scene;
 use cfg::BlockEdges;
 use lists::TextBuffer;
-use program::{Block, BlockId, Function, Instruction, Operand, RegisterId, Terminator, Width};
+use program::{
+    Block, BlockId, Function, Instruction, Operand, RegisterId, Step, Terminator, Width,
+};
 use syntax::Predicate;
 
 /// A test that bounds a register from above by a number where it is true.
@@ -11,7 +13,6 @@ use syntax::Predicate;
 struct Test {
     line: u32,
     outcome: RegisterId,
-    register: RegisterId,
     width: Width,
     most: i64,
 }
@@ -30,15 +31,39 @@ fn only_before(edges: &[BlockEdges], to: BlockId) -> Option<BlockId> {
     found
 }
 
-/// The test that a compare makes, if it is a signed one of a register with a number above it.
-fn test_of(instruction: &Instruction, line: u32) -> Option<Test> {
+/// The compare by which a block leads to another one, and whether it is true there.
+pub(crate) fn compare_to(block: &Block, to: BlockId) -> Option<(&Step, bool)> {
+    let Some(ending) = &block.ending else {
+        return None;
+    };
+    let Terminator::Branch {
+        condition,
+        when_true,
+        ..
+    } = &ending.terminator
+    else {
+        return None;
+    };
+    for step in block.steps.as_slice() {
+        match &step.instruction {
+            Instruction::Compare { register, .. } if register == condition => {
+                return Some((step, *when_true == to));
+            }
+            _ => {}
+        }
+    }
+    None
+}
+
+/// The test that a compare makes, if it is a signed one of this register with a number above it.
+fn test_of(step: &Step, tested: RegisterId) -> Option<Test> {
     let Instruction::Compare {
         register: outcome,
         predicate,
         width,
         left: Operand::Register(register),
         right: Operand::Number(number),
-    } = instruction
+    } = &step.instruction
     else {
         return None;
     };
@@ -47,40 +72,15 @@ fn test_of(instruction: &Instruction, line: u32) -> Option<Test> {
         Predicate::SignedAtMost => *number,
         _ => return None,
     };
+    if *register != tested {
+        return None;
+    }
     Some(Test {
-        line,
+        line: step.line,
         outcome: *outcome,
-        register: *register,
         width: *width,
         most,
     })
-}
-
-/// The test of a block that has this result.
-fn test_in(block: &Block, outcome: RegisterId) -> Option<Test> {
-    for step in block.steps.as_slice() {
-        if let Some(test) = test_of(&step.instruction, step.line) {
-            if test.outcome == outcome {
-                return Some(test);
-            }
-        }
-    }
-    None
-}
-
-/// The test by which a block leads to another one, where that is taken when it is true.
-fn test_before(block: &Block, to: BlockId) -> Option<Test> {
-    match &block.ending {
-        Some(ending) => match &ending.terminator {
-            Terminator::Branch {
-                condition,
-                when_true,
-                ..
-            } if *when_true == to => test_in(block, *condition),
-            _ => None,
-        },
-        None => None,
-    }
 }
 
 /// The last test that bounds the register on the only way to a block.
@@ -94,10 +94,12 @@ fn last_test(
     for _step in edges {
         let before = only_before(edges, at)?;
         let block = function.blocks.as_slice().get(before.0)?;
-        match test_before(block, at) {
-            Some(test) if test.register == register => return Some(test),
-            _ => at = before,
+        if let Some((step, true)) = compare_to(block, at) {
+            if let Some(test) = test_of(step, register) {
+                return Some(test);
+            }
         }
+        at = before;
     }
     None
 }
@@ -110,7 +112,7 @@ fn width_word(width: Width) -> &'static str {
 }
 
 /// Where a test on the only way to a block lets a register be more than it may be at most: the test that would do.
-pub fn push_test(
+pub(crate) fn push_test(
     scene: &Scene<'_>,
     edges: &[BlockEdges],
     to: BlockId,

@@ -22,7 +22,7 @@ pub fn spend(effort: &Effort, steps: usize) -> Result<(), Unanswered> {
 }
 
 /// Whether the facts show the form.
-pub fn is_shown(means: &Means<'_>, facts: &[Fact], form: &Form) -> bool {
+pub(crate) fn is_shown(means: &Means<'_>, facts: &[Fact], form: &Form) -> bool {
     if !means.spend(facts.len().saturating_mul(STEPS_A_FACT)) {
         return false;
     }
@@ -89,7 +89,7 @@ fn least_amount(means: &Means<'_>, known: &Known<'_>, form: &Form, most: i128) -
 }
 
 /// How many registers stand in a form and do not fall out of it.
-pub fn number_of_registers(form: &Form) -> usize {
+pub(crate) fn number_of_registers(form: &Form) -> usize {
     let mut count: usize = 0;
     for term in form.terms.as_slice() {
         if term.coefficient != 0 {
@@ -100,7 +100,7 @@ pub fn number_of_registers(form: &Form) -> usize {
 }
 
 /// The term of a form of one register.
-pub fn only_term(form: &Form) -> Option<Term> {
+pub(crate) fn only_term(form: &Form) -> Option<Term> {
     let mut only = None;
     for term in form.terms.as_slice() {
         if term.coefficient != 0 {
@@ -114,7 +114,7 @@ pub fn only_term(form: &Form) -> Option<Term> {
 }
 
 /// The first facts, so many of them.
-pub fn first_facts(facts: &[Fact], count: usize) -> &[Fact] {
+pub(crate) fn first_facts(facts: &[Fact], count: usize) -> &[Fact] {
     facts.get(..count).unwrap_or(facts)
 }
 
@@ -166,7 +166,7 @@ fn partner(means: &Means<'_>, facts: &[Fact], last: usize, form: &Form) -> usize
 }
 
 /// The places of the one or two facts that show the form; none where it needs no fact.
-pub fn facts_used(means: &Means<'_>, facts: &[Fact], form: &Form) -> Option<(usize, usize)> {
+pub(crate) fn facts_used(means: &Means<'_>, facts: &[Fact], form: &Form) -> Option<(usize, usize)> {
     let last = count_enough(means, facts, form).checked_sub(1)?;
     if !means.spend(last.saturating_mul(STEPS_A_FACT)) {
         return None;
@@ -175,7 +175,11 @@ pub fn facts_used(means: &Means<'_>, facts: &[Fact], form: &Form) -> Option<(usi
 }
 
 /// The facts, and others behind them.
-pub fn facts_with(alloc: Global, facts: &[Fact], others: &[Fact]) -> Result<Vec<Fact>, OutOfMemory>
+pub(crate) fn facts_with(
+    alloc: Global,
+    facts: &[Fact],
+    others: &[Fact],
+) -> Result<Vec<Fact>, OutOfMemory>
     ensures { IfOk result (λ more. more.items ≡ facts.now ++ others.now) }
 {
     let mut more: Vec<Fact> = Vec::new(alloc);
@@ -230,7 +234,7 @@ fn registers_below(best: &Option<Form>) -> usize {
 
 /// What the facts that are `stated` show and what makes all facts show the form: a line to write before it. Of several the first of those with the
 /// fewest registers, 4 at most.
-pub fn step_between(
+pub(crate) fn step_between(
     means: &Means<'_>,
     stated: &[Fact],
     facts: &[Fact],

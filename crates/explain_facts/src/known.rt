@@ -12,7 +12,7 @@ use crate::unknown::{is_bounded, push_rounded, push_unbounded};
 use cfg::BlockEdges;
 use linear::{Fact, Form, Term};
 use lists::{ListBuffer, TextBuffer};
-use program::{Block, BlockId, Function, Inequality, RegisterId};
+use program::{Block, BlockId, Function, Inequality};
 use ranges::{BlockFacts, Sum};
 
 /// The facts at a place of a block with their lines, and the edges of its function. `line` is that of the facts after those of `lines`. The first `stated`
@@ -88,20 +88,13 @@ pub fn fact_lines(
     means.list(lines)
 }
 
-fn has_register(form: &Form, register: RegisterId) -> bool {
-    for term in form.terms.as_slice() {
-        if term.register.0 == register.0 {
-            return true;
-        }
-    }
-    false
-}
-
 /// Whether two forms name a register both.
 fn share_register(left: &Form, right: &Form) -> bool {
     for term in left.terms.as_slice() {
-        if has_register(right, term.register) {
-            return true;
+        for other in right.terms.as_slice() {
+            if term.register.0 == other.register.0 {
+                return true;
+            }
         }
     }
     false
@@ -153,24 +146,15 @@ impl Known<'_> {
     /// What one register may be, where it is to be bounded by a number, and the test that lets it.
     fn push_may_be(&self, term: Term, form: &Form, short: i128, out: &mut TextBuffer) {
         let name = self.scene.register(term.register);
-        let is_low = term.coefficient == 1;
-        let (may, side, bound) = if is_low {
+        if term.coefficient == 1 {
             let least = 0i128.saturating_sub(form.constant);
-            (least.saturating_sub(short), "least", least)
+            let may = least.saturating_sub(short);
+            writeln!(out, "%{name} may be {may}, and has to be at least {least}");
         } else {
             let most = form.constant;
-            (most.saturating_add(short), "most", most)
-        };
-        writeln!(out, "%{name} may be {may}, and has to be at {side} {bound}");
-        if !is_low {
-            push_test(
-                self.scene,
-                self.edges,
-                self.block,
-                term.register,
-                bound,
-                out,
-            );
+            let may = most.saturating_add(short);
+            writeln!(out, "%{name} may be {may}, and has to be at most {most}");
+            push_test(self.scene, self.edges, self.block, term.register, most, out);
         }
     }
 
@@ -244,13 +228,13 @@ impl Known<'_> {
     }
 
     /// What a `shows` line before the place could say with which the form is shown there.
-    pub fn step_to(&self, form: &Form) -> Option<Form> {
+    pub(crate) fn step_to(&self, form: &Form) -> Option<Form> {
         let stated = first_facts(self.facts, self.stated);
         step_between(self.means, stated, self.facts, form)
     }
 
     /// What is to be shown at a line, what is known of it, and how near that comes.
-    pub fn push_unshown(&self, form: &Form, out: &mut TextBuffer) {
+    pub(crate) fn push_unshown(&self, form: &Form, out: &mut TextBuffer) {
         push_inequality(self.scene, form, out);
         out.push_str("\n");
         self.push_related(form, out);

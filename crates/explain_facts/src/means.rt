@@ -3,7 +3,9 @@
 use linear::{Fact, Form, FormFault, side_of};
 use linear_shown::{FactCursor, Known};
 use lists::{ListBuffer, OutOfMemory, Seq, TextBuffer};
-use ranges::{Effort, Move, Sum, Unanswered, push_parts, sum_form};
+use program::{Block, Function, Program};
+use ranges::{BlockFacts, Effort, Move, Sum, Unanswered, block_facts, push_parts, sum_form};
+use refusal::Broken;
 use std::alloc::{AllocError, Global};
 use std::cell::Cell;
 
@@ -217,6 +219,20 @@ impl<'a> Means<'a> {
                 None
             }
         }
+    }
+
+    /// What is known in a block, and whether that shows all that its instructions owe; none where effort or memory did not reach.
+    pub fn table(
+        &self,
+        program: &Program,
+        function: &Function,
+        index: usize,
+        block: &Block,
+    ) -> Option<(BlockFacts, Option<Broken>)> {
+        if !self.spend(block.steps.len()) {
+            return None;
+        }
+        self.kept(block_facts(self.alloc, program, function, index, block, self.effort))
     }
 
     /// Facts, of which each can be asked what it shows with those before it.

@@ -17,7 +17,7 @@ pub struct Missing {
 }
 
 impl Missing {
-    pub fn none(alloc: Global) -> Missing {
+    pub(crate) fn none(alloc: Global) -> Missing {
         Missing {
             function: 0,
             forms: Vec::new(alloc),
@@ -37,7 +37,7 @@ impl Missing {
     }
 
     /// Whether a fault may follow from what is missing before it. If it does not, what it lacks is missing too. Of several choices none is.
-    pub fn take(&mut self, known: Known<'_>, unmet: &Unmet) -> bool {
+    pub(crate) fn take(&mut self, known: Known<'_>, unmet: &Unmet) -> bool {
         let means = known.means;
         if self.function != unmet.site.function {
             self.function = unmet.site.function;

@@ -18,19 +18,12 @@ enum Part {
 }
 
 impl Part {
-    fn of_coefficient(self, coefficient: i64) -> i64 {
+    /// What of a number belongs to it.
+    fn of(self, number: i128) -> i128 {
         match self {
-            Part::Whole => coefficient,
-            Part::Positive => coefficient.max(0),
-            Part::Negative => 0i64.saturating_sub(coefficient).max(0),
-        }
-    }
-
-    fn of_constant(self, constant: i128) -> i128 {
-        match self {
-            Part::Whole => constant,
-            Part::Positive => constant.max(0),
-            Part::Negative => 0i128.saturating_sub(constant).max(0),
+            Part::Whole => number,
+            Part::Positive => number.max(0),
+            Part::Negative => 0i128.saturating_sub(number).max(0),
         }
     }
 }
@@ -51,13 +44,13 @@ impl<'a> Spelled<'a> {
             scene,
             terms: side.terms,
             part,
-            constant: part.of_constant(side.constant),
+            constant: part.of(side.constant),
         }
     }
 
     fn has_no_terms(self) -> bool {
         for term in self.terms {
-            if self.part.of_coefficient(term.coefficient) != 0 {
+            if self.part.of(i128::from(term.coefficient)) != 0 {
                 return false;
             }
         }
@@ -65,10 +58,10 @@ impl<'a> Spelled<'a> {
     }
 
     /// The term that comes behind this name in the order of the registers' names.
-    fn term_behind(self, last: &str) -> Option<(&'a str, i64)> {
-        let mut next: Option<(&'a str, i64)> = None;
+    fn term_behind(self, last: &str) -> Option<(&'a str, i128)> {
+        let mut next: Option<(&'a str, i128)> = None;
         for term in self.terms {
-            let coefficient = self.part.of_coefficient(term.coefficient);
+            let coefficient = self.part.of(i128::from(term.coefficient));
             let name = self.scene.register(term.register);
             let is_next = match next {
                 Some((nearest, _)) => name < nearest,
@@ -85,7 +78,7 @@ impl<'a> Spelled<'a> {
         let mut last = "";
         for _term in self.terms {
             if let Some((name, coefficient)) = self.term_behind(last) {
-                out.push_str(sign_text(last.is_empty(), i128::from(coefficient)));
+                out.push_str(sign_text(last.is_empty(), coefficient));
                 let size = coefficient.unsigned_abs();
                 if size != 1 {
                     write!(out, "{size}*");
@@ -156,15 +149,16 @@ fn push_bounded(registers: Spelled<'_>, relation: &str, bound: i128, out: &mut T
 }
 
 /// How far the sides of an inequality may be from where they are to be: by so much.
-pub fn push_excess(scene: &Scene<'_>, form: &Form, amount: i128, out: &mut TextBuffer) {
+pub(crate) fn push_excess(scene: &Scene<'_>, form: &Form, amount: i128, out: &mut TextBuffer) {
     let low = Spelled::of(scene, form, Part::Negative);
     let high = Spelled::of(scene, form, Part::Positive);
-    let (side, than, other) = if low.has_no_terms() {
-        (high, "less", low)
+    if low.has_no_terms() {
+        high.push_to(out);
+        write!(out, " may be {amount} less than ");
+        low.push_to(out);
     } else {
-        (low, "more", high)
-    };
-    side.push_to(out);
-    write!(out, " may be {amount} {than} than ");
-    other.push_to(out);
+        low.push_to(out);
+        write!(out, " may be {amount} more than ");
+        high.push_to(out);
+    }
 }

@@ -39,27 +39,18 @@ impl Matched {
     }
 }
 
-fn graph_of(alloc: Global, state: RandomState, text: &[u8]) -> Result<Graph, Refused> {
-    let typed = check_types(alloc, state, read(alloc, state, text)?)?;
-    graph(alloc, typed.program)
-}
-
-fn regions_of(alloc: Global, graph: &Graph, is_defined: bool) -> Result<Regions, Refused> {
-    let regions = regions(alloc, graph)?;
-    if is_defined {
-        defined(alloc, graph, &regions)?;
-    }
-    Ok(regions)
-}
-
 fn judged(
     alloc: Global,
     state: RandomState,
     text: &[u8],
     is_defined: bool,
 ) -> Result<Matched, Refused> {
-    let graph = graph_of(alloc, state, text)?;
-    let regions = regions_of(alloc, &graph, is_defined)?;
+    let typed = check_types(alloc, state, read(alloc, state, text)?)?;
+    let graph = graph(alloc, typed.program)?;
+    let regions = regions(alloc, &graph)?;
+    if is_defined {
+        defined(alloc, &graph, &regions)?;
+    }
     Ok(Matched {
         whole: read(alloc, state, text)?,
         graph,

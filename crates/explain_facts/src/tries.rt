@@ -8,7 +8,7 @@ use crate::spelling::push_inequality;
 use crate::trial::{Matched, match_text};
 use crate::unmet::{Unmet, all_unmet};
 use explain_findings::{Source, push_indented, with_line_before};
-use linear::{Form, RegisterId};
+use linear::Form;
 use lists::TextBuffer;
 use program::BlockId;
 use ranges::Sum;
@@ -25,11 +25,13 @@ pub struct Trying<'s, 'a> {
     pub old: &'a [Unmet],
 }
 
-/// A line to try, and how many registers it names.
+/// A line to try, how many registers it names, and where it is put: `after` or `before` the line of this number.
 #[derive(Drop)]
 struct Try {
     registers: usize,
-    words: String,
+    line: String,
+    place: &'static str,
+    number: u32,
 }
 
 /// Whether a line is there and names fewer registers than the other.
@@ -50,8 +52,13 @@ fn annotation(means: &Means<'_>, scene: &Scene<'_>, word: &str, form: &Form) -> 
 
 fn push_try(tried: &Option<Try>, out: &mut TextBuffer) {
     if let Some(tried) = tried {
-        let words = tried.words.as_str();
-        writeln!(out, "    try: {words}");
+        let Try {
+            line,
+            place,
+            number,
+            ..
+        } = tried;
+        writeln!(out, "    try: {line}, {place} line {number}");
     }
 }
 
@@ -80,14 +87,6 @@ fn is_less(new: &[Unmet], old: &[Unmet], added: u32) -> bool {
     old.is_empty() || new.len() < old.len()
 }
 
-/// Another text, where the phases up to that of uses take it; none where memory or effort did not reach before.
-fn match_tried(means: &Means<'_>, source: Source<'_>, text: &str) -> Option<Matched> {
-    if !means.spend(text.len().saturating_mul(STEPS_A_BYTE)) {
-        return None;
-    }
-    means.found(match_text(means.alloc, source.state, text.as_bytes(), true))
-}
-
 /// The annotation that says what is known at the start of a block, and the line behind which it stands.
 fn start_of(scene: &Scene<'_>, block: BlockId) -> (&'static str, u32) {
     if block.0 == 0 {
@@ -100,27 +99,19 @@ fn start_of(scene: &Scene<'_>, block: BlockId) -> (&'static str, u32) {
 /// A bound so far from 0 only keeps a register within its width: of i32 the greatest is about twice as much.
 const FAR: i128 = 1_000_000_000;
 
-/// A register times a number, and a number.
-fn one_term(
-    means: &Means<'_>,
-    register: RegisterId,
-    coefficient: i64,
-    constant: i128,
-) -> Option<Form> {
-    let form = means.within_bounds(means.zero().plus_term(register, coefficient))?;
-    raised(means, &form, constant)
-}
-
 /// What a reader would write in place of a form: of a register's bound that is that of its width a plainer one, and of several registers none.
 fn plainer(means: &Means<'_>, form: &Form) -> Option<Form> {
     if form.constant < FAR {
         return Some(means.copy(form));
     }
-    match only_term(form) {
-        Some(only) if only.coefficient == 1 => one_term(means, only.register, 1, 0),
-        Some(only) if only.coefficient == -1 => one_term(means, only.register, -1, FAR),
-        _ => None,
-    }
+    let only = only_term(form)?;
+    let constant = match only.coefficient {
+        1 => 0,
+        -1 => FAR,
+        _ => return None,
+    };
+    let form = means.within_bounds(means.zero().plus_term(only.register, only.coefficient))?;
+    raised(means, &form, constant)
 }
 
 /// Whether a form bounds one register by at most 0: what a function that asks this would have left is hardly what its author means.
@@ -151,17 +142,20 @@ impl<'s, 'a> Trying<'s, 'a> {
 }
 
 impl Trying<'_, '_> {
+    /// The text with this line before that one, where the phases up to that of uses take it; none where memory or effort did not reach before.
+    fn tried(&self, line: &str, before: u32) -> Option<Matched> {
+        let means = self.known.means;
+        let source = self.source?;
+        let text = means.made(with_line_before(means.alloc, source.text, before, line));
+        if !means.spend(text.len().saturating_mul(STEPS_A_BYTE)) {
+            return None;
+        }
+        means.found(match_text(means.alloc, source.state, text.as_bytes(), true))
+    }
+
     /// Whether the text with this line behind that one is right up to the uses of its registers.
     pub fn is_line(&self, line: &str, after: u32) -> bool {
-        let means = self.known.means;
-        match self.source {
-            Some(source) => {
-                let before = after.saturating_add(1);
-                let made = with_line_before(means.alloc, source.text, before, line);
-                match_tried(means, source, means.made(made).as_str()).is_some()
-            }
-            None => false,
-        }
+        self.tried(line, after.saturating_add(1)).is_some()
     }
 
     /// Adds what is not shown of a sum at the place to what is told of a line or a zone.
@@ -176,13 +170,11 @@ impl Trying<'_, '_> {
 
     /// Whether the text with this line before that one has no fault of numbers that it did not have, and fewer of them if it had any.
     fn is_better(&self, line: &str, before: u32) -> bool {
-        let means = self.known.means;
-        let Some(source) = self.source else {
-            return false;
-        };
-        let made = with_line_before(means.alloc, source.text, before, line);
-        match match_tried(means, source, means.made(made).as_str()) {
-            Some(matched) => is_less(all_unmet(means, &matched).as_slice(), self.old, before),
+        match self.tried(line, before) {
+            Some(matched) => {
+                let new = all_unmet(self.known.means, &matched);
+                is_less(new.as_slice(), self.old, before)
+            }
             None => false,
         }
     }
@@ -213,25 +205,22 @@ impl Trying<'_, '_> {
         if !self.is_better(line.as_str(), after.saturating_add(1)) {
             return None;
         }
-        let mut words = TextBuffer::new(means.alloc);
-        write!(words, "{line}, after line {after}");
         Some(Try {
             registers,
-            words: means.text(words),
+            line,
+            place: "after",
+            number: after,
         })
     }
 
     /// A `shows` line before the place, with which the form is shown there.
     fn step_line(&self, form: &Form) -> Option<Try> {
-        let means = self.known.means;
         let step = self.known.step_to(form)?;
-        let line = annotation(means, self.known.scene, "shows", &step);
-        let before = self.known.line;
-        let mut words = TextBuffer::new(means.alloc);
-        write!(words, "{line}, before line {before}");
         Some(Try {
             registers: number_of_registers(&step),
-            words: means.text(words),
+            line: annotation(self.known.means, self.known.scene, "shows", &step),
+            place: "before",
+            number: self.known.line,
         })
     }
 
@@ -239,17 +228,17 @@ impl Trying<'_, '_> {
     fn push_tries(&self, form: &Form, out: &mut TextBuffer) {
         let step = self.step_line(form);
         let start = self.start_line(form);
-        let (first, second) = if is_shorter(&start, &step) {
-            (&start, &step)
+        if is_shorter(&start, &step) {
+            push_try(&start, out);
+            push_try(&step, out);
         } else {
-            (&step, &start)
-        };
-        push_try(first, out);
-        push_try(second, out);
+            push_try(&step, out);
+            push_try(&start, out);
+        }
     }
 
     /// What is not shown of a sum at the place, what is known of it and how near that comes, and lines that would show it.
-    pub fn push_unshown(&self, sum: &Sum, out: &mut TextBuffer) {
+    pub(crate) fn push_unshown(&self, sum: &Sum, out: &mut TextBuffer) {
         out.push_str("  to show: ");
         match self.known.means.form(sum) {
             Some(form) => {

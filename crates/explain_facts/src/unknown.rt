@@ -8,49 +8,17 @@ use program::{
 };
 use syntax::BinaryOperator;
 
-/// Whether two coefficients bound a register from the same side.
-fn is_same_side(a: i64, b: i64) -> bool {
-    a > 0 && b > 0 || a < 0 && b < 0
-}
-
-/// Whether a fact bounds the register of a term from the side from which the term does.
-fn is_bounded_by(fact: &Fact, term: Term) -> bool {
-    for other in fact.form.terms.as_slice() {
-        if other.register == term.register && is_same_side(other.coefficient, term.coefficient) {
-            return true;
-        }
-    }
-    false
-}
-
 /// Whether one of the facts bounds the register of a term from the side from which the term does. Where none does, no facts add up to a form with it.
-pub fn is_bounded(facts: &[Fact], term: Term) -> bool {
+pub(crate) fn is_bounded(facts: &[Fact], term: Term) -> bool {
+    let side = term.coefficient.signum();
     for fact in facts {
-        if is_bounded_by(fact, term) {
-            return true;
+        for other in fact.form.terms.as_slice() {
+            if other.register == term.register && other.coefficient.signum() == side {
+                return true;
+            }
         }
     }
-    term.coefficient == 0
-}
-
-/// Whether a fact names the register.
-fn is_named_by(fact: &Fact, register: RegisterId) -> bool {
-    for term in fact.form.terms.as_slice() {
-        if term.register == register && term.coefficient != 0 {
-            return true;
-        }
-    }
-    false
-}
-
-/// Whether one of the facts names the register.
-fn is_known(facts: &[Fact], register: RegisterId) -> bool {
-    for fact in facts {
-        if is_named_by(fact, register) {
-            return true;
-        }
-    }
-    false
+    side == 0
 }
 
 /// Whether an instruction makes a number in this register.
@@ -64,21 +32,13 @@ fn makes(step: &Step, made: RegisterId) -> bool {
     }
 }
 
-/// The instruction of a block that makes a number in this register.
-fn maker_in(block: &Block, made: RegisterId) -> Option<&Step> {
-    for step in block.steps.as_slice() {
-        if makes(step, made) {
-            return Some(step);
-        }
-    }
-    None
-}
-
 /// The instruction that makes a number in this register, and its block.
 fn maker_of(function: &Function, made: RegisterId) -> Option<(BlockId, &Step)> {
     for (index, block) in function.blocks.as_slice().iter().enumerate() {
-        if let Some(step) = maker_in(block, made) {
-            return Some((BlockId(index), step));
+        for step in block.steps.as_slice() {
+            if makes(step, made) {
+                return Some((BlockId(index), step));
+            }
         }
     }
     None
@@ -141,7 +101,11 @@ fn maker_words(scene: &Scene<'_>, block: BlockId, register: RegisterId) -> Optio
 /// That nothing bounds the register of a term from its side.
 fn push_what(scene: &Scene<'_>, facts: &[Fact], term: Term, out: &mut TextBuffer) {
     let name = scene.register(term.register);
-    if is_known(facts, term.register) {
+    let other_side = Term {
+        register: term.register,
+        coefficient: 0i64.saturating_sub(term.coefficient),
+    };
+    if is_bounded(facts, other_side) {
         let side = if term.coefficient > 0 {
             "below"
         } else {
@@ -154,7 +118,7 @@ fn push_what(scene: &Scene<'_>, facts: &[Fact], term: Term, out: &mut TextBuffer
 }
 
 /// That nothing bounds the register of a term from its side, and what to do.
-pub fn push_unbounded(
+pub(crate) fn push_unbounded(
     scene: &Scene<'_>,
     block: BlockId,
     facts: &[Fact],
@@ -186,7 +150,7 @@ fn is_rounded(step: &Step) -> bool {
 }
 
 /// Where a register is a quotient, that what only rounding shows is not known of it, and what to do.
-pub fn push_rounded(scene: &Scene<'_>, register: RegisterId, out: &mut TextBuffer) {
+pub(crate) fn push_rounded(scene: &Scene<'_>, register: RegisterId, out: &mut TextBuffer) {
     if let Some((_, step)) = maker_of(scene.function, register) {
         if is_rounded(step) {
             let name = scene.register(register);

@@ -3,11 +3,10 @@
 use crate::means::Means;
 use crate::trial::Matched;
 use linear_shown::{FactBranches, FactCursor, Known};
-use lists::{ListBuffer, Seq};
+use lists::{ListBuffer, OutOfMemory, Seq};
 use program::{Block, Function, Inequality, Program, Step};
-use ranges::{
-    BlockFacts, Obligation, Sum, block_facts, inequalities_owed, is_met_at, owed, owed_at_end,
-};
+use ranges::{BlockFacts, Obligation, Sum, inequalities_owed, is_met_at, owed, owed_at_end};
+use std::slice;
 
 /// A place of a block: its line, how many of the facts at the block's end are known there, and the edge that is left by.
 #[derive(Clone, Copy)]
@@ -81,11 +80,11 @@ impl Owing<'_> {
         &mut self,
         site: Site,
         known: &Known<'_>,
-        obligations: Vec<Obligation>,
+        owed: Result<Vec<Obligation>, OutOfMemory>,
         asking: &[Inequality],
     ) {
         let mut place: usize = 0;
-        for obligation in obligations {
+        for obligation in self.means.items(owed) {
             self.push_owed(site, known, obligation, line_of(asking, place));
             place = place.saturating_add(1);
         }
@@ -94,67 +93,62 @@ impl Owing<'_> {
     /// Adds the `shows` lines that are not shown; each is a fact for those after it. `count` facts are known at the last of them.
     fn push_shows(&mut self, site: Site, cursor: &mut FactCursor<'_>, shows: &[Inequality]) {
         let means = self.means;
-        let before = site.count.saturating_sub(shows.len());
-        let mut place: usize = 0;
-        for obligation in means.items(inequalities_owed(means.alloc, 508, &[], shows)) {
-            let at = Site {
-                line: line_of(shows, place).unwrap_or(site.line),
-                count: before.saturating_add(place),
-                ..site
-            };
+        let mut at = site;
+        at.count = site.count.saturating_sub(shows.len());
+        for inequality in shows {
+            at.line = inequality.line;
             cursor.seek(at.count);
             means.noted(cursor.index());
-            self.push_owed(at, &cursor.known(), obligation, None);
-            place = place.saturating_add(1);
+            let only = slice::from_ref(inequality);
+            let owed = inequalities_owed(means.alloc, 508, &[], only);
+            self.push_unmet(at, &cursor.known(), owed, &[]);
+            at.count = at.count.saturating_add(1);
         }
         cursor.seek(site.count);
         means.noted(cursor.index());
     }
 
-    /// Adds what is not shown of the edges' targets.
-    fn push_edges(&mut self, site: Site, function: &Function, table: &BlockFacts) {
+    /// Adds what is not shown of the targets of the edges that leave a place.
+    fn push_edges(&mut self, mut site: Site, function: &Function, table: &BlockFacts) {
         let means = self.means;
         let mut facts = FactBranches::new(means.alloc, table.facts.as_slice(), means.effort);
         for (place, edge) in table.edges.as_slice().iter().enumerate() {
             if let Some(target) = function.blocks.as_slice().get(edge.to.0) {
                 let keeps = target.keeps.as_slice();
                 let moves = edge.moves.as_slice();
-                let owed = means.items(inequalities_owed(means.alloc, 505, moves, keeps));
+                let owed = inequalities_owed(means.alloc, 505, moves, keeps);
                 means.noted(facts.switch_to(means.alloc, edge.facts.as_slice()));
-                let at = Site {
-                    edge: Some(place),
-                    ..site
-                };
-                self.push_unmet(at, &facts.known(), owed, keeps);
+                site.edge = Some(place);
+                self.push_unmet(site, &facts.known(), owed, keeps);
             }
         }
     }
 
-    /// Adds what is not shown in a block.
-    fn push_block(&mut self, site: Site, function: &Function, block: &Block, table: &BlockFacts) {
+    /// Adds what is not shown in a block, from this place of it on.
+    fn push_block(
+        &mut self,
+        mut site: Site,
+        function: &Function,
+        block: &Block,
+        table: &BlockFacts,
+    ) {
         let means = self.means;
         let program = self.program;
         let mut cursor = FactCursor::new(means.alloc, table.facts.as_slice(), means.effort);
         for (place, step) in block.steps.as_slice().iter().enumerate() {
-            let at = Site {
-                line: step.line,
-                count: table.at_step(place).len(),
-                ..site
-            };
-            self.push_shows(at, &mut cursor, step.shows.as_slice());
-            let owed = means.items(owed(means.alloc, program, function, &step.instruction));
-            self.push_unmet(at, &cursor.known(), owed, asking_of(program, step));
+            site.line = step.line;
+            site.count = table.at_step(place).len();
+            self.push_shows(site, &mut cursor, step.shows.as_slice());
+            let owed = owed(means.alloc, program, function, &step.instruction);
+            self.push_unmet(site, &cursor.known(), owed, asking_of(program, step));
         }
         if let Some(ending) = &block.ending {
-            let at = Site {
-                line: ending.line,
-                count: table.facts.len(),
-                ..site
-            };
-            self.push_shows(at, &mut cursor, ending.shows.as_slice());
-            let owed = means.items(owed_at_end(means.alloc, function, &ending.terminator));
-            self.push_unmet(at, &cursor.known(), owed, function.guarantees.as_slice());
-            self.push_edges(at, function, table);
+            site.line = ending.line;
+            site.count = table.facts.len();
+            self.push_shows(site, &mut cursor, ending.shows.as_slice());
+            let owed = owed_at_end(means.alloc, function, &ending.terminator);
+            self.push_unmet(site, &cursor.known(), owed, function.guarantees.as_slice());
+            self.push_edges(site, function, table);
         }
     }
 
@@ -163,25 +157,22 @@ impl Owing<'_> {
         let means = self.means;
         let program = self.program;
         for (place, block) in function.blocks.as_slice().iter().enumerate() {
-            if means.spend(block.steps.len()) {
-                let made = block_facts(means.alloc, program, function, place, block, means.effort);
-                if let Some((table, Some(_))) = means.kept(made) {
-                    let site = Site {
-                        function: index,
-                        block: place,
-                        line: block.line,
-                        count: 0,
-                        edge: None,
-                    };
-                    self.push_block(site, function, block, &table);
-                }
+            if let Some((table, Some(_))) = means.table(program, function, place, block) {
+                let site = Site {
+                    function: index,
+                    block: place,
+                    line: block.line,
+                    count: 0,
+                    edge: None,
+                };
+                self.push_block(site, function, block, &table);
             }
         }
     }
 }
 
 /// All that a program owes of its numbers and does not show, in the order of its blocks.
-pub fn all_unmet(means: &Means<'_>, matched: &Matched) -> Vec<Unmet> {
+pub(crate) fn all_unmet(means: &Means<'_>, matched: &Matched) -> Vec<Unmet> {
     let mut owing = Owing {
         means: &*means,
         program: &matched.graph.program,

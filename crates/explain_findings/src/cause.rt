@@ -1,24 +1,29 @@
 //! Which of a rule's causes it is, where a rule has several.
 
 use crate::row::{Row, function_of};
+use crate::table::looked_up;
 
-/// What a line that breaks 307 has in its block.
-fn place_cause(row: &Row<'_>) -> Option<&'static str> {
-    if row.label().is_some() {
-        return Some("another way to a detached block than its detach");
-    }
-    match (row.word(0), row.word(2)) {
-        (";!", _) => Some("`foot` in a block that is not detached"),
-        (_, "phi") => Some("a phi in a detached block or a continuation"),
-        (_, "call") => Some("`syncregion.start` in neither an entry block nor a detached one"),
-        _ => None,
-    }
-}
+/// What a line does that breaks 307 in its block.
+const PLACE_CAUSES: &str = "\
+;! | `foot` in a block that is not detached
+phi | a phi in a detached block or a continuation
+call | `syncregion.start` in neither an entry block nor a detached one
+";
+
+/// What a line does that breaks 204, but for calls and stores of arrays.
+const POINTER_CAUSES: &str = "\
+;! | a zone names an element, and not its object
+store | an element of another block; take it again in this one
+atomicrmw | an element of another block; take it again in this one
+load | an element of another block; take it again in this one
+alloca | an `alloca` outside the entry block
+getelementptr | an element of an element; take it of the object
+";
 
 /// Whether the function makes the register by `getelementptr`.
 fn is_element(function: &[Row<'_>], name: &str) -> bool {
     for row in function {
-        if row.word(2) == "getelementptr" && row.defines(name) {
+        if row.operation() == "getelementptr" && row.defines(name) {
             return true;
         }
     }
@@ -27,8 +32,8 @@ fn is_element(function: &[Row<'_>], name: &str) -> bool {
 
 /// Whether a pointer of the line is an element of an object.
 fn has_element(function: &[Row<'_>], row: &Row<'_>) -> bool {
-    for index in 0..row.len() {
-        if let Some(name) = row.pointer(index) {
+    for index in 0..row.tokens.len() {
+        if let Some(name) = row.behind(index, "ptr") {
             if is_element(function, name) {
                 return true;
             }
@@ -37,22 +42,11 @@ fn has_element(function: &[Row<'_>], row: &Row<'_>) -> bool {
     false
 }
 
-/// Whether a pointer of the line before this place has the name.
-fn has_before(row: &Row<'_>, end: usize, name: &str) -> bool {
-    for index in 0..end {
-        match row.pointer(index) {
-            Some(other) if other == name => return true,
-            _ => {}
-        }
-    }
-    false
-}
-
-/// Whether the line has a pointer twice.
-fn has_twice(row: &Row<'_>) -> bool {
-    for index in 0..row.len() {
-        if let Some(name) = row.pointer(index) {
-            if has_before(row, index, name) {
+/// Whether a global among the pointers of a call stands in a line.
+fn has_global_of(row: &Row<'_>, call: &Row<'_>) -> bool {
+    for index in 0..call.tokens.len() {
+        if let Some(name) = call.behind(index, "ptr") {
+            if name.starts_with('@') && row.has(name) {
                 return true;
             }
         }
@@ -62,21 +56,9 @@ fn has_twice(row: &Row<'_>) -> bool {
 
 /// Whether a pointer of the line is a global.
 fn has_global(row: &Row<'_>) -> bool {
-    for index in 0..row.len() {
-        if let Some(name) = row.pointer(index) {
+    for index in 0..row.tokens.len() {
+        if let Some(name) = row.behind(index, "ptr") {
             if name.starts_with('@') {
-                return true;
-            }
-        }
-    }
-    false
-}
-
-/// Whether a global among the pointers of one line stands in another.
-fn has_global_of(row: &Row<'_>, call: &Row<'_>) -> bool {
-    for index in 0..call.len() {
-        if let Some(name) = call.pointer(index) {
-            if name.starts_with('@') && row.has(name) {
                 return true;
             }
         }
@@ -111,7 +93,7 @@ fn is_named_by_callee(rows: &[Row<'_>], call: &Row<'_>) -> bool {
 fn call_cause(rows: &[Row<'_>], function: &[Row<'_>], row: &Row<'_>) -> &'static str {
     if has_element(function, row) {
         "an element is passed, where a call takes whole objects"
-    } else if has_twice(row) {
+    } else if row.twice_behind("ptr").is_some() {
         "one object is passed twice"
     } else if is_named_by_callee(rows, row) {
         "a global is passed to a function that names it"
@@ -122,35 +104,26 @@ fn call_cause(rows: &[Row<'_>], function: &[Row<'_>], row: &Row<'_>) -> &'static
     }
 }
 
-/// What of a line breaks 204.
-fn pointer_cause(rows: &[Row<'_>], function: &[Row<'_>], row: &Row<'_>) -> Option<&'static str> {
-    match (row.word(0), row.word(1), row.word(2)) {
-        (";!", _, _) => Some("a zone names an element, and not its object"),
-        ("call", _, _) | (_, _, "call") => Some(call_cause(rows, function, row)),
-        ("store", "[", _) => Some(if has_element(function, row) {
-            "an array is stored to an element, and not to its object"
-        } else {
-            "the array has not as many cells as its object"
-        }),
-        ("store" | "atomicrmw", _, _) | (_, _, "load") => {
-            Some("an element of another block; take it again in this one")
-        }
-        (_, _, "alloca") => Some("an `alloca` outside the entry block"),
-        (_, _, "getelementptr") => Some("an element of an element; take it of the object"),
-        _ => None,
-    }
-}
-
 /// Which cause of the rule of this number the line has, where the rule has several and the line says which.
-pub fn cause_of(
+pub(crate) fn cause_of(
     rows: &[Row<'_>],
     function: &[Row<'_>],
     row: &Row<'_>,
     number: u16,
 ) -> Option<&'static str> {
+    let operation = row.operation();
     match number {
-        204 => pointer_cause(rows, function, row),
-        307 => place_cause(row),
+        204 if operation == "call" => Some(call_cause(rows, function, row)),
+        204 if operation == "store" && row.word(1) == "[" => {
+            Some(if has_element(function, row) {
+                "an array is stored to an element, and not to its object"
+            } else {
+                "the array has not as many cells as its object"
+            })
+        }
+        204 => looked_up(POINTER_CAUSES, operation),
+        307 if row.label().is_some() => { Some("another way to a detached block than its detach") }
+        307 => looked_up(PLACE_CAUSES, operation),
         _ => None,
     }
 }

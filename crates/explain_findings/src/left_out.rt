@@ -1,5 +1,6 @@
 //! Words of LLVM that the language leaves out.
 
+use crate::table::looked_up;
 use lists::TextBuffer;
 
 /// A word, and what to write in its place.
@@ -124,21 +125,9 @@ syncscope | leave it out
 tapir | `detach`, `reattach` and `sync` are its words
 ";
 
-/// What to write in place of a word of LLVM that the language leaves out.
-fn instead_of(word: &str) -> Option<&'static str> {
-    for row in LEFT_OUT.split('\n') {
-        if let Some((left_out, instead)) = row.split_once(" | ") {
-            if left_out == word {
-                return Some(instead);
-            }
-        }
-    }
-    None
-}
-
 /// Says of a word of LLVM that the language leaves it out.
-pub fn push_left_out(word: &str, out: &mut TextBuffer) {
-    if let Some(instead) = instead_of(word) {
+pub(crate) fn push_left_out(word: &str, out: &mut TextBuffer) {
+    if let Some(instead) = looked_up(LEFT_OUT, word) {
         writeln!(
             out,
             "  `{word}` is a word of LLVM that the language leaves out: {instead}"

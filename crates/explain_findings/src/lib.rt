@@ -9,6 +9,7 @@ mod left_out;
 mod lines;
 mod note;
 mod row;
+mod table;
 mod word;
 
 pub use finding::{Finding, Source, push_finding, push_found};

@@ -10,38 +10,40 @@ pub fn push_indented(out: &mut TextBuffer, lines: &str, indent: &str) {
     }
 }
 
-/// The text before the line of this number, and from there on; all of it and none where it has no such line.
-fn parted(text: &str, number: u32) -> (&str, Option<&str>) {
-    let mut before: usize = 0;
+/// The line of this number, without its LF.
+pub fn line_at(text: &str, number: u32) -> Option<&str> {
     let mut at: u32 = 0;
     for line in text.split('\n') {
         at = at.saturating_add(1);
         if at == number {
-            return (text.get(..before).unwrap_or(""), text.get(before..));
+            return Some(line);
         }
-        before = before.saturating_add(line.len()).saturating_add(1);
     }
-    (text, None)
+    None
 }
 
-/// The line of this number, without its LF.
-pub fn line_at(text: &str, number: u32) -> Option<&str> {
-    let (_, rest) = parted(text, number);
-    rest?.split('\n').next()
-}
-
-/// The text before the line of this number.
-pub fn lines_before(text: &str, number: u32) -> &str {
-    parted(text, number).0
-}
-
-/// These pieces as one text.
-pub fn joined(alloc: Global, pieces: &[&str]) -> Result<String, AllocError> {
-    let mut text = TextBuffer::new(alloc);
-    for piece in pieces {
-        text.push_str(piece);
+/// The text, each line with its LF, and with a line more before the one of this number; that one is left out unless it `stays`.
+fn with_line(
+    alloc: Global,
+    text: &str,
+    number: u32,
+    new: &str,
+    stays: bool,
+) -> Result<String, AllocError> {
+    let mut out = TextBuffer::new(alloc);
+    let mut at: u32 = 0;
+    for line in text.split('\n') {
+        at = at.saturating_add(1);
+        if at == number {
+            out.push_str(new);
+            out.push_str("\n");
+        }
+        if at != number || stays {
+            out.push_str(line);
+            out.push_str("\n");
+        }
     }
-    text.finish()
+    out.finish()
 }
 
 /// The text with a line more, which stands before the line of this number.
@@ -55,10 +57,7 @@ pub fn with_line_before(
     number: u32,
     new: &str,
 ) -> Result<String, AllocError> {
-    match parted(text, number) {
-        (before, Some(rest)) => joined(alloc, &[before, new, "\n", rest, "\n"]),
-        (text, None) => joined(alloc, &[text, "\n"]),
-    }
+    with_line(alloc, text, number, new, true)
 }
 
 /// The text with this in place of the line of this number.
@@ -72,11 +71,5 @@ pub fn with_line_at(
     number: u32,
     new: &str,
 ) -> Result<String, AllocError> {
-    match parted(text, number) {
-        (before, Some(rest)) => match rest.split_once('\n') {
-            Some((_, after)) => joined(alloc, &[before, new, "\n", after, "\n"]),
-            None => joined(alloc, &[before, new, "\n"]),
-        },
-        (text, None) => joined(alloc, &[text, "\n"]),
-    }
+    with_line(alloc, text, number, new, false)
 }

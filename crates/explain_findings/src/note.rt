@@ -4,18 +4,17 @@ use crate::cause::cause_of;
 use crate::finding::{Finding, Source};
 use crate::row::{Row, function_of, is_among, rows_of};
 use lists::{OutOfMemory, TextBuffer};
-use std::alloc::{AllocError, Global};
+use std::alloc::Global;
 
-/// A line of the text, with the lines of its function; none of its own where it has no tokens.
+/// A line of the text, with the lines of its function.
 #[derive(Clone, Copy)]
 struct Site<'r, 'a> {
     rows: &'r [Row<'a>],
     function: &'r [Row<'a>],
     line: u32,
-    row: Option<&'r Row<'a>>,
 }
 
-/// The line of this number, if it has tokens.
+/// The line of this number, if it can be read.
 fn row_at<'r, 'a>(rows: &'r [Row<'a>], line: u32) -> Option<&'r Row<'a>> {
     for row in rows {
         if row.number == line {
@@ -70,16 +69,6 @@ fn push_definitions(out: &mut TextBuffer, site: Site<'_, '_>, name: &str) {
     }
 }
 
-/// Where each name of the site's line is defined.
-fn push_names(out: &mut TextBuffer, site: Site<'_, '_>) -> Result<(), AllocError> {
-    if let Some(row) = site.row {
-        for name in &row.names()? {
-            push_definitions(out, site, name);
-        }
-    }
-    Ok(())
-}
-
 /// Whether a line ends a block and goes on to others.
 fn is_ending(row: &Row<'_>) -> bool {
     is_among(&["br", "switch", "detach", "sync"], row.word(0))
@@ -90,7 +79,7 @@ fn push_ways(out: &mut TextBuffer, site: Site<'_, '_>) {
     let label = label_at(site.function, site.line);
     let mut is_reached = false;
     for row in site.function {
-        if is_ending(row) && row.has_local(label) {
+        if is_ending(row) && row.has(label) {
             is_reached = true;
             write!(out, "    to %{label} leads ");
             push_row(out, row, site.function);
@@ -112,21 +101,6 @@ fn push_regions(out: &mut TextBuffer, site: Site<'_, '_>) {
     }
 }
 
-/// What there is to say of a line that breaks the rule of this number.
-fn notes_of(alloc: Global, site: Site<'_, '_>, number: u16) -> Result<String, AllocError> {
-    let mut notes = TextBuffer::new(alloc);
-    if matches!(number, 201..=206 | 401) {
-        push_names(&mut notes, site)?;
-    }
-    if matches!(number, 211 | 212 | 306 | 307) {
-        push_ways(&mut notes, site);
-    }
-    if matches!(number, 301..=306) {
-        push_regions(&mut notes, site);
-    }
-    notes.finish()
-}
-
 /// What there is to say of a line that breaks this rule: from 201 to 206 and at 401 where its names are defined, of the graph what leads to its
 /// block, of the regions what the function does with them, and of a rule with several causes which one it is, if the line tells.
 pub fn name_finding(
@@ -141,16 +115,28 @@ pub fn name_finding(
         rows,
         function: function_of(rows, line),
         line,
-        row: row_at(rows, line),
     };
+    let mut cause = None;
+    let mut notes = TextBuffer::new(alloc);
+    if let Some(row) = row_at(rows, line) {
+        cause = cause_of(rows, site.function, row, number);
+        if matches!(number, 201..=206 | 401) {
+            for name in &row.names(alloc)? {
+                push_definitions(&mut notes, site, name);
+            }
+        }
+    }
+    if matches!(number, 211 | 212 | 306 | 307) {
+        push_ways(&mut notes, site);
+    }
+    if matches!(number, 301..=306) {
+        push_regions(&mut notes, site);
+    }
     Ok(Finding {
         number,
         line,
-        cause: match site.row {
-            Some(row) => cause_of(rows, site.function, row, number),
-            None => None,
-        },
+        cause,
         follows: false,
-        notes: notes_of(alloc, site, number)?,
+        notes: notes.finish()?,
     })
 }

@@ -5,13 +5,12 @@ use lists::{ListBuffer, OutOfMemory};
 use refusal::Refused;
 use std::alloc::{AllocError, Global};
 
-/// A line that says something.
+/// A line and its tokens.
 #[derive(Drop)]
 pub struct Row<'a> {
-    alloc: Global,
     pub number: u32,
     text: &'a str,
-    tokens: Vec<Token>,
+    pub tokens: Vec<Token>,
 }
 
 impl<'a> Row<'a> {
@@ -20,47 +19,45 @@ impl<'a> Row<'a> {
     }
 
     /// The token of this number from 0 on; nothing past the last one.
-    pub fn word(&self, index: usize) -> &'a str {
-        match self.tokens.as_slice().get(index) {
+    pub(crate) fn word(&self, index: usize) -> &'a str {
+        match self.tokens.get(index) {
             Some(token) => self.part(*token),
             None => "",
         }
     }
 
+    /// What the line does: its first word, or the one behind the register that it defines.
+    pub(crate) fn operation(&self) -> &'a str {
+        if self.word(1) == "=" {
+            self.word(2)
+        } else {
+            self.word(0)
+        }
+    }
+
     /// The line without a comment and the blanks around.
-    pub fn code(&self) -> &'a str {
-        let tokens = self.tokens.as_slice();
-        match (tokens.first(), tokens.last()) {
-            (Some(first), Some(last)) => self.text.get(first.from..last.to).unwrap_or(""),
-            _ => "",
+    pub(crate) fn code(&self) -> &'a str {
+        match self.tokens.as_slice() {
+            [first, .., last] => self.text.get(first.from..last.to).unwrap_or(""),
+            _ => self.word(0),
         }
     }
 
     /// The label of a label's line.
-    pub fn label(&self) -> Option<&'a str> {
-        match self.tokens.as_slice() {
-            [label, mark, ..] if label.kind == Kind::Word && self.part(*mark) == ":" => {
-                Some(self.part(*label))
-            }
-            _ => None,
+    pub(crate) fn label(&self) -> Option<&'a str> {
+        if self.word(1) == ":" {
+            Some(self.word(0))
+        } else {
+            None
         }
     }
 
-    /// Whether the name stands in the line, as a token of its own.
-    pub fn has(&self, name: &str) -> bool {
-        for token in &self.tokens {
-            if token.kind == Kind::Name && self.part(*token) == name {
-                return true;
-            }
-        }
-        false
-    }
-
-    /// Whether the name of a register or a block stands in the line, given without its `%`.
-    pub fn has_local(&self, name: &str) -> bool {
+    /// Whether a name stands in the line, as a token of its own; that of a register or a block may be given without its `%`.
+    pub(crate) fn has(&self, name: &str) -> bool {
         for token in &self.tokens {
             let part = self.part(*token);
-            if token.kind == Kind::Name && part.strip_prefix('%') == Some(name) {
+            let is_same = part == name || part.strip_prefix('%') == Some(name);
+            if is_same && token.kind == Kind::Name {
                 return true;
             }
         }
@@ -68,37 +65,45 @@ impl<'a> Row<'a> {
     }
 
     /// Whether the line defines the name: by `=`, as a label, or as a function or one of its parameters.
-    pub fn defines(&self, name: &str) -> bool {
-        if self.word(0) == "define" {
-            return self.has(name);
-        }
-        match self.label() {
-            Some(label) => name.strip_prefix('%') == Some(label),
-            None => self.word(0) == name && self.word(1) == "=",
+    pub(crate) fn defines(&self, name: &str) -> bool {
+        match self.word(1) {
+            "=" => self.word(0) == name,
+            ":" => name.strip_prefix('%') == Some(self.word(0)),
+            _ => self.word(0) == "define" && self.has(name),
         }
     }
 
-    /// The number of tokens.
-    pub fn len(&self) -> usize {
-        self.tokens.len()
-    }
-
-    /// What stands behind the token of this number, if that is the word `ptr` and not the last one.
-    pub fn pointer(&self, index: usize) -> Option<&'a str> {
+    /// What stands behind the token of this number, if that is the mark and not the last one.
+    pub(crate) fn behind(&self, index: usize, mark: &str) -> Option<&'a str> {
         match self.tokens.as_slice().get(index..) {
-            Some([mark, name, ..]) if self.part(*mark) == "ptr" => Some(self.part(*name)),
+            Some([found, name, ..]) if self.part(*found) == mark => Some(self.part(*name)),
             _ => None,
         }
     }
 
+    /// The first name that stands behind the mark for the second time.
+    pub(crate) fn twice_behind(&self, mark: &str) -> Option<&'a str> {
+        for index in 0..self.tokens.len() {
+            if let Some(name) = self.behind(index, mark) {
+                for earlier in 0..index {
+                    if self.behind(earlier, mark) == Some(name) {
+                        return Some(name);
+                    }
+                }
+            }
+        }
+        None
+    }
+
     /// The names of the line, each once. Forms of annotations are taken apart.
-    pub fn names(&self) -> Result<Vec<&'a str>, AllocError> {
-        let mut names = ListBuffer::new(self.alloc);
+    pub(crate) fn names(&self, alloc: Global) -> Result<Vec<&'a str>, AllocError> {
+        let mut names: ListBuffer<&'a str> = ListBuffer::new(alloc);
         for token in &self.tokens {
-            match token.kind {
-                Kind::Name => push_name(&mut names, self.part(*token)),
-                Kind::Word => push_form_names(&mut names, self.part(*token)),
-                Kind::Number | Kind::Mark | Kind::Note => {}
+            for word in self.part(*token).split(['+', '-', '*']) {
+                let is_name = word.starts_with(['%', '@']);
+                if is_name && !is_among(names.as_slice(), word) {
+                    names.push(word);
+                }
             }
         }
         names.finish()
@@ -106,7 +111,7 @@ impl<'a> Row<'a> {
 }
 
 /// Whether a name is one of these.
-pub fn is_among(names: &[&str], wanted: &str) -> bool {
+pub(crate) fn is_among(names: &[&str], wanted: &str) -> bool {
     for name in names {
         if *name == wanted {
             return true;
@@ -115,48 +120,25 @@ pub fn is_among(names: &[&str], wanted: &str) -> bool {
     false
 }
 
-/// Adds a name, if it is one and is not there.
-fn push_name<'a>(names: &mut ListBuffer<&'a str>, word: &'a str) {
-    let is_name = word.starts_with('%') || word.starts_with('@');
-    if is_name && !is_among(names.as_slice(), word) {
-        names.push(word);
-    }
-}
-
-/// Adds the names of a form.
-fn push_form_names<'a>(names: &mut ListBuffer<&'a str>, form: &'a str) {
-    for word in form.split(['+', '-', '*']) {
-        push_name(names, word);
-    }
-}
-
-/// The number of a line that is read by itself.
-pub const ALONE: u32 = 1;
-
-/// The tokens of a line by itself; none where a run of its bytes is no token.
-pub fn tokens_of(alloc: Global, line: &str) -> Result<Option<Vec<Token>>, OutOfMemory> {
-    match lex(alloc, line.as_bytes(), ALONE) {
-        Ok(tokens) => Ok(Some(tokens)),
+/// A line by itself; none where a run of its bytes is no token.
+pub(crate) fn row_of<'a>(
+    alloc: Global,
+    number: u32,
+    text: &'a str,
+) -> Result<Option<Row<'a>>, OutOfMemory> {
+    match lex(alloc, text.as_bytes(), number) {
+        Ok(tokens) => Ok(Some(Row {
+            number,
+            text,
+            tokens,
+        })),
         Err(Refused::Fault { .. }) => Ok(None),
         Err(Refused::Memory) => Err(OutOfMemory),
     }
 }
 
-/// A line of a text, if it says something and has tokens by itself.
-fn row_of<'a>(alloc: Global, number: u32, text: &'a str) -> Result<Option<Row<'a>>, OutOfMemory> {
-    match tokens_of(alloc, text)? {
-        Some(tokens) if !tokens.is_empty() => Ok(Some(Row {
-            alloc,
-            number,
-            text,
-            tokens,
-        })),
-        _ => Ok(None),
-    }
-}
-
-/// The lines of a text that say something. A line that has no tokens by itself is left out.
-pub fn rows_of<'a>(alloc: Global, text: &'a str) -> Result<Vec<Row<'a>>, OutOfMemory> {
+/// The lines of a text. A line that has no tokens by itself is left out.
+pub(crate) fn rows_of<'a>(alloc: Global, text: &'a str) -> Result<Vec<Row<'a>>, OutOfMemory> {
     let mut rows: ListBuffer<Row<'a>> = ListBuffer::new(alloc);
     let mut number: u32 = 0;
     for line in text.split('\n') {
@@ -178,8 +160,8 @@ fn count_before_end(rows: &[Row<'_>]) -> usize {
     rows.len()
 }
 
-/// The lines of the function in which a line stands, from its `define` to its `}`; none outside functions.
-pub fn function_of<'r, 'a>(rows: &'r [Row<'a>], line: u32) -> &'r [Row<'a>] {
+/// The lines of the function in which a line stands, from its `define` to its `}`; none before the first function.
+pub(crate) fn function_of<'r, 'a>(rows: &'r [Row<'a>], line: u32) -> &'r [Row<'a>] {
     let mut from = rows.len();
     for (index, row) in rows.iter().enumerate() {
         if row.number <= line && row.word(0) == "define" {

@@ -1,137 +1,117 @@
 //! Faults of zones, each with the zone and what stands beside it.
 
-use crate::found::{Found, in_order, touched_zone};
+use crate::found::{Found, told};
 use crate::passing::foot_of;
-use crate::spot::{Spot, child_of};
+use crate::spot::{Spot, spot_where};
+use crate::widen::touched_zone;
 use crate::zone_text::{as_written, push_why_beside, push_why_not, push_zone};
 use cfg::BlockEdges;
-use explain_facts::{Known, Matched, Means, Scene, fact_lines};
+use explain_facts::{Known, Matched, Means, Scene, Trying, fact_lines};
 use explain_findings::{Finding, Source};
 use footprints::{
-    Cell, Place, PlacedZone, Use, address_cell, cells_zone, conflict, end_use, is_allowed,
-    is_clear, pointers_of, put_object, step_use,
+    Place, PlacedZone, address_cell, cells_zone, conflict, end_use, is_allowed, is_clear,
+    pointers_of, put_object, step_use,
 };
 use linear_shown::{FactBranches, FactCursor, Known as KnownFacts};
 use lists::TextBuffer;
 use program::{
-    Address, Argument, Block, BlockId, Ending, Function, Instruction, Mode, Operand, Step, Zone,
+    Address, Argument, Block, BlockId, Ending, Function, Instruction, Mode, Step, Terminator, Zone,
 };
 use ranges::{BlockFacts, Effort, Task, Unanswered, argument_moves, block_facts};
 use std::alloc::Global;
 
-/// A block of a task, with what is known in it and the lines of that.
-#[derive(Clone, Copy)]
-struct Tasked<'s, 'a> {
-    source: Source<'s>,
-    scene: &'a Scene<'a>,
-    edges: &'a [BlockEdges],
-    detach: Option<BlockId>,
-    block: &'a Block,
-    table: &'a BlockFacts,
-    lines: &'a [u32],
-    index: usize,
-    means: &'a Means<'a>,
-}
+/// The rule that what is touched conflicts with nothing that is pending.
+const CONFLICT: u16 = 602;
 
-/// What there is to say of a missing cover, and of a conflict, with what is touched.
-#[derive(Drop)]
-struct Notes {
-    cover: TextBuffer,
-    clear: TextBuffer,
-    uncovered: Vec<Zone>,
-    unclear: Vec<Zone>,
-}
+/// The rule that what is pending is handed on along each edge.
+const NOT_PENDING: u16 = 603;
 
-/// The zones that must cover what a block of a function touches, or of the child of a detach.
-fn covering_of(function: &Function, detach: Option<BlockId>) -> &[Zone] {
-    let blocks = function.blocks.as_slice();
-    let Some(detach) = detach else {
-        return function.zones.as_slice();
+/// The detached block of a task, if that is a child.
+fn child_of<'a>(blocks: &'a [Block], task: Option<&Task>) -> Option<&'a Block> {
+    let Some(Task::Child(detach)) = task else {
+        return None;
     };
-    match child_of(blocks, detach) {
-        Some(body) => match blocks.get(body.0) {
-            Some(block) => block.foot.as_slice(),
-            None => &[],
+    let Some(block) = blocks.get(detach.0) else {
+        return None;
+    };
+    match &block.ending {
+        Some(ending) => match &ending.terminator {
+            Terminator::Detach { body, .. } => blocks.get(body.0),
+            _ => None,
         },
-        None => &[],
-    }
-}
-
-/// The block whose detach begins a task, if that is a child.
-fn detach_of(task: Option<&Task>) -> Option<BlockId> {
-    match task {
-        Some(Task::Child(detach)) => Some(*detach),
-        _ => None,
+        None => None,
     }
 }
 
 impl Spot<'_, '_> {
-    fn push_touched(&self, y: &PlacedZone<'_>, out: &mut TextBuffer) {
-        out.push_str("  touched: ");
-        push_zone(self.known, y, out);
-        out.push_str("\n");
-    }
-
-    /// Why none of the zones covers this one, and a line that would.
+    /// Why none of the zones covers this one.
     fn push_uncovered(&self, y: &PlacedZone<'_>, out: &mut TextBuffer) {
-        self.push_touched(y, out);
         let mut is_any = false;
         for zone in self.place.covering {
-            is_any = push_why_not(self.trying(), &as_written(zone), y, out) || is_any;
+            is_any = push_why_not(self.trying, &as_written(zone), y, out) || is_any;
         }
         if !is_any {
             out.push_str("    no zone here is of that object\n");
         }
-        self.push_cover_line(y, out);
     }
 
     /// What is pending and conflicts with this zone.
     fn push_conflicts(&self, y: &PlacedZone<'_>, out: &mut TextBuffer) {
-        let means = self.known.means;
-        self.push_touched(y, out);
+        let means = self.trying.known.means;
         for item in self.place.pending {
             let z = as_written(&item.zone);
             if means.is_so(conflict(means.alloc, self.place.facts, &z, y)) {
-                push_why_beside(self.trying(), &z, y, out);
+                push_why_beside(self.trying, &z, y, out);
             }
         }
     }
 
-    /// What is wrong with a zone that is touched. What is touched is kept as far as it is within the bounds of forms.
-    fn push_zone_notes(&self, y: &PlacedZone<'_>, notes: &mut Notes) {
-        let means = self.known.means;
-        if let Some(false) = means.kept(is_allowed(means.alloc, &self.place, y)) {
-            self.push_uncovered(y, &mut notes.cover);
-            if let Some(zone) = touched_zone(means, y) {
-                means.push(&mut notes.uncovered, zone);
-            }
+    /// What is wrong with a zone that is touched, by the rule of a fault, and a line that would cover it. What is touched is kept as far as it is within the
+    /// bounds of forms.
+    fn push_zone_notes(&self, y: &PlacedZone<'_>, found: &mut Found) {
+        let known = self.trying.known;
+        let means = known.means;
+        let is_conflict = found.number == CONFLICT;
+        let is_right = if is_conflict {
+            is_clear(means.alloc, &self.place, y)
+        } else {
+            is_allowed(means.alloc, &self.place, y)
+        };
+        if means.is_so(is_right) {
+            return;
         }
-        if let Some(false) = means.kept(is_clear(means.alloc, &self.place, y)) {
-            self.push_conflicts(y, &mut notes.clear);
-            if let Some(zone) = touched_zone(means, y) {
-                means.push(&mut notes.unclear, zone);
+        let notes = &mut found.notes;
+        notes.push_str("  touched: ");
+        push_zone(known, y, notes);
+        notes.push_str("\n");
+        if is_conflict {
+            self.push_conflicts(y, notes);
+        } else {
+            self.push_uncovered(y, notes);
+        }
+        if let Some(touched) = touched_zone(means, y) {
+            if !is_conflict {
+                self.push_cover_line(&touched, notes);
             }
+            means.push(&mut found.touched.zones, touched);
         }
     }
 
     /// What is wrong with cells that are touched.
-    fn push_cells_notes(&self, mode: Mode, cell: Cell, count: u64, notes: &mut Notes) {
-        let means = self.known.means;
-        match cells_zone(means.alloc, self.known.line, mode, cell, count) {
-            Ok(zone) => self.push_zone_notes(&as_written(&zone), notes),
-            Err(_) => means.note(Unanswered::OutOfMemory),
-        }
-    }
-
-    fn push_address_notes(&self, mode: Mode, address: Address, notes: &mut Notes) {
-        if let Some(cell) = address_cell(self.block.steps.as_slice(), address) {
-            self.push_cells_notes(mode, cell, 1, notes);
+    fn push_cells_notes(&self, mode: Mode, address: Address, count: u64, found: &mut Found) {
+        let known = self.trying.known;
+        let Some(cell) = address_cell(self.block.steps.as_slice(), address) else {
+            return;
+        };
+        match cells_zone(known.means.alloc, known.line, mode, cell, count) {
+            Ok(zone) => self.push_zone_notes(&as_written(&zone), found),
+            Err(_) => known.means.note(Unanswered::OutOfMemory),
         }
     }
 
     /// What is wrong with the zones of a callee.
-    fn push_call_notes(&self, callee: &Function, arguments: &[Argument], notes: &mut Notes) {
-        let means = self.known.means;
+    fn push_call_notes(&self, callee: &Function, arguments: &[Argument], found: &mut Found) {
+        let means = self.trying.known.means;
         let moves = means.items(argument_moves(means.alloc, arguments));
         for zone in callee.zones.as_slice() {
             if let Some(object) = put_object(arguments, zone.object) {
@@ -140,62 +120,47 @@ impl Spot<'_, '_> {
                     moves: moves.as_slice(),
                     zone,
                 };
-                self.push_zone_notes(&y, notes);
+                self.push_zone_notes(&y, found);
             }
         }
     }
 
     /// What is wrong with what an instruction touches.
-    fn push_step_notes(&self, instruction: &Instruction, notes: &mut Notes) {
-        match instruction {
-            Instruction::Load { address, .. } => {
-                self.push_address_notes(Mode::Reads, *address, notes)
-            }
-            Instruction::Store { address, .. } => {
-                self.push_address_notes(Mode::Writes, *address, notes)
-            }
-            Instruction::AtomicAdd { address, .. } => {
-                self.push_address_notes(Mode::Adds, *address, notes)
-            }
+    fn push_step_notes(&self, instruction: &Instruction, found: &mut Found) {
+        let (mode, address, count) = match instruction {
+            Instruction::Load { address, .. } => (Mode::Reads, *address, 1),
+            Instruction::Store { address, .. } => (Mode::Writes, *address, 1),
+            Instruction::AtomicAdd { address, .. } => (Mode::Adds, *address, 1),
             Instruction::StoreZeros { cells, object } => {
-                let cell = Cell {
-                    object: *object,
-                    index: Operand::Number(0),
-                };
-                self.push_cells_notes(Mode::Writes, cell, *cells, notes)
+                (Mode::Writes, Address::First(*object), *cells)
             }
             Instruction::Call {
                 callee,
                 arguments,
                 ..
             } => {
-                if let Some(callee) = self.known.scene.program.functions.as_slice().get(callee.0) {
-                    self.push_call_notes(callee, arguments.as_slice(), notes)
+                let functions = self.trying.known.scene.program.functions.as_slice();
+                if let Some(callee) = functions.get(callee.0) {
+                    self.push_call_notes(callee, arguments.as_slice(), found)
                 }
+                return;
             }
-            _ => {}
-        }
+            _ => return,
+        };
+        self.push_cells_notes(mode, address, count, found);
     }
 
-    /// Adds the faults of what is touched at the place.
-    fn push_used(&self, founds: &mut Vec<Found>, used: Use, notes: Notes) {
-        let Notes {
-            cover,
-            clear,
-            uncovered,
-            unclear,
-        } = notes;
-        if !used.covered {
-            self.push_fault(founds, used.number, cover, uncovered);
-        }
-        if !used.clear {
-            self.push_fault(founds, 602, clear, unclear);
-        }
+    /// Adds the fault of a step against this rule.
+    fn push_step_fault(&self, number: u16, step: &Step, founds: &mut Vec<Found>) {
+        let mut found = self.found(number);
+        self.push_step_notes(&step.instruction, &mut found);
+        self.trying.known.means.push(founds, found);
     }
 
+    /// Adds the faults of a step, in the order of their rules.
     fn push_step(&self, step: &Step, founds: &mut Vec<Found>) {
-        let means = self.known.means;
-        let functions = self.known.scene.program.functions.as_slice();
+        let means = self.trying.known.means;
+        let functions = self.trying.known.scene.program.functions.as_slice();
         let steps = self.block.steps.as_slice();
         if !means.spend(steps.len()) {
             return;
@@ -209,91 +174,107 @@ impl Spot<'_, '_> {
             step.line,
             &step.instruction,
         );
-        if let Some(used) = means.kept(used) {
-            if !used.covered || !used.clear {
-                let mut notes = no_notes(means.alloc);
-                self.push_step_notes(&step.instruction, &mut notes);
-                self.push_used(founds, used, notes);
-            }
+        let Some(used) = means.kept(used) else {
+            return;
+        };
+        if !used.covered && used.number < CONFLICT {
+            self.push_step_fault(used.number, step, founds);
+        }
+        if !used.clear {
+            self.push_step_fault(CONFLICT, step, founds);
+        }
+        if !used.covered && used.number > CONFLICT {
+            self.push_step_fault(used.number, step, founds);
         }
     }
 
-    /// Adds the faults at the end of a block: of the foot of a new child, and of edges.
-    fn push_end(&self, ending: &Ending, table: &BlockFacts, founds: &mut Vec<Found>) {
-        let means = self.known.means;
-        let blocks = self.known.scene.function.blocks.as_slice();
-        let used = end_use(means.alloc, &self.place, blocks, &ending.terminator);
-        if let Some(used) = means.kept(used) {
-            let mut notes = no_notes(means.alloc);
-            for zone in foot_of(blocks, &ending.terminator) {
-                self.push_zone_notes(&as_written(zone), &mut notes);
-            }
-            self.push_used(founds, used, notes);
+    /// Adds the fault of the foot of a new child against this rule.
+    fn push_foot_fault(&self, number: u16, foot: &[Zone], founds: &mut Vec<Found>) {
+        let mut found = self.found(number);
+        for zone in foot {
+            self.push_zone_notes(&as_written(zone), &mut found);
         }
-        let mut facts = FactBranches::new(means.alloc, self.known.facts, means.effort);
+        self.trying.known.means.push(founds, found);
+    }
+
+    /// Adds the fault of edges whose targets do not say all that is still pending.
+    fn push_edges(&self, ending: &Ending, table: &BlockFacts, founds: &mut Vec<Found>) {
+        let means = self.trying.known.means;
+        let mut found = self.found(NOT_PENDING);
+        let mut facts = FactBranches::new(means.alloc, table.facts.as_slice(), means.effort);
         for edge in table.edges.as_slice() {
-            self.push_edge(&mut facts, &ending.terminator, edge, founds);
+            self.push_edge(&mut facts, &ending.terminator, edge, &mut found);
+        }
+        if !found.touched.zones.is_empty() {
+            means.push(founds, found);
         }
     }
-}
 
-fn no_notes(alloc: Global) -> Notes {
-    Notes {
-        cover: TextBuffer::new(alloc),
-        clear: TextBuffer::new(alloc),
-        uncovered: Vec::new(alloc),
-        unclear: Vec::new(alloc),
+    /// Adds the faults at the end of a block, in the order of their rules: of the foot of a new child, and of edges.
+    fn push_end(&self, ending: &Ending, table: &BlockFacts, founds: &mut Vec<Found>) {
+        let means = self.trying.known.means;
+        let blocks = self.trying.known.scene.function.blocks.as_slice();
+        let used = end_use(means.alloc, &self.place, blocks, &ending.terminator);
+        let Some(used) = means.kept(used) else {
+            return;
+        };
+        let foot = foot_of(blocks, &ending.terminator);
+        if !used.clear {
+            self.push_foot_fault(CONFLICT, foot, founds);
+        }
+        self.push_edges(ending, table, founds);
+        if !used.covered {
+            self.push_foot_fault(used.number, foot, founds);
+        }
     }
-}
 
-/// A place of the block, where this is known.
-fn spot_at<'s, 'a>(
-    tasked: &'a Tasked<'s, 'a>,
-    known: &'a KnownFacts<'a>,
-    line: u32,
-) -> Spot<'s, 'a> {
-    let facts = known.facts();
-    Spot {
-        source: tasked.source,
-        known: Known {
-            scene: tasked.scene,
-            edges: tasked.edges,
-            block: BlockId(tasked.index),
-            facts,
-            lines: tasked.lines,
-            stated: facts.len(),
-            line,
-            means: tasked.means,
-        },
-        place: Place {
-            facts: known,
-            covering: covering_of(tasked.scene.function, tasked.detach),
-            own: tasked.detach.is_none(),
-            pending: tasked.block.pending.as_slice(),
-        },
-        block: tasked.block,
-        detach: tasked.detach,
-    }
-}
-
-impl Tasked<'_, '_> {
-    /// Adds the faults of the steps, and of the end.
-    fn push_faults(&self, founds: &mut Vec<Found>) {
-        let means = self.means;
-        let mut cursor = FactCursor::new(means.alloc, self.table.facts.as_slice(), means.effort);
+    /// Adds the faults of the steps of the block, and of its end.
+    fn push_faults(&self, table: &BlockFacts, founds: &mut Vec<Found>) {
+        let means = self.trying.known.means;
+        let mut cursor = FactCursor::new(means.alloc, table.facts.as_slice(), means.effort);
         for (place, step) in self.block.steps.as_slice().iter().enumerate() {
-            cursor.seek(self.table.count_at(place));
+            let count = table.count_at(place);
+            cursor.seek(count);
             means.noted(cursor.index());
-            let known = cursor.known();
-            spot_at(&*self, &known, step.line).push_step(step, founds);
+            let facts = cursor.known();
+            spot_where(*self, &facts, count, step.line).push_step(step, founds);
         }
         if let Some(ending) = &self.block.ending {
-            cursor.seek(self.table.facts.len());
+            let count = table.facts.len();
+            cursor.seek(count);
             means.noted(cursor.index());
-            let known = cursor.known();
-            let spot = spot_at(&*self, &known, ending.line);
-            spot.push_end(ending, self.table, founds);
+            let facts = cursor.known();
+            spot_where(*self, &facts, count, ending.line).push_end(ending, table, founds);
         }
+    }
+}
+
+/// The start of a block of a task, where nothing is known yet.
+fn start_of<'s, 'a>(
+    source: Source<'s>,
+    known: Known<'a>,
+    nothing: &'a KnownFacts<'a>,
+    task: Option<&Task>,
+    block: &'a Block,
+) -> Spot<'s, 'a> {
+    let function = known.scene.function;
+    let child = child_of(function.blocks.as_slice(), task);
+    let (word, task, covering) = match child {
+        Some(child) => (";! foot ", child.line, child.foot.as_slice()),
+        None => (";! ", function.line, function.zones.as_slice()),
+    };
+    Spot {
+        source,
+        trying: Trying::of(Some(source), known),
+        place: Place {
+            facts: &*nothing,
+            covering,
+            own: child.is_none(),
+            pending: block.pending.as_slice(),
+        },
+        block: &*block,
+        word,
+        task,
     }
 }
 
@@ -306,29 +287,26 @@ fn push_function(
     tasks: &[Task],
     founds: &mut Vec<Found>,
 ) {
-    for (index, block) in scene.function.blocks.as_slice().iter().enumerate() {
-        let made = block_facts(
-            means.alloc,
-            scene.program,
-            scene.function,
-            index,
-            block,
-            means.effort,
-        );
+    let alloc = means.alloc;
+    let function = scene.function;
+    let start = means.cursor(&[]);
+    let nothing = start.known();
+    for (index, block) in function.blocks.as_slice().iter().enumerate() {
+        let made = block_facts(alloc, scene.program, function, index, block, means.effort);
         if let Some((table, _)) = means.kept(made) {
-            let lines = fact_lines(means, scene.function, index, block, &table);
-            let tasked = Tasked {
-                source,
+            let lines = fact_lines(means, function, index, block, &table);
+            let known = Known {
                 scene: &*scene,
                 edges,
-                detach: detach_of(tasks.get(index)),
-                block,
-                table: &table,
+                block: BlockId(index),
+                facts: &[],
                 lines: lines.as_slice(),
-                index,
+                stated: 0,
+                line: block.line,
                 means: &*means,
             };
-            tasked.push_faults(founds);
+            let task = tasks.get(index);
+            start_of(source, known, &nothing, task, block).push_faults(&table, founds);
         }
     }
 }
@@ -342,14 +320,13 @@ pub fn zone_findings(
 ) -> Result<Vec<Finding>, Unanswered> {
     let means = Means::new(alloc, effort);
     let program = &matched.graph.program;
-    let tables = matched.regions.functions.as_slice();
     let mut founds: Vec<Found> = Vec::new(alloc);
-    for (index, table) in tables.iter().enumerate() {
+    for (index, table) in matched.regions.functions.as_slice().iter().enumerate() {
         if let Some(scene) = means.found(Scene::of(alloc, program, &matched.whole, index)) {
             let edges = matched.edges(index);
             let tasks = table.tasks.as_slice();
             push_function(&means, source, &scene, edges, tasks, &mut founds);
         }
     }
-    in_order(&means, founds)
+    told(&means, founds)
 }

@@ -1,16 +1,16 @@
 //! What is still pending on an edge, and lines that would say so at its target.
 
-use crate::found::{Found, touched_zone};
-use crate::spot::{Put, Spot};
-use crate::widen::{both, kept, lowest, shifted_zone, with_ends};
+use crate::found::Found;
+use crate::spot::{Spot, spot_where};
+use crate::widen::{both, coefficient, lowest, touched_zone, with_ends, zone_at_target};
 use crate::zone_text::{as_written, placed, push_why_not, push_zone};
-use explain_facts::{Known, Means};
-use footprints::{Place, covers, is_empty, passes_on, same_object};
+use explain_facts::Means;
+use footprints::{covers, is_empty, passes_on, same_object};
 use linear::Form;
 use linear_shown::FactBranches;
 use lists::{ListBuffer, TextBuffer};
-use program::{Block, Function, Operand, Pending, RegisterId, Terminator, Zone};
-use ranges::{EdgeFacts, Move, Way};
+use program::{Block, Function, Pending, RegisterId, Terminator, Zone};
+use ranges::{EdgeFacts, Way};
 
 /// A zone that children of a region may still touch.
 #[derive(Clone, Copy)]
@@ -55,43 +55,13 @@ fn pending_at<'a>(function: &'a Function, edge: &EdgeFacts) -> &'a [Pending] {
     }
 }
 
-/// Of each phi that takes a register along an edge, the phi in place of that.
-fn moved_back(means: &Means<'_>, moves: &[Move]) -> Vec<Move> {
-    let mut back = ListBuffer::new(means.alloc);
-    for taken in moves {
-        if let Operand::Register(register) = taken.value {
-            let value = Operand::Register(taken.register);
-            back.push(Move { register, value });
-        }
-    }
-    means.list(back)
-}
-
-/// Whether a phi of a block defines the register.
-fn has_phi(block: &Block, register: RegisterId) -> bool {
-    for phi in block.phis.as_slice() {
-        if phi.register == register {
-            return true;
-        }
-    }
-    false
-}
-
-/// Whether a phi of the function defines the register, as that of a loop's counter does.
-fn is_phi(function: &Function, register: RegisterId) -> bool {
-    for block in function.blocks.as_slice() {
-        if has_phi(block, register) {
-            return true;
-        }
-    }
-    false
-}
-
-/// Whether a form changes from round to round of a loop.
+/// Whether a form changes from round to round of a loop: it names a phi, as that of a loop's counter.
 fn is_counted(function: &Function, form: &Form) -> bool {
-    for term in form.terms.as_slice() {
-        if term.coefficient != 0 && is_phi(function, term.register) {
-            return true;
+    for block in function.blocks.as_slice() {
+        for phi in block.phis.as_slice() {
+            if coefficient(form, phi.register) != 0 {
+                return true;
+            }
         }
     }
     false
@@ -122,7 +92,7 @@ impl Passing<'_, '_> {
         for item in self.pending {
             if item.region == owed.region {
                 let z = placed(&item.zone, self.edge.moves.as_slice());
-                is_any = push_why_not(self.spot.trying(), &z, &y, out) || is_any;
+                is_any = push_why_not(self.spot.trying, &z, &y, out) || is_any;
             }
         }
         is_any
@@ -130,10 +100,10 @@ impl Passing<'_, '_> {
 
     /// Why a zone that may still be touched is not pending at the target.
     fn push_unpassed(&self, owed: Owed<'_>, out: &mut TextBuffer) {
-        let scene = self.spot.known.scene;
+        let scene = self.spot.trying.known.scene;
         let label = scene.label(self.edge.to);
         write!(out, "  still pending on the edge to %{label}: ");
-        push_zone(self.spot.known, &as_written(owed.zone), out);
+        push_zone(self.spot.trying.known, &as_written(owed.zone), out);
         out.push_str("\n");
         if !self.push_waiting(owed, out) {
             let name = scene.register(owed.region);
@@ -147,10 +117,11 @@ impl Passing<'_, '_> {
 
     /// The least zone that has this one and all that is owed like it, where it is known which ends that has.
     fn whole(&self, owed: Owed<'_>) -> Option<Zone> {
-        let mut whole = copied(self.spot.known.means, owed.zone);
+        let known = self.spot.trying.known;
+        let mut whole = copied(known.means, owed.zone);
         for other in self.owed {
             if is_alike(other.region, other.zone, owed) {
-                let Some(both) = both(self.spot.known, &whole, other.zone) else {
+                let Some(both) = both(known, &whole, other.zone) else {
                     return None;
                 };
                 whole = both;
@@ -161,28 +132,18 @@ impl Passing<'_, '_> {
 
     /// A zone with a number as its low end: what all rounds of a loop have had before.
     fn from_start(&self, zone: &Zone) -> Option<Zone> {
-        let known = self.spot.known;
+        let known = self.spot.trying.known;
         if !is_counted(known.scene.function, &zone.low) {
             return None;
         }
         let low = lowest(known, &zone.low);
-        with_ends(zone, low, Some(known.means.copy(&zone.high)))
-    }
-
-    /// The zone in the registers of the target.
-    fn at_target(&self, zone: &Zone) -> Option<Zone> {
-        let known = self.spot.known;
-        let moves = self.edge.moves.as_slice();
-        let Some(shifted) = shifted_zone(known, moves, zone) else {
-            return None;
-        };
-        let back = moved_back(known.means, moves);
-        touched_zone(known.means, &placed(&shifted, back.as_slice()))
+        let high = known.means.copy(&zone.high);
+        with_ends(zone, zone.object, low, Some(high))
     }
 
     /// Whether a zone at the target, with what phis take put in, has all that is owed like this.
     fn has_owed(&self, zone: &Zone, owed: Owed<'_>) -> bool {
-        let means = self.spot.known.means;
+        let means = self.spot.trying.known.means;
         let facts = self.spot.place.facts;
         let z = placed(zone, self.edge.moves.as_slice());
         for other in self.owed {
@@ -207,44 +168,21 @@ impl Passing<'_, '_> {
 
     /// A line at the target that says a zone, if it has what is owed and the text can have it; false where not.
     fn push_line_of(&self, zone: &Zone, owed: Owed<'_>, out: &mut TextBuffer) -> bool {
-        let Some(there) = self.at_target(zone) else {
+        let known = self.spot.trying.known;
+        let moves = self.edge.moves.as_slice();
+        let Some(there) = zone_at_target(known, moves, zone) else {
             return false;
         };
         if !self.has_owed(&there, owed) {
             return false;
         }
-        let scene = self.spot.known.scene;
-        let name = scene.register(owed.region);
-        let mut line = TextBuffer::new(self.spot.known.means.alloc);
+        let name = known.scene.register(owed.region);
+        let mut line = TextBuffer::new(known.means.alloc);
         write!(line, ";! pending %{name} ");
-        match self.line_there(owed) {
-            Some(old) => {
-                let wide = self.widened(old, zone, &there);
-                self.spot
-                    .push_zone_line(line, &wide, Put::InPlaceOf(old.line), out)
-            }
-            None => {
-                let put = Put::After(scene.label_line(self.edge.to));
-                self.spot.push_zone_line(line, &there, put, out)
-            }
-        }
-    }
-
-    /// A zone at the target with the ends of an old line there, where they reach as far as what is owed, and else with those of a new one.
-    fn widened(&self, old: &Zone, owed: &Zone, there: &Zone) -> Zone {
-        let known = self.spot.known;
-        let here = touched_zone(known.means, &placed(old, self.edge.moves.as_slice()));
-        let here = match &here {
-            Some(here) => here,
-            None => there,
-        };
-        Zone {
-            line: old.line,
-            mode: old.mode,
-            object: old.object,
-            low: kept(known, &owed.low, &here.low, &old.low, &there.low),
-            high: kept(known, &here.high, &owed.high, &old.high, &there.high),
-        }
+        let old = self.line_there(owed);
+        let after = known.scene.label_line(self.edge.to);
+        self.spot
+            .push_zone_line(line, old, moves, zone, &there, after, out)
     }
 
     /// A line at the target that says what is owed: in a loop that of all rounds before.
@@ -252,18 +190,17 @@ impl Passing<'_, '_> {
         let Some(whole) = self.whole(owed) else {
             return;
         };
-        let is_said = match self.from_start(&whole) {
-            Some(from_start) => self.push_line_of(&from_start, owed, out),
-            None => false,
-        };
-        if !is_said {
-            self.push_line_of(&whole, owed, out);
+        if let Some(from_start) = self.from_start(&whole) {
+            if self.push_line_of(&from_start, owed, out) {
+                return;
+            }
         }
+        self.push_line_of(&whole, owed, out);
     }
 
     /// Whether a zone is empty, or one that is pending at the target covers it.
     fn is_passed(&self, owed: Owed<'_>) -> bool {
-        let means = self.spot.known.means;
+        let means = self.spot.trying.known.means;
         let facts = self.spot.place.facts;
         let y = as_written(owed.zone);
         if means.is_so(is_empty(means.alloc, facts, &y)) {
@@ -279,101 +216,65 @@ impl Passing<'_, '_> {
     }
 
     /// Says of each zone that is owed and not pending at the target why, and adds it to what is touched.
-    fn push_notes(&self, touched: &mut Vec<Zone>, out: &mut TextBuffer) {
-        let means = self.spot.known.means;
+    fn push_notes(&self, found: &mut Found) {
+        let means = self.spot.trying.known.means;
         for owed in self.owed {
             if !self.is_passed(*owed) {
-                self.push_unpassed(*owed, out);
-                means.push(touched, copied(means, owed.zone));
+                self.push_unpassed(*owed, &mut found.notes);
+                means.push(&mut found.touched.zones, copied(means, owed.zone));
             }
         }
     }
 }
 
-/// What is pending before an edge and goes on along it.
-fn push_pending<'a>(owed: &mut ListBuffer<Owed<'a>>, pending: &'a [Pending], way: Way) {
-    for item in pending {
-        if goes_on(way, item.region) {
-            owed.push(Owed {
-                region: item.region,
-                zone: &item.zone,
-            });
-        }
-    }
-}
-
-/// What the new child of a detach may touch.
-fn push_foot<'a>(owed: &mut ListBuffer<Owed<'a>>, blocks: &'a [Block], terminator: &Terminator) {
-    if let Terminator::Detach { region, .. } = terminator {
-        for zone in foot_of(blocks, terminator) {
-            owed.push(Owed {
-                region: *region,
-                zone,
-            });
-        }
-    }
-}
-
 impl Spot<'_, '_> {
-    /// What has to be pending at the target of an edge.
+    /// What has to be pending at the target of an edge: what is pending before it and goes on, and what the new child of a detach may touch.
     fn owed_on(&self, terminator: &Terminator, way: Way) -> Vec<Owed<'_>> {
-        let known = self.known;
+        let known = self.trying.known;
         let mut owed: ListBuffer<Owed<'_>> = ListBuffer::new(known.means.alloc);
-        push_pending(&mut owed, self.place.pending, way);
-        if let Way::Continued = way {
-            push_foot(
-                &mut owed,
-                known.scene.function.blocks.as_slice(),
-                terminator,
-            );
+        for item in self.place.pending {
+            if goes_on(way, item.region) {
+                owed.push(Owed {
+                    region: item.region,
+                    zone: &item.zone,
+                });
+            }
+        }
+        if let (Way::Continued, Terminator::Detach { region, .. }) = (way, terminator) {
+            for zone in foot_of(known.scene.function.blocks.as_slice(), terminator) {
+                owed.push(Owed {
+                    region: *region,
+                    zone,
+                });
+            }
         }
         known.means.list(owed)
     }
 
-    /// Adds the fault of an edge, if its target does not say all that is still pending.
+    /// Adds to the fault of edges what the target of one does not say of what is still pending.
     pub fn push_edge(
         &self,
         facts: &mut FactBranches<'_>,
         terminator: &Terminator,
         edge: &EdgeFacts,
-        founds: &mut Vec<Found>,
+        found: &mut Found,
     ) {
-        let means = self.known.means;
-        let function = self.known.scene.function;
+        let known = self.trying.known;
+        let means = known.means;
+        let function = known.scene.function;
+        let pending = self.place.pending;
         let blocks = function.blocks.as_slice();
-        let passed = passes_on(
-            means.alloc,
-            blocks,
-            facts,
-            self.place.pending,
-            terminator,
-            edge,
-        );
-        let Some(false) = means.kept(passed) else {
+        if means.is_so(passes_on(means.alloc, blocks, facts, pending, terminator, edge)) {
             return;
-        };
+        }
         let owed = self.owed_on(terminator, edge.way);
-        means.noted(facts.switch_to(means.alloc, edge.facts.as_slice()));
         let there = facts.known();
         let passing = Passing {
-            spot: Spot {
-                known: Known {
-                    facts: there.facts(),
-                    ..self.known
-                },
-                place: Place {
-                    facts: &there,
-                    ..self.place
-                },
-                ..*self
-            },
+            spot: spot_where(*self, &there, known.stated, known.line),
             edge,
             owed: owed.as_slice(),
             pending: pending_at(function, edge),
         };
-        let mut notes = TextBuffer::new(means.alloc);
-        let mut zones: Vec<Zone> = Vec::new(means.alloc);
-        passing.push_notes(&mut zones, &mut notes);
-        self.push_fault(founds, 603, notes, zones);
+        passing.push_notes(found);
     }
 }

@@ -1,46 +1,35 @@
 //! Zones that have what others have: the ends of a line to put in.
 
-use crate::zone_text::between;
+use crate::zone_text::{between, placed_form};
 use explain_facts::{Known, Means, raised, shortfall};
-use footprints::mode_covers;
+use footprints::{PlacedZone, mode_covers};
 use linear::Form;
-use program::{Mode, Operand, RegisterId, Zone};
-use ranges::Move;
+use lists::ListBuffer;
+use program::{Mode, ObjectName, Operand, RegisterId, Zone};
+use ranges::{Move, Sum};
 
 /// A number that no end of a zone is past: 2^40.
 const FAR: i128 = 1_099_511_627_776;
 
-/// The greatest number that a form is known to be at least.
-fn least_number(known: Known<'_>, form: &Form) -> Option<i128> {
-    let Some(far) = raised(known.means, form, -FAR) else {
+/// So much below 0.
+const FAR_BELOW: i128 = -1_099_511_627_776;
+
+/// The greatest number that a sum is known to be at least, where so much less than the sum is given.
+fn least_number(known: Known<'_>, far_less: &Sum) -> Option<i128> {
+    let Some(far_less) = known.means.form(far_less) else {
         return None;
     };
-    match shortfall(known.means, known.facts, &far) {
+    match shortfall(known.means, known.facts, &far_less) {
         Some(short) => Some(FAR.saturating_sub(short)),
         None => None,
     }
 }
 
-fn number_form(means: &Means<'_>, number: i128) -> Option<Form> {
-    raised(means, &means.zero(), number)
-}
-
 /// A number that a form is known to be at least, as a form.
 pub fn lowest(known: Known<'_>, form: &Form) -> Option<Form> {
-    match least_number(known, form) {
-        Some(least) => number_form(known.means, least),
-        None => None,
-    }
-}
-
-/// A number that a form is known to be at most, as a form.
-fn highest(known: Known<'_>, form: &Form) -> Option<Form> {
     let means = known.means;
-    let Some(opposite) = means.within_bounds(means.zero().difference(means.alloc, form)) else {
-        return None;
-    };
-    match least_number(known, &opposite) {
-        Some(least) => number_form(means, 0i128.saturating_sub(least)),
+    match least_number(known, &means.plus(means.sum(FAR_BELOW), &[], form)) {
+        Some(least) => means.form(&means.sum(least)),
         None => None,
     }
 }
@@ -51,7 +40,7 @@ fn is_at_least(known: Known<'_>, high: &Form, low: &Form) -> bool {
 }
 
 /// An old end where one form is known to be at least another, else a new one.
-pub fn kept(known: Known<'_>, high: &Form, low: &Form, old: &Form, new: &Form) -> Form {
+fn kept(known: Known<'_>, high: &Form, low: &Form, old: &Form, new: &Form) -> Form {
     let end = if is_at_least(known, high, low) {
         old
     } else {
@@ -60,19 +49,8 @@ pub fn kept(known: Known<'_>, high: &Form, low: &Form, old: &Form, new: &Form) -
     known.means.copy(end)
 }
 
-/// Two forms, the lower one first, where it is known which that is.
-fn in_order<'f>(known: Known<'_>, a: &'f Form, b: &'f Form) -> Option<(&'f Form, &'f Form)> {
-    if is_at_least(known, b, a) {
-        Some((a, b))
-    } else if is_at_least(known, a, b) {
-        Some((b, a))
-    } else {
-        None
-    }
-}
-
 /// A mode that has what both have.
-pub fn both_modes(a: Mode, b: Mode) -> Mode {
+fn both_modes(a: Mode, b: Mode) -> Mode {
     if mode_covers(a, b) {
         a
     } else if mode_covers(b, a) {
@@ -82,13 +60,29 @@ pub fn both_modes(a: Mode, b: Mode) -> Mode {
     }
 }
 
-/// A zone with these ends, where both are known.
-pub fn with_ends(zone: &Zone, low: Option<Form>, high: Option<Form>) -> Option<Zone> {
+/// A zone with the ends of an old one, where they are shown to reach `here` as far as what is touched, and else with those of a new one.
+pub fn widened(known: Known<'_>, old: &Zone, here: &Zone, touched: &Zone, new: &Zone) -> Zone {
+    Zone {
+        line: old.line,
+        mode: both_modes(old.mode, touched.mode),
+        object: old.object,
+        low: kept(known, &touched.low, &here.low, &old.low, &new.low),
+        high: kept(known, &here.high, &touched.high, &old.high, &new.high),
+    }
+}
+
+/// A zone of this object with these ends, where both are known.
+pub fn with_ends(
+    zone: &Zone,
+    object: ObjectName,
+    low: Option<Form>,
+    high: Option<Form>,
+) -> Option<Zone> {
     match (low, high) {
         (Some(low), Some(high)) => Some(Zone {
             line: zone.line,
             mode: zone.mode,
-            object: zone.object,
+            object,
             low,
             high,
         }),
@@ -96,26 +90,44 @@ pub fn with_ends(zone: &Zone, low: Option<Form>, high: Option<Form>) -> Option<Z
     }
 }
 
+/// A zone that is touched, in the registers of its own function.
+pub fn touched_zone(means: &Means<'_>, y: &PlacedZone<'_>) -> Option<Zone> {
+    let low = placed_form(means, y.moves, &y.zone.low);
+    let high = placed_form(means, y.moves, &y.zone.high);
+    with_ends(y.zone, y.object, low, high)
+}
+
+/// The one of two ends that reaches further: ours where one form is known to be at least another, the other one where it is known to be at most that.
+fn further(known: Known<'_>, high: &Form, low: &Form, ours: &Form, other: &Form) -> Option<Form> {
+    if is_at_least(known, high, low) {
+        Some(known.means.copy(ours))
+    } else if is_at_least(known, low, high) {
+        Some(known.means.copy(other))
+    } else {
+        None
+    }
+}
+
 /// The least zone that has the cells of two of one object and mode, where it is known which ends that has.
 pub fn both(known: Known<'_>, a: &Zone, b: &Zone) -> Option<Zone> {
-    let lows = in_order(known, &a.low, &b.low);
-    let highs = in_order(known, &b.high, &a.high);
-    let (Some((low, _)), Some((_, high))) = (lows, highs) else {
-        return None;
-    };
-    let means = known.means;
-    with_ends(a, Some(means.copy(low)), Some(means.copy(high)))
+    let low = further(known, &b.low, &a.low, &a.low, &b.low);
+    let high = further(known, &a.high, &b.high, &a.high, &b.high);
+    with_ends(a, a.object, low, high)
 }
 
 /// What is known of a zone's ends in numbers alone, where both have bounds.
 pub fn in_numbers(known: Known<'_>, zone: &Zone) -> Option<Zone> {
-    let low = lowest(known, &zone.low);
-    let high = highest(known, &zone.high);
-    with_ends(zone, low, high)
+    let means = known.means;
+    let below = means.less(means.sum(FAR_BELOW), &[], &zone.high);
+    let Some(below) = least_number(known, &below) else {
+        return None;
+    };
+    let high = means.form(&means.sum(0i128.saturating_sub(below)));
+    with_ends(zone, zone.object, lowest(known, &zone.low), high)
 }
 
 /// The coefficient that a register has in a form.
-fn coefficient(form: &Form, register: RegisterId) -> i64 {
+pub fn coefficient(form: &Form, register: RegisterId) -> i64 {
     for term in form.terms.as_slice() {
         if term.register == register {
             return term.coefficient;
@@ -124,58 +136,67 @@ fn coefficient(form: &Form, register: RegisterId) -> i64 {
     0
 }
 
-/// By how much a register is more than another one, where that is known to be one number.
-fn step_of(known: Known<'_>, later: RegisterId, earlier: RegisterId) -> Option<i128> {
+/// By how much what a phi takes is more than the phi, where that is known to be one number.
+fn step_of(known: Known<'_>, moves: &[Move], phi: RegisterId) -> Option<i128> {
     let means = known.means;
-    let Some(later) = means.within_bounds(means.zero().plus_term(later, 1)) else {
+    let Some(phi) = means.within_bounds(means.zero().plus_term(phi, 1)) else {
         return None;
     };
-    let Some(step) = means.within_bounds(later.plus_term(earlier, -1)) else {
+    let taken = means.plus(means.sum(FAR_BELOW), moves, &phi);
+    let Some(least) = least_number(known, &means.less(taken, &[], &phi)) else {
         return None;
     };
-    let Some(least) = least_number(known, &step) else {
-        return None;
-    };
-    let Some(rest) = raised(means, &step, 0i128.saturating_sub(least)) else {
-        return None;
-    };
-    if is_at_least(known, &means.zero(), &rest) {
+    let most = means.plus(means.sum(least), &[], &phi);
+    if known.shows(&means.less(most, moves, &phi)) {
         Some(least)
     } else {
         None
     }
 }
 
-/// What is to be added to a form where a register that it names takes another value, so that the new value stands for the old one.
-fn shift_by(known: Known<'_>, form: &Form, taken: &Move) -> Option<i128> {
+/// What is to be added to a form where a phi takes its next value, so that the new value stands for the old one.
+fn shift_by(known: Known<'_>, moves: &[Move], form: &Form, taken: &Move) -> Option<i128> {
     let factor = coefficient(form, taken.register);
     if factor == 0 {
         return Some(0);
     }
-    let Operand::Register(value) = taken.value else {
+    let Operand::Register(_) = taken.value else {
         return None;
     };
-    match step_of(known, value, taken.register) {
+    match step_of(known, moves, taken.register) {
         Some(step) => Some(step.saturating_mul(i128::from(factor))),
         None => None,
     }
 }
 
-/// A form at the target of an edge, where its registers are what phis take them for; none where that is not known.
-fn shifted(known: Known<'_>, moves: &[Move], form: &Form) -> Option<Form> {
+/// A form at the target of an edge, in the registers there, which stand `back` in place of what phis take; none where it is not known by how much they move on.
+fn at_target(known: Known<'_>, moves: &[Move], back: &[Move], form: &Form) -> Option<Form> {
     let mut shift: i128 = 0;
     for taken in moves {
-        match shift_by(known, form, taken) {
+        match shift_by(known, moves, form, taken) {
             Some(more) => shift = shift.saturating_sub(more),
             None => return None,
         }
     }
-    raised(known.means, form, shift)
+    placed_form(known.means, back, &raised(known.means, form, shift)?)
 }
 
-/// A zone at the target of an edge, where registers that phis set anew have moved on by so much; none where that is not known.
-pub fn shifted_zone(known: Known<'_>, moves: &[Move], zone: &Zone) -> Option<Zone> {
-    let low = shifted(known, moves, &zone.low);
-    let high = shifted(known, moves, &zone.high);
-    with_ends(zone, low, high)
+/// Of each phi that takes a register along an edge, the phi in place of that.
+fn moved_back(means: &Means<'_>, moves: &[Move]) -> Vec<Move> {
+    let mut back = ListBuffer::new(means.alloc);
+    for taken in moves {
+        if let Operand::Register(register) = taken.value {
+            let value = Operand::Register(taken.register);
+            back.push(Move { register, value });
+        }
+    }
+    means.list(back)
+}
+
+/// A zone at the target of an edge, in the registers there; none where it is not known by how much phis move on.
+pub fn zone_at_target(known: Known<'_>, moves: &[Move], zone: &Zone) -> Option<Zone> {
+    let back = moved_back(known.means, moves);
+    let low = at_target(known, moves, back.as_slice(), &zone.low);
+    let high = at_target(known, moves, back.as_slice(), &zone.high);
+    with_ends(zone, zone.object, low, high)
 }

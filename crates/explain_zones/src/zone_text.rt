@@ -69,20 +69,31 @@ fn push_candidate(text: &str, line: u32, out: &mut TextBuffer) {
     writeln!(out, "    line {line}, {words}");
 }
 
-/// An end of a zone, where it is not shown to reach as far: by how many cells, or what is to be shown.
-fn push_end(trying: Trying<'_, '_>, moves: &str, too: &str, sum: &Sum, out: &mut TextBuffer) {
-    if trying.known.shows(sum) {
-        return;
-    }
-    match lack_of(trying.known.means, sum) {
+/// By how many cells a zone is short of where it would do, where that is a number whatever is known; whether it is.
+fn push_lack(known: Known<'_>, does: &str, room: &Sum, place: &str, out: &mut TextBuffer) -> bool {
+    match lack_of(known.means, room) {
         Some(lack) => {
             let s = plural(lack);
-            writeln!(out, "      it {moves}s {lack} cell{s} {too}");
+            writeln!(out, "      {does} {lack} cell{s} {place}");
+            true
         }
-        None => {
-            writeln!(out, "      it may {moves} {too}");
-            trying.push_detail(sum, "      ", out);
-        }
+        None => false,
+    }
+}
+
+/// An end of a zone, where it is not shown to reach as far: by how many cells, or what is to be shown.
+fn push_end(
+    trying: Trying<'_, '_>,
+    does: &str,
+    too: &str,
+    may: &str,
+    sum: &Sum,
+    out: &mut TextBuffer,
+) {
+    let known = trying.known;
+    if !known.shows(sum) && !push_lack(known, does, sum, too, out) {
+        writeln!(out, "      it may {may} {too}");
+        trying.push_detail(sum, "      ", out);
     }
 }
 
@@ -107,9 +118,9 @@ pub fn push_why_not(
     }
     let means = trying.known.means;
     let low = between(means, y.moves, &y.zone.low, z.moves, &z.zone.low);
-    push_end(trying, "begin", "too late", &low, out);
+    push_end(trying, "it begins", "too late", "begin", &low, out);
     let high = between(means, z.moves, &z.zone.high, y.moves, &y.zone.high);
-    push_end(trying, "end", "too early", &high, out);
+    push_end(trying, "it ends", "too early", "end", &high, out);
     true
 }
 
@@ -125,14 +136,6 @@ fn push_behind(trying: Trying<'_, '_>, what: &str, room: &Sum, out: &mut TextBuf
     }
 }
 
-/// By how many cells what is touched is not apart from a zone, where that is a number whatever is known.
-fn push_shared(known: Known<'_>, room: &Sum, does: &str, place: &str, out: &mut TextBuffer) {
-    if let Some(lack) = lack_of(known.means, room) {
-        let s = plural(lack);
-        writeln!(out, "      what is touched {does} {lack} cell{s} {place}");
-    }
-}
-
 /// What would have to be shown for two zones to be apart.
 pub fn push_why_beside(
     trying: Trying<'_, '_>,
@@ -144,8 +147,10 @@ pub fn push_why_beside(
     push_candidate(trying.text(), z.zone.line, out);
     let before = between(known.means, z.moves, &z.zone.low, y.moves, &y.zone.high);
     let after = between(known.means, y.moves, &y.zone.low, z.moves, &z.zone.high);
-    push_shared(known, &before, "ends", "behind where it begins", out);
-    push_shared(known, &after, "begins", "before where it ends", out);
+    let place = "behind where it begins";
+    push_lack(known, "what is touched ends", &before, place, out);
+    let place = "before where it ends";
+    push_lack(known, "what is touched begins", &after, place, out);
     push_behind(trying, "ends before it begins", &before, out);
     push_behind(trying, "begins where it ends", &after, out);
 }

@@ -121,7 +121,7 @@ impl RunBlock {
 
     /// Whether the worker has the very module of this run.
     pub fn has_module_of(&self, worker: &WorkerBlock) -> bool {
-        self.module.is_same(&worker.module)
+        self.module.module().is_same(worker.module.module())
     }
 
     /// A worker of the module meets the board.
@@ -150,7 +150,7 @@ impl RunBlock {
     pub fn grant(&mut self, more: u64)
         ensures { self.new ≡ record self.old { fuel = min (self.old.fuel + more) (2 ^ 64 - 1) } }
     {
-        self.run.grant(more);
+        self.run.fuel = self.run.fuel.saturating_add(more);
     }
 
     /// How far the run has come.
@@ -202,7 +202,7 @@ impl WorkerBlock {
 
     /// Whether the run's stop is set.
     pub fn is_stopped(&self) -> bool {
-        self.worker.is_stopped()
+        self.worker.ears.stop.is_set()
     }
 
     /// Goes on outside of the board.

@@ -2,12 +2,12 @@
 
 ghost use Rattle.std.specs.Prelude.{◌≡◌, ◌≢◌, ◌⊎◌, None, Some, length, sum};
 ghost use Rattle.kernel_calls.specs.Boards.{AnswersSerially, AreOfOne, Begins, BeginsAt, HasEnded, HasOtherCellsOfRun, IsFinishHeldStatus, IsFinishStatus};
-ghost use Rattle.kernel_calls.specs.Boards.{IsBegunStatus, IsMadeStatus, IsMeetStatus, IsMetStatus, IsOpenStatus, IsSetStatus, IsShownStatus, IsTurnStatus};
+ghost use Rattle.kernel_calls.specs.Boards.{IsBegunStatus, IsMadeStatus, IsMeetStatus, IsMetStatus, IsOpenStatus, IsSetStatus, IsTurnStatus};
 ghost use Rattle.kernel_calls.specs.Boards.{IsGranted, IsOfRun, IsSpent};
-ghost use Rattle.kernel_calls.specs.Boards.{GoesOn, MayGoOn, OfRun, StandsHeld, StaysHeld, WithMore, idle, work};
+ghost use Rattle.kernel_calls.specs.Boards.{GoesOn, MayGoOn, OfRun, StandsHeld, StaysHeld, idle, work};
 ghost use Rattle.kernel_calls.specs.Replayed.{bad_workers, not_ended};
 ghost use Rattle.kernel_calls.specs.Runs.{machine_of};
-ghost use Rattle.kernel_calls.specs.Told.{Shows, bad_arguments, done, other_cells, out_of_fuel, out_of_memory, sizes_in, stopped};
+ghost use Rattle.kernel_calls.specs.Told.{bad_arguments, done, other_cells, out_of_fuel, out_of_memory, sizes_in, stopped};
 ghost use Rattle.kernel_calls.specs.Held.{HasOtherCellsHeld, IsShareStatus, LacksHeld, closed};
 ghost use Rattle.schedule_core.specs.Admission.{IsNumberOfWorkers};
 ghost use Rattle.store.specs.Requirements.{unmet_in};
@@ -19,7 +19,7 @@ use crate::board_handle::{BoardHandle, WorkerHandle};
 use crate::cells::count_cells;
 use crate::handle::Handle;
 use crate::hosted::{Met, Stop};
-use crate::serial::filled;
+use crate::serial::{filled, shown};
 use crate::shared::Shared;
 use crate::stop::StopHandle;
 use crate::told::{
@@ -29,7 +29,7 @@ use crate::told::{
 use core::mem::replace_with;
 use std::alloc::Global;
 use std::mem::replace;
-use store::{Finished, RunFault};
+use store::RunFault;
 
 /// A run of a module over a row of its globals' numbers, and the outcome that says whether there is one.
 #[tactic(auto, using(crate::proofs::Standing::begins_here))]
@@ -216,24 +216,7 @@ fn meet_beside(
     (run, (worker, met))
 }
 
-/// The worker meets the board of its run. It needs no memory for either.
-fn met(
-    alloc: Global,
-    run: Box<RunBlock>,
-    worker: Box<WorkerBlock>,
-) -> (Met, usize, Box<RunBlock>, Box<WorkerBlock>)
-    requires { worker.value ≡ run.value.start.program }
-    ensures worker { result.3.value ≡ worker.value }
-    ensures goes { GoesOn run.value result.2.value }
-    ensures told { IsTold (machine_of result.2.value) run.value.fuel result.0 }
-    ensures stopped { result.0 ≡ told.Stopped → result.2.value ≡ run.value }
-{
-    let mut run = run;
-    let (worker, (met, offered)) = replace_with(run.as_mut(), (alloc, worker), meet_beside);
-    (met, offered, run, worker)
-}
-
-/// The same of what handles held, and the status.
+/// The worker of a handle meets the board of another, which needs no memory for either; and the status.
 #[tactic(auto, using(crate::proofs::Standing::works, crate::proofs::Standing::idles, crate::proofs::Standing::spent, crate::proofs::Standing::ended))]
 fn met_in(
     alloc: Global,
@@ -258,7 +241,8 @@ fn met_in(
             WorkerHandle::kept(worker),
         );
     }
-    let (met, offered, run, worker) = met(alloc, run, worker);
+    let mut run = run;
+    let (worker, (met, offered)) = replace_with(run.as_mut(), (alloc, worker), meet_beside);
     (
         status_of(met),
         offered,
@@ -348,27 +332,6 @@ pub fn grant_fuel(alloc: Global, board: &mut BoardHandle, more: u64) -> u32
     run.as_mut().grant(more);
     *board = BoardHandle::kept(run);
     DONE
-}
-
-/// The row takes the numbers of the globals at the end.
-fn shown(finished: &Finished, cells: &mut [i64]) -> Outcome
-    ensures ran { result.status ≡ done → Shows finished.now cells.new result }
-    ensures kept { result.status ≢ done → cells.new ≡ cells.old }
-    ensures statuses { IsShownStatus result.status }
-{
-    match finished.memory.row() {
-        // (The globals have as many cells as at the start.)
-        Ok(row) if row.len() == cells.len() => {
-            cells.copy_from_slice(row.as_slice());
-            Outcome {
-                result: finished.result,
-                instructions: finished.instructions,
-                peak: finished.peak,
-                ..plain_outcome(DONE)
-            }
-        }
-        _ => plain_outcome(OUT_OF_MEMORY),
-    }
 }
 
 /// The answer of a run that has ended, or the run again.

@@ -1,7 +1,7 @@
 //! The calls by which a host judges a module once and keeps it.
 
 ghost use Rattle.std.specs.Prelude.{◌≡◌, ◌≢◌, IfSome, None, Some};
-ghost use Rattle.kernel_calls.specs.Told.{IsVerdictStatus, Refuses, done, out_of_effort, out_of_memory, refused, unbounded};
+ghost use Rattle.kernel_calls.specs.Told.{IsVerdictStatus, Refuses, done, out_of_effort, refused, unbounded};
 ghost use Rattle.kernel_calls.specs.Held.{IsShareStatus, Opens, closed};
 
 use crate::handle::Handle;
@@ -86,24 +86,6 @@ fn another(alloc: Global, shared: &Shared) -> Option<Handle>
     }
 }
 
-/// The handle again, another one on what it holds, and the status.
-fn shared(alloc: Global, handle: Handle) -> (Handle, Handle, u32)
-    ensures same { result.0.kernel.program ≡ handle.kernel.program }
-    ensures shared { result.2 ≡ done → result.1.kernel.program ≡ handle.kernel.program }
-    ensures nothing { result.2 ≢ done → result.1.kernel.program ≡ None }
-    ensures closed { result.2 ≡ closed → handle.kernel.program ≡ None }
-    ensures held { handle.kernel.program ≡ None → result.2 ≡ closed }
-    ensures statuses { IsShareStatus result.2 }
-{
-    let Some(block) = handle.taken() else {
-        return (Handle::closed(alloc), Handle::closed(alloc), CLOSED);
-    };
-    match another(alloc, block.as_ref()) {
-        Some(other) => (Handle::kept(block), other, DONE),
-        None => (Handle::kept(block), Handle::closed(alloc), OUT_OF_MEMORY),
-    }
-}
-
 /// Keeps in another handle what this one keeps, so that both can run it at the same time. What the other one held is given back.
 pub fn share_module(alloc: Global, handle: &mut Handle, other: &mut Handle) -> u32
     ensures same { handle.new.kernel.program ≡ handle.old.kernel.program }
@@ -113,9 +95,15 @@ pub fn share_module(alloc: Global, handle: &mut Handle, other: &mut Handle) -> u
     ensures held { handle.old.kernel.program ≡ None → result ≡ closed }
     ensures statuses { IsShareStatus result }
 {
-    let held = replace(handle, Handle::closed(alloc));
-    let (back, made, status) = shared(alloc, held);
-    *handle = back;
+    let Some(block) = replace(handle, Handle::closed(alloc)).taken() else {
+        *other = Handle::closed(alloc);
+        return CLOSED;
+    };
+    let (status, made) = match another(alloc, block.as_ref()) {
+        Some(made) => (DONE, made),
+        None => (OUT_OF_MEMORY, Handle::closed(alloc)),
+    };
+    *handle = Handle::kept(block);
     *other = made;
     status
 }

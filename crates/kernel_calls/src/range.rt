@@ -1,13 +1,12 @@
 //! What `requires` says of one argument of `main`, and its name.
 
-ghost use Rattle.std.specs.Prelude.{◌≡◌, ◌≢◌, ◌⊎◌, ◌≤◌, IfNone, IfSome, None, Some, true};
+ghost use Rattle.std.specs.Prelude.{◌≡◌, ◌≢◌, ◌⊎◌, ◌≤◌, IfNone, IfSome, None, Some};
 ghost use Rattle.kernel_calls.specs.Held.{OfHeld, closed};
 ghost use Rattle.kernel_calls.specs.Inside.{HasNoBound, IsArgumentRange, IsBound, IsFoundStatus, IsRangeOf, SetsHigh, SetsLow, arguments_in};
 ghost use Rattle.kernel_calls.specs.Told.{done};
 ghost use Rattle.kernel_calls.specs.Words.{not_found};
 
 use crate::handle::Handle;
-use crate::prepared::Prepared;
 use crate::told::{CLOSED, DONE, NOT_FOUND};
 use crate::words::put;
 use program::{Form, Inequality, Program};
@@ -22,18 +21,6 @@ pub struct Range {
     pub has_high: bool,
     pub low: i64,
     pub high: i64,
-}
-
-/// No bound.
-fn unbounded() -> Range
-    ensures { HasNoBound result }
-{
-    Range {
-        has_low: false,
-        has_high: false,
-        low: 0,
-        high: 0,
-    }
 }
 
 /// What the other form says of the argument of this number, where it stands alone.
@@ -126,13 +113,6 @@ fn argument_range(program: &Program, number: usize) -> Option<Range>
     Some(range_of(number, main.requirements.as_slice()))
 }
 
-/// Writes the name of the argument of this number, as far as there is room.
-fn put_name(kernel: &Prepared, number: usize, out: &mut [u8], needed: &mut usize) {
-    if let Some(name) = kernel.names().get(number) {
-        put(name.as_bytes(), out, needed);
-    }
-}
-
 /// Tells the argument of this number, from 0: its name is written as far as there is room.
 pub fn tell_argument(
     alloc: Global,
@@ -149,7 +129,12 @@ pub fn tell_argument(
     ensures same { handle.new.kernel.program ≡ handle.old.kernel.program }
     ensures statuses { IsFoundStatus result }
 {
-    *range = unbounded();
+    *range = Range {
+        has_low: false,
+        has_high: false,
+        low: 0,
+        high: 0,
+    };
     *needed = 0;
     let Some(block) = replace(handle, Handle::closed(alloc)).taken() else {
         return CLOSED;
@@ -158,7 +143,9 @@ pub fn tell_argument(
     let status = match argument_range(kernel.verified().program(), number) {
         Some(found) => {
             *range = found;
-            put_name(kernel, number, out, needed);
+            if let Some(name) = kernel.names().get(number) {
+                put(name.as_bytes(), out, needed);
+            }
             DONE
         }
         None => NOT_FOUND,

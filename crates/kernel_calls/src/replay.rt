@@ -3,7 +3,6 @@
 ghost use Rattle.std.specs.Prelude.{◌≡◌, ◌≢◌, ◌⊎◌, None, Some, length, sum};
 ghost use Rattle.schedule_core.specs.Admission.{IsNumberOfWorkers};
 ghost use Rattle.store.specs.Requirements.{unmet_in};
-ghost use Rattle.store.specs.Rows.{sizes_of};
 ghost use Rattle.semantics.specs.Events as running;
 ghost use Rattle.schedule_core.specs.Stages.{IsState};
 ghost use Rattle.schedule_text.specs.ScheduleText.{IsBadLine, IsTooLong};
@@ -11,11 +10,11 @@ ghost use Rattle.schedule_text.specs.declared.fault.ScheduleFault.TheVariants.{B
 ghost use Rattle.kernel_calls.specs.Told.{bad_arguments, done, other_cells, out_of_memory, sizes_in};
 ghost use Rattle.kernel_calls.specs.Held.{HasOtherCellsHeld, LacksHeld, OfHeld, closed};
 ghost use Rattle.kernel_calls.specs.Replayed.{ByText, EndsBy, HasEndedIn, StandsBy, StandsIn};
-ghost use Rattle.kernel_calls.specs.Replayed.{IsReplayHeldStatus, IsReplayStatus, IsScheduleFault, IsScheduleStatus};
+ghost use Rattle.kernel_calls.specs.Replayed.{IsReplayStatus, IsScheduleFault, IsScheduleStatus};
 ghost use Rattle.kernel_calls.specs.Replayed.{bad_schedule, bad_workers, long_schedule, not_ended};
 
 use crate::handle::Handle;
-use crate::serial::{filled, finish};
+use crate::serial::{filled, shown};
 use crate::told::{
     BAD_ARGUMENTS, BAD_SCHEDULE, BAD_WORKERS, CLOSED, LONG_SCHEDULE, NOT_ENDED, OUT_OF_MEMORY,
     Outcome, plain_outcome,
@@ -27,9 +26,8 @@ use std::mem::replace;
 use store::{Finished, RunFault};
 use verifier::Verified;
 
-/// What a run has come to: where it has ended the row takes the numbers of the globals, which are as many.
+/// What a run has come to: where it has ended the row takes the numbers of the globals.
 fn come_to(machine: Machine<'_>, cells: &mut [i64]) -> Outcome
-    requires { sum (sizes_of machine.stage.memory) ≡ length cells.old }
     ensures ended { result.status ≡ done → (m : running.Machine) → IsState machine.entry.stage m → HasEndedIn m cells.new result }
     ensures stands { result.status ≡ not_ended → (m : running.Machine) → IsState machine.entry.stage m → StandsIn m result }
     ensures kept { result.status ≢ done → cells.new ≡ cells.old }
@@ -45,7 +43,7 @@ fn come_to(machine: Machine<'_>, cells: &mut [i64]) -> Outcome
                 instructions,
                 peak,
             };
-            finish(&finished, cells)
+            shown(&finished, cells)
         }
         None => Outcome {
             instructions,
@@ -87,34 +85,6 @@ fn replay_over(
         Err(RunFault::BadWorkers { .. }) => plain_outcome(BAD_WORKERS),
         // (Nothing stops a replay.)
         Err(RunFault::OutOfMemory | RunFault::Stopped) => plain_outcome(OUT_OF_MEMORY),
-    }
-}
-
-/// Runs the module that is kept by the schedule, and keeps it.
-fn replay_held(
-    alloc: Global,
-    handle: Handle,
-    arguments: &[i64],
-    cells: &mut [i64],
-    workers: usize,
-    events: &[Event],
-) -> (Outcome, Handle)
-    ensures ended { result.0.status ≡ done → OfHeld handle.kernel.program (λ p. EndsBy p arguments.now cells.old cells.new workers events.now result.0) }
-    ensures stands { result.0.status ≡ not_ended → OfHeld handle.kernel.program (λ p. StandsBy p arguments.now cells.old workers events.now result.0) }
-    ensures arguments { result.0.status ≡ bad_arguments → LacksHeld handle.kernel.program arguments.now result.0.requirement }
-    ensures workers { result.0.status ≡ bad_workers → ¬ IsNumberOfWorkers workers }
-    ensures cells { result.0.status ≡ other_cells → HasOtherCellsHeld handle.kernel.program cells.old }
-    ensures closed { result.0.status ≡ closed → handle.kernel.program ≡ None }
-    ensures kept { result.0.status ≢ done → cells.new ≡ cells.old }
-    ensures statuses { IsReplayHeldStatus result.0.status }
-    ensures same { result.1.kernel.program ≡ handle.kernel.program }
-{
-    match handle.taken() {
-        Some(block) => {
-            let outcome = replay_over(alloc, block.verified(), arguments, cells, workers, events);
-            (outcome, Handle::kept(block))
-        }
-        None => (plain_outcome(CLOSED), Handle::closed(alloc)),
     }
 }
 
@@ -162,19 +132,14 @@ pub fn replay_module(
     ensures same { handle.new.kernel.program ≡ handle.old.kernel.program }
 {
     match read_schedule(alloc, schedule) {
-        Ok(events) => {
-            let held = replace(handle, Handle::closed(alloc));
-            let (said, back) = replay_held(
-                alloc,
-                held,
-                arguments,
-                cells,
-                workers,
-                events.as_slice(),
-            );
-            *outcome = said;
-            *handle = back;
-        }
+        Ok(events) => match replace(handle, Handle::closed(alloc)).taken() {
+            Some(block) => {
+                let (kernel, events) = (block.verified(), events.as_slice());
+                *outcome = replay_over(alloc, kernel, arguments, cells, workers, events);
+                *handle = Handle::kept(block);
+            }
+            None => *outcome = plain_outcome(CLOSED),
+        },
         Err(fault) => *outcome = schedule_fault(fault),
     }
 }

@@ -5,40 +5,11 @@ ghost use Rattle.kernel_calls.specs.Told.{bad_arguments, done, other_cells, out_
 ghost use Rattle.kernel_calls.specs.Held.{ExceedsHeld, HasOtherCellsHeld, IsHeldStatus, LacksHeld, RunsHeld, closed};
 
 use crate::handle::Handle;
-use crate::hosted::Stop;
 use crate::serial::run_over;
 use crate::stop::StopHandle;
 use crate::told::{CLOSED, OUT_OF_MEMORY, Outcome, plain_outcome};
 use std::alloc::Global;
 use std::mem::replace;
-
-/// Runs the module that is kept, and keeps it.
-fn run_held(
-    alloc: Global,
-    handle: Handle,
-    fuel: u64,
-    stop: &Stop,
-    arguments: &[i64],
-    cells: &mut [i64],
-) -> (Outcome, Handle)
-    ensures ran { result.0.status ≡ done → RunsHeld handle.kernel.program fuel arguments.now cells.old cells.new result.0 }
-    ensures fuel { result.0.status ≡ out_of_fuel → ExceedsHeld handle.kernel.program fuel arguments.now cells.old }
-    ensures arguments { result.0.status ≡ bad_arguments → LacksHeld handle.kernel.program arguments.now result.0.requirement }
-    ensures cells { result.0.status ≡ other_cells → HasOtherCellsHeld handle.kernel.program cells.old }
-    ensures closed { result.0.status ≡ closed → handle.kernel.program ≡ None }
-    ensures kept { result.0.status ≢ done → cells.new ≡ cells.old }
-    ensures stopped { result.0.status ≡ stopped → IsSome stop.now.word }
-    ensures statuses { IsHeldStatus result.0.status }
-    ensures same { result.1.kernel.program ≡ handle.kernel.program }
-{
-    match handle.taken() {
-        Some(block) => {
-            let outcome = run_over(alloc, block.module(), fuel, arguments, cells, stop);
-            (outcome, Handle::kept(block))
-        }
-        None => (plain_outcome(CLOSED), Handle::closed(alloc)),
-    }
-}
 
 /// Runs the serial elision of the module that is held, within some fuel and unless it is stopped, from the numbers of its globals, each global after the one
 /// before it.
@@ -68,8 +39,11 @@ pub fn run_module(
         *outcome = plain_outcome(OUT_OF_MEMORY);
         return;
     };
-    let held = replace(handle, Handle::closed(alloc));
-    let (said, back) = run_held(alloc, held, fuel, &heard, arguments, cells);
-    *outcome = said;
-    *handle = back;
+    match replace(handle, Handle::closed(alloc)).taken() {
+        Some(block) => {
+            *outcome = run_over(alloc, block.module(), fuel, arguments, cells, &heard);
+            *handle = Handle::kept(block);
+        }
+        None => *outcome = plain_outcome(CLOSED),
+    }
 }

@@ -40,17 +40,6 @@ fn spelled(alloc: Global, events: Result<Option<Vec<Event>>, OutOfMemory>) -> Re
     }
 }
 
-/// The text that spells the run's events, or the status; the run stays where it is.
-fn spelled_in(alloc: Global, run: Box<RunBlock>) -> (Result<String, u32>, Box<RunBlock>)
-    ensures spelled { IfOk result.0 (λ text. IsSchedule (string_bytes text) run.value.events) }
-    ensures statuses { IfErr result.0 (λ status. (status ≡ long_schedule) ⊎ (status ≡ out_of_memory)) }
-    ensures same { result.1.value ≡ run.value }
-{
-    let mut run = run;
-    let events = replace_with(run.as_mut(), (alloc, MOST_EVENTS), RunBlock::events);
-    (spelled(alloc, events), run)
-}
-
 /// Writes the run's events as a schedule, as far as there is room, and how many bytes it has.
 pub fn write_schedule(
     alloc: Global,
@@ -65,11 +54,11 @@ pub fn write_schedule(
     ensures statuses { IsSpelledStatus result }
 {
     *needed = 0;
-    let Some(run) = replace(board, BoardHandle::closed(alloc)).taken() else {
+    let Some(mut run) = replace(board, BoardHandle::closed(alloc)).taken() else {
         return CLOSED;
     };
-    let (text, run) = spelled_in(alloc, run);
-    let status = match text {
+    let events = replace_with(run.as_mut(), (alloc, MOST_EVENTS), RunBlock::events);
+    let status = match spelled(alloc, events) {
         Ok(text) => {
             put(text.as_bytes(), out, needed);
             DONE

@@ -3,7 +3,6 @@
 ghost use Rattle.std.specs.Prelude.{◌≡◌, ◌≢◌, ◌⊎◌, IfErr, IfOk, IsSome, None, OnOk, Some, length, sum};
 ghost use Rattle.store.specs.Requirements.{unmet_in};
 ghost use Rattle.store.specs.Made.{HasGlobalCells, IsMadeFor};
-ghost use Rattle.store.specs.Rows.{sizes_of};
 ghost use Rattle.serial_machine.specs.Decoding.{IsCodeOf};
 ghost use Rattle.kernel_calls.specs.Until.{IsWatchedStatus};
 ghost use Rattle.kernel_calls.specs.Told.{Exceeds, ExceedsProgram, HasOtherCells, IsOutcomeStatus, IsRunStatus, Lacks, Refuses, Runs, RunsProgram, Shows};
@@ -44,22 +43,24 @@ pub fn filled(alloc: Global, kernel: &Verified, cells: &[i64]) -> Result<Memory,
     Ok(memory)
 }
 
-/// The row takes the numbers of the globals at the end, which are as many.
-pub fn finish(finished: &Finished, cells: &mut [i64]) -> Outcome
-    requires { sum (sizes_of finished.now.memory) ≡ length cells.old }
+/// The row takes the numbers of the globals at the end.
+pub fn shown(finished: &Finished, cells: &mut [i64]) -> Outcome
     ensures ran { result.status ≡ done → Shows finished.now cells.new result }
     ensures kept { result.status ≢ done → cells.new ≡ cells.old }
     ensures statuses { (result.status ≡ done) ⊎ (result.status ≡ out_of_memory) }
 {
-    let Ok(row) = finished.memory.row() else {
-        return plain_outcome(OUT_OF_MEMORY);
-    };
-    cells.copy_from_slice(row.as_slice());
-    Outcome {
-        result: finished.result,
-        instructions: finished.instructions,
-        peak: finished.peak,
-        ..plain_outcome(DONE)
+    match finished.memory.row() {
+        // (The globals have as many cells as at the start.)
+        Ok(row) if row.len() == cells.len() => {
+            cells.copy_from_slice(row.as_slice());
+            Outcome {
+                result: finished.result,
+                instructions: finished.instructions,
+                peak: finished.peak,
+                ..plain_outcome(DONE)
+            }
+        }
+        _ => plain_outcome(OUT_OF_MEMORY),
     }
 }
 
@@ -85,7 +86,7 @@ fn run_by(
         Err(status) => return plain_outcome(status),
     };
     match serial_run_within_by(alloc, kernel, code, arguments, memory, fuel) {
-        Ok(finished) => finish(&finished, cells),
+        Ok(finished) => shown(&finished, cells),
         Err(Unfinished::OutOfFuel { .. }) => plain_outcome(OUT_OF_FUEL),
         Err(Unfinished::Fault(RunFault::BadArguments { requirement, .. })) => Outcome {
             requirement: requirement as u64,
@@ -118,7 +119,7 @@ fn run_on(
         Err(status) => return plain_outcome(status),
     };
     match run_watched(alloc, kernel, fuel, stop, arguments, memory) {
-        Watched::Finished(finished) => finish(&finished, cells),
+        Watched::Finished(finished) => shown(&finished, cells),
         Watched::OutOfFuel => plain_outcome(OUT_OF_FUEL),
         Watched::Stopped => plain_outcome(STOPPED),
         Watched::OutOfMemory => plain_outcome(OUT_OF_MEMORY),

@@ -94,20 +94,6 @@ impl Drop for StopHandle {
     }
 }
 
-/// What may go to another thread.
-fn crosses<T: Send>(value: T) -> T
-    ensures { result ≡ value }
-{
-    value
-}
-
-/// A handle on a stop may.
-pub fn stop_sent(handle: StopHandle) -> StopHandle
-    ensures { result ≡ handle }
-{
-    crosses(handle)
-}
-
 /// A handle on the stop, and the status.
 fn boxed(alloc: Global, stop: Stop) -> (u32, StopHandle)
     ensures kept { result.0 ≡ done → result.1.stop.kept ≡ Some tt }
@@ -156,20 +142,19 @@ pub fn share_stop(alloc: Global, stop: &mut StopHandle, other: &mut StopHandle) 
     status
 }
 
-/// The handle again, where the stop was set or cleared, and the status.
-fn set(alloc: Global, handle: StopHandle, is_set: bool) -> (u32, StopHandle)
-    ensures same { result.1.stop.kept ≡ handle.stop.kept }
-    ensures closed { result.0 ≡ closed → handle.stop.kept ≡ None }
-    ensures held { handle.stop.kept ≡ None → result.0 ≡ closed }
-    ensures statuses { IsSetStatus result.0 }
+/// Sets the stop, or clears it.
+fn set(alloc: Global, stop: &mut StopHandle, is_set: bool) -> u32
+    ensures same { stop.new.stop.kept ≡ stop.old.stop.kept }
+    ensures closed { result ≡ closed → stop.old.stop.kept ≡ None }
+    ensures held { stop.old.stop.kept ≡ None → result ≡ closed }
+    ensures statuses { IsSetStatus result }
 {
-    match handle.taken() {
-        Some(block) => {
-            block.as_ref().stop.set(is_set);
-            (DONE, StopHandle::kept(block))
-        }
-        None => (CLOSED, StopHandle::closed(alloc)),
-    }
+    let Some(block) = replace(stop, StopHandle::closed(alloc)).taken() else {
+        return CLOSED;
+    };
+    block.as_ref().stop.set(is_set);
+    *stop = StopHandle::kept(block);
+    DONE
 }
 
 /// Sets the stop: who looks at it next stops.
@@ -179,9 +164,7 @@ pub fn set_stop(alloc: Global, stop: &mut StopHandle) -> u32
     ensures held { stop.old.stop.kept ≡ None → result ≡ closed }
     ensures statuses { IsSetStatus result }
 {
-    let (status, back) = set(alloc, replace(stop, StopHandle::closed(alloc)), true);
-    *stop = back;
-    status
+    set(alloc, stop, true)
 }
 
 /// Clears the stop: who is told to go on goes on.
@@ -191,9 +174,7 @@ pub fn clear_stop(alloc: Global, stop: &mut StopHandle) -> u32
     ensures held { stop.old.stop.kept ≡ None → result ≡ closed }
     ensures statuses { IsSetStatus result }
 {
-    let (status, back) = set(alloc, replace(stop, StopHandle::closed(alloc)), false);
-    *stop = back;
-    status
+    set(alloc, stop, false)
 }
 
 /// Whether the stop is set.

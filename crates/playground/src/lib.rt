@@ -1,12 +1,23 @@
-//! The program `tapirvm` for a page: one call takes the words of a command line, the texts of the files that they name and numbers to hash names with. It
-//! gives out what the program would print, and the files that it would write.
-//!
-//! There are no threads, files or clocks here. So a run on workers is drawn by a seed, `--load` finds no file, and `--speedup` and `--time` do nothing.
+//! The program `tapirvm` for a page: the one export that its WebAssembly module has. What it calls stands in `cli_verbs`.
 #![tactic(auto)]
 
-mod answers;
-mod framed;
-mod play;
-mod seed;
+use std::alloc::Global;
 
-pub use play::play_answer;
+/// Answers a command line, the program's own name first and a word in each line. It writes as many bytes of the answer as there is room for, and says how
+/// many there are. Returns 0, and 1 where memory is refused.
+///
+/// `low` and `high` are numbers that whoever wrote the texts does not know.
+#[unsafe(no_mangle)]
+pub extern "C" fn play_answer(
+    alloc: Global,
+    line: &[u8],
+    module: &[u8],
+    schedule: &[u8],
+    input: &[u8],
+    low: u64,
+    high: u64,
+    out: &mut [u8],
+    needed: &mut usize,
+) -> u32 {
+    cli_verbs::answer_line(alloc, line, module, schedule, input, low, high, out, needed)
+}

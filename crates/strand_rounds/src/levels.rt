@@ -1,8 +1,8 @@
 //! The frames of a private stack, as far as rounds go by them.
 
-use lists::OutOfMemory;
+use frame::Path;
 use std::alloc::Global;
-use view_events::{Instant, Place, Rounds};
+use view_events::{Instant, Rounds};
 
 /// A frame of the stack.
 #[derive(Clone, Copy)]
@@ -31,6 +31,8 @@ pub(crate) struct Levels {
     levels: Vec<Level>,
     /// The ended children of all frames, those of the base first.
     ends: Vec<End>,
+    /// Whether memory was refused for a part of them.
+    is_refused: bool,
 }
 
 impl Levels {
@@ -39,27 +41,39 @@ impl Levels {
             path: Vec::new(alloc),
             levels: Vec::new(alloc),
             ends: Vec::new(alloc),
+            is_refused: false,
         }
     }
 
-    /// The base alone, which stands there.
-    pub(crate) fn begin(&mut self, base: &Place) -> Result<(), OutOfMemory> {
+    /// Whether memory was refused so far: then what is noted of the frames may be wrong.
+    pub(crate) fn is_refused(&self) -> bool {
+        self.is_refused
+    }
+
+    /// A frame of which nothing is known yet stands on top.
+    fn push(&mut self, frame: usize, task: usize) {
+        let level = Level {
+            frame,
+            task,
+            detached: None,
+            ends: self.ends.len(),
+        };
+        self.is_refused |= self.levels.push(level).is_err();
+    }
+
+    /// The base alone: this task's top frame.
+    pub(crate) fn begin(&mut self, task: &Path, frame: &Path) {
         self.path.clear();
         self.levels.clear();
         self.ends.clear();
-        self.path.extend_from_slice(base.frame.numbers.as_slice())?;
-        self.levels.push(Level {
-            frame: self.path.len(),
-            task: base.task.numbers.len(),
-            detached: None,
-            ends: 0,
-        })?;
-        Ok(())
+        let path = frame.numbers.as_slice();
+        self.is_refused |= self.path.extend_from_slice(path).is_err();
+        self.push(path.len(), task.numbers.len());
     }
 
     /// The top frame has made one with this number, of a task of its own where it was detached in this round.
-    pub(crate) fn enter(&mut self, number: u64, detached: Option<u64>) -> Result<(), OutOfMemory> {
-        self.path.push(number)?;
+    pub(crate) fn enter(&mut self, number: u64, detached: Option<u64>) {
+        self.is_refused |= self.path.push(number).is_err();
         let frame = self.path.len();
         let mut task = frame;
         if let Some(maker) = self.levels.as_mut_slice().last_mut() {
@@ -68,13 +82,7 @@ impl Levels {
                 task = maker.task;
             }
         }
-        self.levels.push(Level {
-            frame,
-            task,
-            detached: None,
-            ends: self.ends.len(),
-        })?;
-        Ok(())
+        self.push(frame, task);
     }
 
     /// The top frame is over.
@@ -90,8 +98,8 @@ impl Levels {
     }
 
     /// A child of the top frame ended.
-    pub(crate) fn end_child(&mut self, region: usize, round: u64) -> Result<(), OutOfMemory> {
-        Ok(self.ends.push(End { region, round })?)
+    pub(crate) fn end_child(&mut self, region: usize, round: u64) {
+        self.is_refused |= self.ends.push(End { region, round }).is_err();
     }
 
     /// The top frame's path; none where it is not the base, whose children nobody else has ended.
@@ -109,51 +117,30 @@ impl Levels {
             Some(top) => top.ends,
             None => 0,
         };
-        let mut kept = first;
-        for place in first..self.ends.len() {
-            match self.ends.as_slice().get(place).copied() {
-                Some(end) if end.region != region => {
-                    if let Some(room) = self.ends.as_mut_slice().get_mut(kept) {
-                        *room = end;
-                    }
-                    kept = kept.saturating_add(1);
-                }
-                _ => {}
+        for place in (first..self.ends.len()).rev() {
+            if place < self.ends.len() && self.ends[place].region == region {
+                let _end = self.ends.swap_remove(place);
             }
         }
-        self.ends.truncate(kept);
     }
 
     /// Notes for this worker's stack, which is put on the board, what later events may wait for.
-    pub(crate) fn note(&self, worker: usize, rounds: &mut Rounds) -> Result<(), OutOfMemory> {
+    pub(crate) fn note(&self, worker: usize, rounds: &mut Rounds) {
         let levels = self.levels.as_slice();
         for (place, level) in levels.iter().enumerate() {
             if let Some(round) = level.detached {
                 let task = self.path.as_slice().get(..level.task).unwrap_or(&[]);
-                rounds.leave_ready(task, Instant { worker, round })?;
+                rounds.leave_ready(task, Instant { worker, round });
             }
             let behind = match levels.get(place.saturating_add(1)) {
                 Some(above) => above.ends,
                 None => self.ends.len(),
             };
-            self.note_ends(worker, *level, behind, rounds)?;
+            let frame = self.path.as_slice().get(..level.frame).unwrap_or(&[]);
+            for end in self.ends.as_slice().get(level.ends..behind).unwrap_or(&[]) {
+                let End { region, round } = *end;
+                rounds.end_child(region, frame, Instant { worker, round });
+            }
         }
-        Ok(())
-    }
-
-    /// The same of the ended children of one frame, up to those behind it.
-    fn note_ends(
-        &self,
-        worker: usize,
-        level: Level,
-        behind: usize,
-        rounds: &mut Rounds,
-    ) -> Result<(), OutOfMemory> {
-        let frame = self.path.as_slice().get(..level.frame).unwrap_or(&[]);
-        for end in self.ends.as_slice().get(level.ends..behind).unwrap_or(&[]) {
-            let End { region, round } = *end;
-            rounds.end_child(region, frame, Instant { worker, round })?;
-        }
-        Ok(())
     }
 }

@@ -85,17 +85,15 @@ fn run_by<L: Bench>(
         Keeping::Nothing,
         blank,
     )?;
-    let Ok(places) = places_of(alloc, verified) else {
-        return Err(RunFault::OutOfMemory);
-    };
-    let Ok(stack) = PrivateStack::new(alloc, verified, &places) else {
-        return Err(RunFault::OutOfMemory);
-    };
-    let program = verified.program();
-    match told_along(alloc, program, board, seats, stack, entries, has_scene) {
-        Ok(told) => Ok(told),
-        Err(OutOfMemory) => Err(RunFault::OutOfMemory),
+    if let Ok(places) = places_of(alloc, verified)
+        && let Ok(stack) = PrivateStack::new(alloc, verified, &places)
+    {
+        let program = verified.program();
+        if let Ok(told) = told_along(alloc, program, board, seats, stack, entries, has_scene) {
+            return Ok(told);
+        }
     }
+    Err(RunFault::OutOfMemory)
 }
 
 /// Before the first event.
@@ -104,17 +102,12 @@ pub(crate) fn nothing_told(
     workers: usize,
     has_scene: bool,
 ) -> Result<Told, OutOfMemory> {
-    let none = Tally {
-        instructions: 0,
-        steals: 0,
-    };
-    let scene = if has_scene {
-        Some(Scene::new(alloc, workers)?)
-    } else {
-        None
-    };
+    let mut scene = None;
+    if has_scene {
+        scene = Some(Scene::new(alloc, workers)?);
+    }
     Ok(Told {
-        tallies: vec![in alloc; none; workers]?,
+        tallies: vec![in alloc; Tally::NONE; workers]?,
         rounds: 0,
         scene,
     })

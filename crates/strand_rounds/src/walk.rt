@@ -10,7 +10,7 @@ use shared_run::{
     Bench, Board, Claimed, Entry, Loaded, PrivateStack, Published, Seat, Standing, Stepped, Ticket,
 };
 use std::alloc::Global;
-use view_events::{Act, Moment, Outcome, Rounds};
+use view_events::{Act, Moment, Outcome, Rounds, Tally};
 use view_run::{Event, act_at, after_step, place_if};
 
 /// A run under way: its board, and the stack of the worker whose steps are done now.
@@ -38,20 +38,28 @@ pub(crate) fn told_along<L: Bench>(
     has_scene: bool,
 ) -> Result<Told, OutOfMemory> {
     let workers = seats.len();
-    let mut walk = Walk {
-        alloc,
-        program,
-        runs: Runs::of(alloc, program)?,
-        board,
-        seats,
-        stack,
-        levels: Levels::new(alloc),
-        rounds: Rounds::new(alloc, workers)?,
-        told: nothing_told(alloc, workers, has_scene)?,
-    };
-    walk.go_along(entries)?;
-    walk.told.rounds = last_round(&walk.rounds, workers);
-    Ok(walk.told)
+    if let Ok(runs) = Runs::of(alloc, program)
+        && let Ok(rounds) = Rounds::new(alloc, workers)
+        && let Ok(told) = nothing_told(alloc, workers, has_scene)
+    {
+        let mut walk = Walk {
+            alloc,
+            program,
+            runs,
+            board,
+            seats,
+            stack,
+            levels: Levels::new(alloc),
+            rounds,
+            told,
+        };
+        walk.go_along(entries)?;
+        if !walk.levels.is_refused() && !walk.rounds.is_refused() {
+            walk.told.rounds = last_round(&walk.rounds, workers);
+            return Ok(walk.told);
+        }
+    }
+    Err(OutOfMemory)
 }
 
 impl<L: Bench> Walk<'_, '_, L> {
@@ -101,7 +109,7 @@ impl<L: Bench> Walk<'_, '_, L> {
         }
         let done = self.stack.done().saturating_sub(before);
         if done > 0 {
-            self.pass(worker, ahead, number, done)?;
+            self.pass(worker, ahead, number, done);
             return Ok(done);
         }
         self.make_way(worker, standing)
@@ -125,81 +133,67 @@ impl<L: Bench> Walk<'_, '_, L> {
         let Some(seat) = self.seats.as_slice().get(usize::from(worker)) else {
             return Err(OutOfMemory);
         };
-        match self.board.fetch_base(seat, &mut self.stack) {
-            Loaded::Frame => {}
-            Loaded::Idle | Loaded::OutOfMemory => return Err(OutOfMemory),
-        }
-        let view = self.board.machine().task_of(worker);
-        match place_if(self.alloc, view)? {
-            Some(base) => self.levels.begin(&base),
-            None => Err(OutOfMemory),
+        let loaded = self.board.fetch_base(seat, &mut self.stack);
+        match (loaded, self.board.machine().task_of(worker)) {
+            (Loaded::Frame, Some(base)) => {
+                self.levels.begin(base.path, base.top_path);
+                Ok(())
+            }
+            _ => Err(OutOfMemory),
         }
     }
 
     /// The stack did so many instructions of those ahead. Its top frame had made so many others before.
-    fn pass(
-        &mut self,
-        worker: u8,
-        ahead: Ahead,
-        number: u64,
-        done: u64,
-    ) -> Result<(), OutOfMemory> {
-        self.count_steps(worker, done);
+    fn pass(&mut self, worker: u8, ahead: Ahead, number: u64, done: u64) {
+        self.count(
+            worker,
+            Tally {
+                instructions: done,
+                steals: 0,
+            },
+        );
         let of = usize::from(worker);
-        if done <= ahead.plain {
-            let round = self.rounds.steps(of, done);
-            return self.show_steps(worker, done, round);
-        }
-        if let Then::Sync(region) = ahead.then {
+        if done > ahead.plain
+            && let Then::Sync(region) = ahead.then
+        {
             let _before = self.rounds.steps(of, ahead.plain);
-            self.sync(worker, region);
-            return Ok(());
+            self.sync(of, region);
+            return;
         }
         let round = self.rounds.steps(of, done);
-        self.show_steps(worker, done, round)?;
+        if let Some(scene) = &mut self.told.scene {
+            scene.add_steps(of, done, round);
+        }
+        if done <= ahead.plain {
+            return;
+        }
         match ahead.then {
             Then::Call => self.levels.enter(number, None),
             Then::Detach => self.levels.enter(number, Some(round)),
-            Then::Return => {
-                self.levels.leave();
-                Ok(())
-            }
+            Then::Return => self.levels.leave(),
             Then::Reattach(region) => {
                 self.levels.leave();
-                self.levels.end_child(region, round)
+                self.levels.end_child(region, round);
             }
-            Then::Enter | Then::Zeros | Then::Sync(_) => Ok(()),
+            Then::Enter | Then::Zeros | Then::Sync(_) => {}
         }
     }
 
     /// The stack's top frame passed a sync.
-    fn sync(&mut self, worker: u8, region: usize) {
-        let of = usize::from(worker);
+    fn sync(&mut self, worker: usize, region: usize) {
         if let Some(base) = self.levels.base() {
-            self.rounds.sync(of, region, base);
+            self.rounds.sync(worker, region, base);
         } else {
-            let _round = self.rounds.steps(of, 1);
+            let _round = self.rounds.steps(worker, 1);
         }
         self.levels.sync(region);
     }
 
-    /// So many steps of the worker, up to this round, in the picture.
-    fn show_steps(&mut self, worker: u8, count: u64, round: u64) -> Result<(), OutOfMemory> {
-        match &mut self.told.scene {
-            Some(scene) => scene.add_steps(usize::from(worker), count, round),
-            None => Ok(()),
-        }
-    }
-
-    /// The worker did so many instructions.
-    fn count_steps(&mut self, worker: u8, count: u64) {
-        if let Some(tally) = self
-            .told
-            .tallies
-            .as_mut_slice()
-            .get_mut(usize::from(worker))
-        {
-            tally.instructions = tally.instructions.saturating_add(count);
+    /// The worker did so much more.
+    fn count(&mut self, worker: u8, more: Tally) {
+        let tallies = self.told.tallies.as_mut_slice();
+        if let Some(tally) = tallies.get_mut(usize::from(worker)) {
+            *tally = tally.plus(more);
         }
     }
 
@@ -213,7 +207,7 @@ impl<L: Bench> Walk<'_, '_, L> {
                 Published::Done => {}
                 Published::Stranger | Published::OutOfMemory => return Err(OutOfMemory),
             }
-            self.levels.note(usize::from(worker), &mut self.rounds)?;
+            self.levels.note(usize::from(worker), &mut self.rounds);
         }
         self.stack.clear();
         Ok(())
@@ -238,16 +232,18 @@ impl<L: Bench> Walk<'_, '_, L> {
             Stepped::Idle | Stepped::OutOfMemory => return Err(OutOfMemory),
         }
         let outcome = after_step(self.alloc, self.board.machine(), worker, &place)?;
-        self.count_steps(worker, 1);
-        self.tell(
-            &Event::Step(worker),
-            &Moment {
-                place: Some(place),
-                act,
-                outcome,
-                change: None,
-            },
-        )?;
+        let done = Tally {
+            instructions: 1,
+            steals: 0,
+        };
+        self.count(worker, done);
+        let moment = Moment {
+            place: Some(place),
+            act,
+            outcome,
+            change: None,
+        };
+        self.tell(&Event::Step(worker), &moment);
         Ok(1)
     }
 
@@ -265,32 +261,27 @@ impl<L: Bench> Walk<'_, '_, L> {
             Claimed::Taken => {}
             Claimed::Gone | Claimed::OutOfMemory => return Err(OutOfMemory),
         }
-        if let Some(tally) = self
-            .told
-            .tallies
-            .as_mut_slice()
-            .get_mut(usize::from(worker))
-        {
-            tally.steals = tally.steals.saturating_add(1);
-        }
-        let task = path.copy(self.alloc)?;
-        self.tell(
-            &Event::Steal(worker, task),
-            &Moment {
-                place,
-                act: Act::Plain,
-                outcome: Outcome::GoesOn,
-                change: None,
-            },
-        )
+        let done = Tally {
+            instructions: 0,
+            steals: 1,
+        };
+        self.count(worker, done);
+        let event = Event::Steal(worker, path.copy(self.alloc)?);
+        let moment = Moment {
+            place,
+            act: Act::Plain,
+            outcome: Outcome::GoesOn,
+            change: None,
+        };
+        self.tell(&event, &moment);
+        Ok(())
     }
 
     /// An event that the board did.
-    fn tell(&mut self, event: &Event, moment: &Moment) -> Result<(), OutOfMemory> {
-        let timing = self.rounds.next(event, moment)?;
+    fn tell(&mut self, event: &Event, moment: &Moment) {
+        let timing = self.rounds.next(event, moment);
         if let Some(scene) = &mut self.told.scene {
-            scene.add(event, moment, timing)?;
+            scene.add(event, moment, timing);
         }
-        Ok(())
     }
 }

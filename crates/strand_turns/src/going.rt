@@ -13,12 +13,6 @@ const DEEP: usize = 4;
 /// More pauses than the slices of a strand make.
 const MOST_PAUSES: u32 = 1_000;
 
-/// Whether others wait for a task that the strand would leave ready, and it is not too soon.
-fn is_asked<L: Bench, H: Hunger>(wanted: &H, stack: &PrivateStack<'_, L>, habits: &Habits) -> bool {
-    let is_deep = DEEP <= stack.frames_below();
-    wanted.is_there() && stack.has_ready_frame() && habits.pace.is_due(stack.done(), is_deep)
-}
-
 /// Goes on to where something is wanted of the board: what that is.
 fn next_want<L: Bench, H: Hunger>(
     stack: &mut PrivateStack<'_, L>,
@@ -27,35 +21,29 @@ fn next_want<L: Bench, H: Hunger>(
 ) -> Want {
     for _ in 0..MOST_PAUSES {
         let slice = stack.done().clamp(SHORTEST_SLICE, LONGEST_SLICE);
-        match stack.advance(slice) {
-            Standing::Border => {
-                return Want::Post {
-                    reason: Reason::Border,
-                };
-            }
+        let reason = match stack.advance(slice) {
+            Standing::Border => Reason::Border,
+            Standing::Full => Reason::Full,
             Standing::Spoilt => return Want::Leave,
             Standing::Blank => return Want::Base,
             Standing::Need { at } => return Want::Page { at },
-            Standing::Full => {
-                return Want::Post {
-                    reason: Reason::Full,
-                };
-            }
             Standing::Going if wanted.is_over() => return Want::Nothing,
             Standing::Going => {
-                let done = stack.done();
-                if done == MOST_INSTRUCTIONS || habits.heights.is_low(done, stack.frames_below()) {
-                    return Want::Post {
-                        reason: Reason::Limit,
-                    };
-                }
-                if is_asked(wanted, stack, habits) {
-                    return Want::Post {
-                        reason: Reason::Asked,
-                    };
+                let (done, frames) = (stack.done(), stack.frames_below());
+                if done == MOST_INSTRUCTIONS || habits.heights.is_low(done, frames) {
+                    Reason::Limit
+                } else if wanted.is_there()
+                    && stack.has_ready_frame()
+                    && habits.pace.is_due(done, DEEP <= frames)
+                {
+                    // Others wait for a task that the strand would leave ready, and it is not too soon.
+                    Reason::Asked
+                } else {
+                    continue;
                 }
             }
-        }
+        };
+        return Want::Post { reason };
     }
     Want::Post {
         reason: Reason::Limit,

@@ -33,6 +33,8 @@ pub struct Habits {
     pub(crate) heights: Heights,
     /// Room for the tickets of one publication.
     pub(crate) tickets: Vec<Ticket>,
+    /// How many tasks it has offered to others in this meeting.
+    pub(crate) offered: usize,
     /// The times that it looked for a task in vain, one after the other.
     pub(crate) vain: u32,
     /// Whether its frame was just loaded.
@@ -48,6 +50,7 @@ impl Habits {
             trail: Trail::new(),
             heights: Heights::none_seen(),
             tickets: Vec::new(alloc),
+            offered: 0,
             vain: 0,
             is_new: false,
         }
@@ -55,7 +58,7 @@ impl Habits {
 
     /// It offers no task in its next so many instructions, where it is not made to by a border or a limit.
     pub fn keep_quiet(&mut self, instructions: u64) {
-        self.pace.keep_quiet(instructions);
+        self.pace.quiet = instructions;
     }
 
     /// Whether a strand begins: its frame was loaded, and it has not gone on since.

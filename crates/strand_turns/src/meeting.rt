@@ -4,10 +4,10 @@ use crate::tasks::{Reason, Tasks, Told};
 use shared_run::{Bench, Board, Claimed, Loaded, PrivateStack, Published, Seat, Standing, Stepped};
 
 /// A strand that begins behind a border and comes to another within so many instructions, as those that end a frame do, is put on the board before the lock
-/// is let go, so many one after the other; it may need the cells of so many pages.
+/// is let go, so many one after the other with the first one; it may need the cells of so many pages.
 const SHORT: u64 = 16;
 
-const SHORT_FRAMES: u32 = 16;
+const MOST_STRANDS: u32 = 17;
 
 const SHORT_PAGES: u32 = 4;
 
@@ -18,7 +18,7 @@ const MOST_TICKETS: u32 = 64;
 const RARELY: u32 = 64;
 
 /// What a worker is to do when it has met the board.
-#[derive(Clone, Copy, PartialEq, Eq)]
+#[derive(Clone, Copy)]
 pub enum Met {
     /// Go on outside: call `turn`.
     Work,
@@ -30,50 +30,20 @@ pub enum Met {
     OutOfMemory,
 }
 
-/// What became of a strand that was to be put on the board.
-#[derive(Clone, Copy)]
-enum Posted {
-    /// It was done, and the worker has a task.
-    After,
-    /// The same, and it has none now.
-    Idle,
-    /// `main` has returned.
-    Ended,
-    /// It was done for nothing.
-    Stranger,
-    /// Memory was refused.
-    Starved,
-}
-
-/// Loads the frame that the worker runs next.
+/// Loads the frame that the worker runs next, where it runs one.
 fn load<L: Bench>(
     board: &Board<'_, L>,
     seat: &Seat<L>,
     stack: &mut PrivateStack<'_, L>,
     habits: &mut Habits,
-) -> Loaded {
+) -> Met {
     habits.heights = Heights::none_seen();
     habits.is_new = true;
-    board.fetch_base(seat, stack)
-}
-
-/// Puts on the board what the stack has done. The worker has the tickets of the tasks that are ready then.
-fn publish<L: Bench>(
-    board: &mut Board<'_, L>,
-    seat: &mut Seat<L>,
-    stack: &PrivateStack<'_, L>,
-    habits: &mut Habits,
-) -> Published {
-    habits.tickets.clear();
-    if stack.done() == 0 {
-        return Published::Done;
+    match board.fetch_base(seat, stack) {
+        Loaded::Frame => Met::Work,
+        Loaded::Idle => Met::Idle,
+        Loaded::OutOfMemory => Met::OutOfMemory,
     }
-    let published = board.publish(seat, stack);
-    if published == Published::Done {
-        // A task without a ticket is still found at the board.
-        let _ = board.ready_tickets(seat, stack.frames_below(), &mut habits.tickets);
-    }
-    published
 }
 
 /// The border's step. A child that ends takes its parent on, where no other worker has.
@@ -83,8 +53,7 @@ fn step_over<L: Bench, T: Tasks>(
     seat: &mut Seat<L>,
     stack: &PrivateStack<'_, L>,
     habits: &mut Habits,
-    offered: &mut usize,
-) -> Posted {
+) -> Met {
     let me = seat.worker();
     let parent = board.machine().ready_parent(me);
     match board.step(seat) {
@@ -92,7 +61,7 @@ fn step_over<L: Bench, T: Tasks>(
             tasks.note(Told::Step);
             if let Some(ticket) = ready {
                 tasks.offer(me, ticket);
-                *offered = offered.saturating_add(1);
+                habits.offered = habits.offered.saturating_add(1);
             }
             if stack.is_at_reattach() {
                 match parent {
@@ -104,22 +73,21 @@ fn step_over<L: Bench, T: Tasks>(
                 }
             }
             if idle {
-                tasks.rest();
+                tasks.note(Told::Rest);
             }
-            if ended {
-                Posted::Ended
-            } else if idle {
-                Posted::Idle
-            } else {
-                Posted::After
+            match (ended, idle) {
+                (true, _) => Met::Ended,
+                (false, true) => Met::Idle,
+                (false, false) => Met::Work,
             }
         }
-        Stepped::Idle => Posted::Stranger,
-        Stepped::OutOfMemory => Posted::Starved,
+        Stepped::Idle => Met::Work,
+        Stepped::OutOfMemory => Met::OutOfMemory,
     }
 }
 
-/// Puts the worker's strand on the board, with the border's step where it stands at one, and tasks the tasks that it leaves ready.
+/// Puts the worker's strand on the board, with the border's step where it stands at one, and offers the tasks that it leaves ready. The worker goes on too
+/// where the strand was done for nothing.
 fn put<L: Bench, T: Tasks>(
     board: &mut Board<'_, L>,
     tasks: &mut T,
@@ -127,51 +95,35 @@ fn put<L: Bench, T: Tasks>(
     stack: &PrivateStack<'_, L>,
     habits: &mut Habits,
     reason: Reason,
-    offered: &mut usize,
-) -> Posted {
-    match publish(board, seat, stack, habits) {
-        Published::Done => {}
-        Published::Stranger => {
-            tasks.note(Told::Stranger);
-            return Posted::Stranger;
+) -> Met {
+    let (me, instructions) = (seat.worker(), stack.done());
+    habits.tickets.clear();
+    if instructions > 0 {
+        match board.publish(seat, stack) {
+            Published::Done => {
+                // A task without a ticket is still found at the board.
+                let _ = board.ready_tickets(seat, stack.frames_below(), &mut habits.tickets);
+            }
+            Published::Stranger => {
+                tasks.note(Told::Stranger);
+                return Met::Work;
+            }
+            Published::OutOfMemory => return Met::OutOfMemory,
         }
-        Published::OutOfMemory => return Posted::Starved,
     }
     tasks.note(Told::Publication {
-        instructions: stack.done(),
+        instructions,
         reason,
     });
-    if reason == Reason::Asked {
-        habits.pace.note_offer(habits.tickets.len());
-    } else {
-        habits.pace.note(stack.done());
-    }
-    let me = seat.worker();
+    let tasks_left = habits.tickets.len();
+    habits.pace.note(instructions, reason, tasks_left);
+    habits.offered = habits.offered.saturating_add(tasks_left);
     for ticket in habits.tickets.as_slice() {
         tasks.offer(me, *ticket);
     }
-    *offered = offered.saturating_add(habits.tickets.len());
-    if reason == Reason::Border {
-        step_over(board, tasks, seat, stack, habits, offered)
-    } else {
-        Posted::After
-    }
-}
-
-/// Loads the frame that the worker runs next, where it runs one.
-fn load_next<L: Bench>(
-    board: &Board<'_, L>,
-    seat: &Seat<L>,
-    stack: &mut PrivateStack<'_, L>,
-    habits: &mut Habits,
-    posted: Posted,
-) {
-    stack.clear();
-    match posted {
-        Posted::After | Posted::Stranger => {
-            let _loaded = load(board, seat, stack, habits);
-        }
-        Posted::Idle | Posted::Ended | Posted::Starved => {}
+    match reason {
+        Reason::Border => step_over(board, tasks, seat, stack, habits),
+        _ => Met::Work,
     }
 }
 
@@ -199,49 +151,26 @@ fn put_all<L: Bench, T: Tasks>(
     stack: &mut PrivateStack<'_, L>,
     habits: &mut Habits,
     reason: Reason,
-    offered: &mut usize,
-) -> Posted {
-    let mut posted = put(board, tasks, seat, stack, habits, reason, offered);
-    load_next(board, seat, stack, habits, posted);
-    if reason != Reason::Border {
-        return posted;
-    }
-    for _frame in 0..SHORT_FRAMES {
-        if !comes_to_border(board, stack) {
+) -> Met {
+    let most = match reason {
+        Reason::Border => MOST_STRANDS,
+        _ => 1,
+    };
+    let mut met = Met::Work;
+    for strand in 0..most {
+        if strand > 0 && !comes_to_border(board, stack) {
             break;
         }
-        posted = put(board, tasks, seat, stack, habits, Reason::Border, offered);
-        load_next(board, seat, stack, habits, posted);
-    }
-    posted
-}
-
-/// Claims a task by its ticket, or the first that is ready where `ticket` is none, and loads it.
-fn claim<L: Bench, T: Tasks>(
-    board: &mut Board<'_, L>,
-    tasks: &mut T,
-    seat: &mut Seat<L>,
-    stack: &mut PrivateStack<'_, L>,
-    habits: &mut Habits,
-    ticket: Option<shared_run::Ticket>,
-) -> Claimed {
-    let claimed = match ticket {
-        Some(ticket) => board.claim(seat, ticket),
-        None => board.claim_first(seat),
-    };
-    if let Claimed::Taken = claimed {
-        tasks.claim();
-        tasks.note(Told::Steal);
-        habits.pace.note_task();
-        habits.vain = 0;
+        met = put(board, tasks, seat, stack, habits, reason);
         stack.clear();
-        let _loaded = load(board, seat, stack, habits);
-        habits.want = Want::Nothing;
+        if let Met::Work = met {
+            let _loaded = load(board, seat, stack, habits);
+        }
     }
-    claimed
+    met
 }
 
-/// Looks for a task.
+/// Looks for a task, by the tickets of those that were offered and rarely without one, and loads it.
 fn search<L: Bench, T: Tasks>(
     board: &mut Board<'_, L>,
     tasks: &mut T,
@@ -249,68 +178,32 @@ fn search<L: Bench, T: Tasks>(
     stack: &mut PrivateStack<'_, L>,
     habits: &mut Habits,
 ) -> Met {
-    let me = seat.worker();
     for _try in 0..MOST_TICKETS {
-        let ticket = tasks.next(me);
-        if ticket.is_none() {
-            habits.vain = habits.vain.saturating_add(1);
-            if habits.vain % RARELY != 0 {
-                return Met::Idle;
+        let (claimed, is_last) = match tasks.next(seat.worker()) {
+            Some(ticket) => (board.claim(seat, ticket), false),
+            None => {
+                habits.vain = habits.vain.saturating_add(1);
+                if habits.vain % RARELY != 0 {
+                    return Met::Idle;
+                }
+                (board.claim_first(seat), true)
             }
-        }
-        match claim(board, tasks, seat, stack, habits, ticket) {
-            Claimed::Taken => return Met::Work,
-            Claimed::Gone if ticket.is_some() => {}
-            Claimed::Gone => return Met::Idle,
+        };
+        match claimed {
+            Claimed::Taken => {
+                tasks.note(Told::Steal);
+                habits.pace.note_task();
+                habits.vain = 0;
+                stack.clear();
+                let _loaded = load(board, seat, stack, habits);
+                return Met::Work;
+            }
+            Claimed::Gone if is_last => return Met::Idle,
+            Claimed::Gone => {}
             Claimed::OutOfMemory => return Met::OutOfMemory,
         }
     }
     Met::Idle
-}
-
-/// Puts a strand on the board, and whatever comes next.
-fn post<L: Bench, T: Tasks>(
-    board: &mut Board<'_, L>,
-    tasks: &mut T,
-    seat: &mut Seat<L>,
-    stack: &mut PrivateStack<'_, L>,
-    habits: &mut Habits,
-    reason: Reason,
-    offered: &mut usize,
-) -> Met {
-    match put_all(board, tasks, seat, stack, habits, reason, offered) {
-        Posted::After | Posted::Stranger => {
-            habits.want = Want::Nothing;
-            Met::Work
-        }
-        Posted::Idle => {
-            habits.want = Want::Task;
-            search(board, tasks, seat, stack, habits)
-        }
-        Posted::Ended => Met::Ended,
-        Posted::Starved => Met::OutOfMemory,
-    }
-}
-
-/// Loads the frame that the worker runs next; where it runs none it looks for a task.
-fn load_base<L: Bench, T: Tasks>(
-    board: &mut Board<'_, L>,
-    tasks: &mut T,
-    seat: &mut Seat<L>,
-    stack: &mut PrivateStack<'_, L>,
-    habits: &mut Habits,
-) -> Met {
-    match load(board, seat, stack, habits) {
-        Loaded::Frame => {
-            habits.want = Want::Nothing;
-            Met::Work
-        }
-        Loaded::Idle => {
-            habits.want = Want::Task;
-            search(board, tasks, seat, stack, habits)
-        }
-        Loaded::OutOfMemory => Met::OutOfMemory,
-    }
 }
 
 /// Does what is wanted.
@@ -320,34 +213,34 @@ fn serve<L: Bench, T: Tasks>(
     seat: &mut Seat<L>,
     stack: &mut PrivateStack<'_, L>,
     habits: &mut Habits,
-    offered: &mut usize,
 ) -> Met {
     match habits.want {
         Want::Nothing => Met::Work,
         Want::Leave => Met::OutOfMemory,
-        Want::Task => search(board, tasks, seat, stack, habits),
+        Want::Task => Met::Idle,
+        Want::Base => load(board, seat, stack, habits),
         Want::Begin => {
-            if board.machine().depth_of(seat.worker()).is_some() {
-                tasks.begin();
+            let met = load(board, seat, stack, habits);
+            if let Met::Work = met {
+                tasks.note(Told::Begin);
             }
-            load_base(board, tasks, seat, stack, habits)
+            met
         }
-        Want::Base => load_base(board, tasks, seat, stack, habits),
         Want::Page { at } => {
             let ahead = habits.trail.note(stack, at);
             if board.fetch_need(stack) {
                 ahead.fetch(board, stack);
-                habits.want = Want::Nothing;
                 Met::Work
             } else {
-                post(board, tasks, seat, stack, habits, Reason::Limit, offered)
+                put_all(board, tasks, seat, stack, habits, Reason::Limit)
             }
         }
-        Want::Post { reason } => post(board, tasks, seat, stack, habits, reason, offered),
+        Want::Post { reason } => put_all(board, tasks, seat, stack, habits, reason),
     }
 }
 
-/// Does at the board what the worker wants of it. The second answer is how many tasks were offered to others.
+/// Does at the board what the worker wants of it; where that leaves it without a task it looks for one. The second answer is how many tasks were offered to
+/// others.
 pub fn meet<L: Bench, T: Tasks>(
     board: &mut Board<'_, L>,
     tasks: &mut T,
@@ -358,7 +251,14 @@ pub fn meet<L: Bench, T: Tasks>(
     if board.end() {
         return (Met::Ended, 0);
     }
-    let mut offered = 0;
-    let met = serve(board, tasks, seat, stack, habits, &mut offered);
-    (met, offered)
+    habits.offered = 0;
+    let mut met = serve(board, tasks, seat, stack, habits);
+    if let Met::Idle = met {
+        habits.want = Want::Task;
+        met = search(board, tasks, seat, stack, habits);
+    }
+    if let Met::Work = met {
+        habits.want = Want::Nothing;
+    }
+    (met, habits.offered)
 }

@@ -59,19 +59,6 @@ impl Offers {
 }
 
 impl Tasks for Offers {
-    fn rest(&mut self) {
-        self.idle = self.idle.saturating_add(1);
-    }
-
-    fn begin(&mut self) {
-        self.idle = self.idle.saturating_sub(1);
-    }
-
-    fn claim(&mut self) {
-        self.ready = self.ready.saturating_sub(1);
-        self.idle = self.idle.saturating_sub(1);
-    }
-
     fn offer(&mut self, worker: u8, ticket: Ticket) {
         self.ready = self.ready.saturating_add(1);
         if let Some(list) = self.lists.get_mut(usize::from(worker)) {
@@ -107,5 +94,14 @@ impl Tasks for Offers {
         None
     }
 
-    fn note(&mut self, _told: Told) {}
+    fn note(&mut self, told: Told) {
+        if let Told::Steal = told {
+            self.ready = self.ready.saturating_sub(1);
+        }
+        match told {
+            Told::Rest => self.idle = self.idle.saturating_add(1),
+            Told::Begin | Told::Steal => self.idle = self.idle.saturating_sub(1),
+            Told::Publication { .. } | Told::Step | Told::Stranger => {}
+        }
+    }
 }

@@ -1,7 +1,7 @@
 use shared_run::Ticket;
 
 /// Where a strand is put on the board.
-#[derive(Clone, Copy, PartialEq, Eq)]
+#[derive(Clone, Copy)]
 pub enum Reason {
     /// Next is what only the board can do.
     Border,
@@ -22,8 +22,12 @@ pub enum Told {
     Step,
     /// A strand was done for nothing.
     Stranger,
-    /// It took a task.
+    /// It had no task, and took one that was ready.
     Steal,
+    /// It has a task that was not ready.
+    Begin,
+    /// It has no task any more.
+    Rest,
 }
 
 /// Where workers leave the tickets of ready tasks for one another, and what tells how many of them have no task. Nothing rests on it.
@@ -36,15 +40,6 @@ pub trait Tasks {
 
     /// A ticket that is to be claimed.
     fn next(&mut self, worker: u8) -> Option<Ticket>;
-
-    /// A worker has no task any more.
-    fn rest(&mut self);
-
-    /// A worker has a task that was not ready.
-    fn begin(&mut self);
-
-    /// A worker that had no task has one that was ready.
-    fn claim(&mut self);
 
     fn note(&mut self, told: Told);
 }

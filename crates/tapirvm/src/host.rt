@@ -1,12 +1,10 @@
 //! The program over its words, files and streams.
 
 use crate::clocks::microseconds_since;
-use crate::data::{read_load, write_dumps};
+use crate::files::{Texts, complain, read_load, read_texts, write_files};
 use crate::requests::act;
-use crate::times::tell_times;
-use cli_words::{
-    Beside, Question, Request, Status, WordsFault, read_file, text_of, words, write_file,
-};
+use crate::times::Took;
+use cli_words::{Beside, Question, Request, Status, WordsFault, text_of, words};
 use std::env::FillError;
 use std::hash::RandomState;
 use std::io;
@@ -28,50 +26,22 @@ pub struct Terminals {
     pub errors: bool,
 }
 
-/// The files that a request names, each with why it could not be read.
-#[derive(Drop)]
-struct Texts {
-    module: io::Result<Vec<u8>>,
-    /// None where the verb takes no schedule.
-    schedule: Option<io::Result<Vec<u8>>>,
-}
-
-/// A word of the command line by its place; none behind the last.
-fn read_argument<R: AllocGlobal + Env>(
-    rt: &R,
-    place: usize,
-    room: &mut [u8],
-) -> io::Result<Option<String>> {
-    match rt.arg(place, room) {
-        Ok(length) => {
-            let word = room.get(..length).unwrap_or(b"");
-            Ok(Some(text_of(rt.alloc(), word)?))
-        }
-        Err(FillError::NotPresent) => Ok(None),
-        Err(FillError::TooLong) => Err(io::Error::from(ErrorKind::InvalidInput)),
-    }
-}
-
 /// The texts of the command line's words, the program's own name first.
 fn read_words<R: AllocGlobal + Env>(rt: &R) -> io::Result<Vec<String>> {
     let alloc = rt.alloc();
     let mut room = vec![in alloc; 0u8; WORD_ROOM]?;
     let mut texts = Vec::new(alloc);
-    for i in 0..usize::MAX {
-        match read_argument(rt, i, room.as_mut_slice())? {
-            Some(text) => texts.push(text)?,
-            None => break,
+    for place in 0..usize::MAX {
+        match rt.arg(place, room.as_mut_slice()) {
+            Ok(length) => {
+                let word = room.as_slice().get(..length).unwrap_or(b"");
+                texts.push(text_of(alloc, word)?)?;
+            }
+            Err(FillError::NotPresent) => break,
+            Err(FillError::TooLong) => return Err(io::Error::from(ErrorKind::InvalidInput)),
         }
     }
     Ok(texts)
-}
-
-/// Says on standard error what went wrong. Where that fails too the status alone tells.
-pub(crate) fn complain(rt: &impl Eprint, subject: &str, error: &io::Error) {
-    let _ = rt.eprint("error: ");
-    let _ = rt.eprint(subject);
-    let _ = rt.eprint(": ");
-    let _ = rt.eprintln(error);
 }
 
 /// Says that memory was refused.
@@ -114,47 +84,6 @@ fn explain_status(rt: &impl Eprint, request: &Request, status: u8, texts: &Texts
     }
 }
 
-/// Writes the files that are asked for, up to one that cannot be written; want of memory is no such reason.
-fn write_asked<R: AllocGlobal + Eprint + Files>(rt: &R, beside: &Beside) -> io::Result<Status> {
-    for file in &beside.files {
-        match write_file(rt, file.word.as_str(), file.text.as_str()) {
-            Ok(()) => {}
-            Err(error) if error.kind() == ErrorKind::OutOfMemory => return Err(error),
-            Err(error) => {
-                complain(rt, file.word.as_str(), &error);
-                return Ok(Status::Stream);
-            }
-        }
-    }
-    Ok(Status::Done)
-}
-
-/// The text of the file that a word names, or why it cannot be read; want of memory is no such reason.
-fn read_word<R: AllocGlobal + Files>(rt: &R, word: &str) -> io::Result<io::Result<Vec<u8>>> {
-    match read_file(rt, word) {
-        Err(error) if error.kind() == ErrorKind::OutOfMemory => Err(error),
-        read => Ok(read),
-    }
-}
-
-/// Reads the schedule that a request names.
-fn read_schedule<R: AllocGlobal + Files>(
-    rt: &R,
-    request: &Request,
-) -> io::Result<Option<io::Result<Vec<u8>>>> {
-    match &request.schedule {
-        Some(file) => Ok(Some(read_word(rt, file.as_str())?)),
-        None => Ok(None),
-    }
-}
-
-/// Reads the files that a request names.
-fn read_texts<R: AllocGlobal + Files>(rt: &R, request: &Request) -> io::Result<Texts> {
-    let module = read_word(rt, request.file.as_str())?;
-    let schedule = read_schedule(rt, request)?;
-    Ok(Texts { module, schedule })
-}
-
 /// Does what is asked over the files, writes standard output and answers the status.
 fn answer<R: AllocGlobal + Clock + Eprint + Input + Print + RandomSource + Sync + Threads + Wait>(
     rt: &R,
@@ -176,14 +105,6 @@ fn answer<R: AllocGlobal + Clock + Eprint + Input + Print + RandomSource + Sync 
     Ok(finish(rt, status, output))
 }
 
-/// Writes all files that are asked for, texts first.
-fn write_files<R: AllocGlobal + Eprint + Files>(rt: &R, beside: &Beside) -> io::Result<Status> {
-    match write_asked(rt, beside)? {
-        Status::Done => write_dumps(rt, beside),
-        status => Ok(status),
-    }
-}
-
 /// Tells what stands beside standard output, and answers the status.
 fn tell_beside<R: AllocGlobal + Eprint + Files>(
     rt: &R,
@@ -198,7 +119,7 @@ fn tell_beside<R: AllocGlobal + Eprint + Files>(
         return Ok(status);
     }
     if request.is_timed {
-        tell_times(rt, &beside.times);
+        let _ = rt.eprintln(&Took(beside.times));
     }
     Ok(write_files(rt, beside)? as u8)
 }

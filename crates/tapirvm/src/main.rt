@@ -2,11 +2,11 @@
 //!
 //! [`run`](host::run) is all that the program does: it reads words and files, obeys, and answers the status. Below it, `words` of `cli_words` makes a request
 //! of a command line, and [`act`](requests::act) answers a `Question`, a request over the bytes of files: a run on workers, each on a thread of its own, by
-//! itself, all else by `cli_answers`.
+//! itself, all else by `cli_answers` and `cli_verbs`.
 #![tactic(auto)]
 
 mod clocks;
-mod data;
+mod files;
 mod host;
 mod recorded;
 mod requests;

@@ -2,14 +2,12 @@
 
 use crate::clocks::microseconds_since;
 use cli_runs::{
-    Course, Event, Finished, Job, Machine, page_of, prepared, print_run, print_told,
-    print_unprepared, tell_course,
+    Course, Event, Finished, Halt, Job, Machine, page_of, prepared, print_told, tell_course,
 };
 use cli_words::{Beside, Status};
 use deque_pool::{Entry, Figures, OpenGate, Recorded, run_recorded};
 use lists::{ListBuffer, OutOfMemory, TextBuffer};
 use std::alloc::{AllocError, Global};
-use std::io;
 use std::io::Write;
 use std::sync::Wait;
 use std::thread::Threads;
@@ -108,77 +106,55 @@ fn script_of(alloc: Global, entries: &[Entry]) -> Result<Option<String>, AllocEr
 }
 
 /// The lines of the figures and the picture, as far as they are asked for: the strands are done once more.
-fn drawn<W: Write>(
+fn draw(
     job: &Job<'_>,
     entries: &[Entry],
     crew: Crew<'_>,
     shown: &mut Told,
-    output: &mut W,
     beside: &mut Beside,
-) -> io::Result<Status> {
+) -> Result<(), Halt> {
     let telling = &job.request.telling;
-    let memory = match prepared(job, beside) {
-        Ok(memory) => memory,
-        Err(status) => return print_unprepared(status, output),
-    };
-    let (args, workers) = (job.request.args.as_slice(), job.request.workers);
-    let has_scene = telling.picture.is_some();
-    let run = match run_again(
-        job.alloc,
-        job.verified,
-        args,
-        memory,
-        workers,
-        entries,
-        has_scene,
-    ) {
-        Ok(run) => run,
-        Err(fault) => return job.print_run_fault(&fault, output, beside),
-    };
+    let memory = prepared(job, beside)?;
     let Replayed {
         tallies,
         rounds,
         scene,
-    } = run;
-    let Ok(picture) = picture_of(job.alloc, scene) else {
-        return Err(io::Error::from(AllocError));
-    };
-    shown.picture = picture;
+    } = run_again(
+        job.alloc,
+        job.verified,
+        job.request.args.as_slice(),
+        memory,
+        job.request.workers,
+        entries,
+        telling.picture.is_some(),
+    )?;
+    shown.picture = picture_of(job.alloc, scene)?;
     if telling.stats {
         let mut lines = TextBuffer::new(job.alloc);
         Table::of(tallies, rounds).push_lines(&mut lines, crew);
         shown.stats = lines.finish()?;
     }
-    Ok(Status::Done)
+    Ok(())
 }
 
 /// The page, which tells the first events.
-fn paged<W: Write>(
+fn page<W: Write>(
     job: &Job<'_>,
     entries: &[Entry],
     finished: &Finished,
-    shown: &mut Told,
+    events: u64,
     output: &mut W,
     beside: &mut Beside,
-) -> io::Result<Status> {
-    let memory = match prepared(job, beside) {
-        Ok(memory) => memory,
-        Err(status) => return print_unprepared(status, output),
-    };
-    let mut events = Kept::of(job.alloc, entries, MOST_EVENTS);
+) -> Result<Option<String>, Halt> {
+    let memory = prepared(job, beside)?;
+    let mut course = Kept::of(job.alloc, entries, MOST_EVENTS);
     let whole = Whole {
-        untold: shown.events.saturating_sub(MOST_EVENTS),
+        untold: events.saturating_sub(MOST_EVENTS),
         result: finished.result,
         instructions: finished.instructions,
         peak: finished.peak,
     };
-    match page_of(job, memory, &mut events, whole, output)? {
-        Ok(page) => {
-            shown.page = page;
-            Ok(Status::Done)
-        }
-        Err(fault) => job.print_run_fault(&fault, output, beside),
-    }
+    page_of(job, memory, &mut course, whole, output)
 }
 
 /// Tells of a run of which not each event is shown.
@@ -188,7 +164,7 @@ fn tell_strands<W: Write>(
     crew: Crew<'_>,
     output: &mut W,
     beside: &mut Beside,
-) -> io::Result<Status> {
+) -> Result<Status, Halt> {
     let telling = &job.request.telling;
     let entries = run.history.entries().unwrap_or(&[]);
     let mut shown = Told {
@@ -200,16 +176,10 @@ fn tell_strands<W: Write>(
         page: None,
     };
     if telling.page.is_some() {
-        match paged(job, entries, &run.finished, &mut shown, output, beside)? {
-            Status::Done => {}
-            status => return Ok(status),
-        }
+        shown.page = page(job, entries, &run.finished, shown.events, output, beside)?;
     }
     if telling.stats || telling.picture.is_some() {
-        match drawn(job, entries, crew, &mut shown, output, beside)? {
-            Status::Done => {}
-            status => return Ok(status),
-        }
+        draw(job, entries, crew, &mut shown, beside)?;
     }
     if telling.save.is_some() {
         shown.script = script_of(job.alloc, entries)?;
@@ -224,7 +194,7 @@ fn tell_recorded<W: Write>(
     microseconds: u64,
     output: &mut W,
     beside: &mut Beside,
-) -> io::Result<Status> {
+) -> Result<Status, Halt> {
     let efforts = efforts_of(job.alloc, run.figures.as_slice())?;
     let crew = Crew {
         efforts: efforts.as_slice(),
@@ -233,10 +203,7 @@ fn tell_recorded<W: Write>(
     if !job.request.telling.trace && job.request.telling.json.is_none() {
         return tell_strands(job, run, crew, output, beside);
     }
-    let memory = match prepared(job, beside) {
-        Ok(memory) => memory,
-        Err(status) => return print_unprepared(status, output),
-    };
+    let memory = prepared(job, beside)?;
     let entries = run.history.entries().unwrap_or(&[]);
     let mut events = Kept::of(job.alloc, entries, u64::MAX);
     tell_course(job, memory, &mut events, crew, output, beside)
@@ -248,26 +215,18 @@ pub fn run_told<T: Threads + Wait + Clock + Sync, W: Write>(
     job: &Job<'_>,
     output: &mut W,
     beside: &mut Beside,
-) -> io::Result<Status> {
-    let memory = match prepared(job, beside) {
-        Ok(memory) => memory,
-        Err(status) => return print_unprepared(status, output),
-    };
-    let args = job.request.args.as_slice();
-    let workers = job.request.workers;
+) -> Result<Status, Halt> {
+    let memory = prepared(job, beside)?;
     let begun = Instant::now(rt)?;
     let run = run_recorded(
         rt,
         job.alloc,
         job.verified,
-        args,
+        job.request.args.as_slice(),
         memory,
-        workers,
+        job.request.workers,
         &OpenGate,
     );
     let took = microseconds_since(rt, begun)?;
-    match run {
-        Ok(recorded) => tell_recorded(job, recorded, took, output, beside),
-        Err(fault) => print_run(job, &Err(fault), output, beside),
-    }
+    tell_recorded(job, run?, took, output, beside)
 }

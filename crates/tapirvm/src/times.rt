@@ -15,19 +15,20 @@ impl fmt::Display for Seconds {
     }
 }
 
-/// How many instructions were done in a second, at this rate.
-fn rate_of(times: &Times) -> u64 {
-    times.instructions.saturating_mul(1_000_000) / times.running.max(1)
-}
+/// What each part of a request took, and how many instructions were done in a second.
+#[derive(Clone, Copy)]
+pub struct Took(pub Times);
 
-/// Says on standard error what the request took. Where that fails nothing is said.
-pub fn tell_times(rt: &impl Eprint, times: &Times) {
-    let _ = rt.eprint("reading ");
-    let _ = rt.eprint(&Seconds(times.reading));
-    let _ = rt.eprint(", verifying ");
-    let _ = rt.eprint(&Seconds(times.verifying));
-    let _ = rt.eprint(", running ");
-    let _ = rt.eprint(&Seconds(times.running));
-    let _ = rt.eprint(", instructions a second ");
-    let _ = rt.eprintln(&rate_of(times));
+impl fmt::Display for Took {
+    fn fmt<W: fmt::Write>(&self, f: &mut fmt::Formatter<W>) -> fmt::Result {
+        let times = self.0;
+        let reading = Seconds(times.reading);
+        let verifying = Seconds(times.verifying);
+        let running = Seconds(times.running);
+        let rate = times.instructions.saturating_mul(1_000_000) / times.running.max(1);
+        write!(
+            f,
+            "reading {reading}, verifying {verifying}, running {running}, instructions a second {rate}"
+        )
+    }
 }

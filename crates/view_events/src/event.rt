@@ -1,8 +1,8 @@
 //! An event as JSON.
 
-use crate::change::{Change, Settings, Written};
-use crate::moment::{Moment, Outcome, Place, TaskName};
-use crate::names::{Names, NumberName, ThingName, ValueName};
+use crate::change::{CellPlace, Settings, Written};
+use crate::moment::{Moment, Outcome, TaskName};
+use crate::names::{Names, ThingName, push_number, push_value};
 use frame::Event;
 use lists::TextBuffer;
 
@@ -15,28 +15,8 @@ pub struct Numbered<'a> {
     pub round: u64,
 }
 
-/// The event itself, and its task.
-fn push_begin(out: &mut TextBuffer, event: &Event, place: Option<&Place>) {
-    let (word, worker, task) = match (event, place) {
-        (Event::Step(worker), None) => return write!(out, "\"do\":\"step\",\"worker\":{worker}"),
-        (Event::Step(worker), Some(place)) => ("step", worker, &place.task),
-        (Event::Steal(worker, task), _) => ("steal", worker, task),
-    };
-    let task = TaskName(task);
-    write!(
-        out,
-        "\"do\":\"{word}\",\"worker\":{worker},\"task\":\"{task}\""
-    );
-}
-
-fn push_place(out: &mut TextBuffer, place: &Place) {
-    let frame = TaskName(&place.frame);
-    let line = place.line;
-    write!(out, ",\"frame\":\"{frame}\",\"line\":{line}");
-}
-
 /// The registers of a frame that were set, as an object; nothing where there are none.
-pub fn push_settings<'a>(
+pub(crate) fn push_settings<'a>(
     out: &mut TextBuffer,
     names: &'a Names<'a>,
     key: &str,
@@ -49,32 +29,35 @@ pub fn push_settings<'a>(
     write!(out, ",\"{key}\":");
     for set in &settings.list {
         let name = names.register(settings.function, set.register);
-        let value = ValueName {
-            names,
-            value: &set.value,
-        };
-        write!(out, "{before}\"%{name}\":{value}");
+        write!(out, "{before}\"%{name}\":");
+        push_value(out, names, &set.value);
         before = ",";
     }
     out.push_str("}");
 }
 
-fn push_written<'a>(out: &mut TextBuffer, names: &'a Names<'a>, written: &'a Written) {
-    let (cell, word) = match written {
-        Written::Nothing => return,
-        Written::Cell { cell, .. } => (cell, "cell"),
-        Written::Zeros { cell, .. } => (cell, "zeros"),
-    };
+/// A cell that was written, under this key, up to what it holds.
+fn push_cell<'a>(out: &mut TextBuffer, names: &'a Names<'a>, key: &str, cell: &'a CellPlace) {
     let thing = ThingName {
         names,
         thing: &cell.thing,
     };
     let index = cell.index;
-    write!(out, ",\"{word}\":[\"{thing}\",{index},");
+    write!(out, ",\"{key}\":[\"{thing}\",{index},");
+}
+
+fn push_written<'a>(out: &mut TextBuffer, names: &'a Names<'a>, written: &'a Written) {
     match written {
-        Written::Cell { number, .. } => write!(out, "{}]", NumberName(*number)),
-        Written::Zeros { cells, .. } => write!(out, "{cells}]"),
         Written::Nothing => {}
+        Written::Cell { cell, number } => {
+            push_cell(out, names, "cell", cell);
+            push_number(out, *number);
+            out.push_str("]");
+        }
+        Written::Zeros { cell, cells } => {
+            push_cell(out, names, "zeros", cell);
+            write!(out, "{cells}]");
+        }
     }
 }
 
@@ -97,13 +80,6 @@ fn push_outcome(out: &mut TextBuffer, outcome: &Outcome) {
     write!(out, ",\"then\":\"{word}\",\"to\":\"{path}\"");
 }
 
-/// What the event set: first what the instruction did, then what the frame was given that it leads to.
-fn push_change<'a>(out: &mut TextBuffer, names: &'a Names<'a>, change: &'a Change) {
-    push_settings(out, names, "sets", &change.own);
-    push_written(out, names, &change.written);
-    push_settings(out, names, "gives", &change.other);
-}
-
 /// An event as an object, without a line's end.
 pub fn push_event<'a>(out: &mut TextBuffer, names: &'a Names<'a>, numbered: Numbered<'a>) {
     let Numbered {
@@ -112,13 +88,25 @@ pub fn push_event<'a>(out: &mut TextBuffer, names: &'a Names<'a>, numbered: Numb
         moment,
         round,
     } = numbered;
-    write!(out, "{{\"n\":{number},");
-    push_begin(out, event, moment.place.as_ref());
-    if let Some(place) = &moment.place {
-        push_place(out, place);
+    let (word, worker, task) = moment.heading(event);
+    write!(
+        out,
+        "{{\"n\":{number},\"do\":\"{word}\",\"worker\":{worker}"
+    );
+    if let Some(task) = task {
+        let task = TaskName(task);
+        write!(out, ",\"task\":\"{task}\"");
     }
+    if let Some(place) = &moment.place {
+        let frame = TaskName(&place.frame);
+        let line = place.line;
+        write!(out, ",\"frame\":\"{frame}\",\"line\":{line}");
+    }
+    // First what the instruction did, then what the frame was given that it leads to.
     if let Some(change) = &moment.change {
-        push_change(out, names, change);
+        push_settings(out, names, "sets", &change.own);
+        push_written(out, names, &change.written);
+        push_settings(out, names, "gives", &change.other);
     }
     push_outcome(out, &moment.outcome);
     write!(out, ",\"round\":{round}}}");

@@ -42,11 +42,8 @@ impl Effort {
         } = self;
         write!(
             out,
-            "strands {strands} steals {steals} strangers {strangers} searches {searches} publications {publications} "
-        );
-        write!(
-            out,
-            "borders {at_borders} pages {at_full_logs} limits {at_limits} others {for_others}"
+            "strands {strands} steals {steals} strangers {strangers} searches {searches} publications {publications} \
+             borders {at_borders} pages {at_full_logs} limits {at_limits} others {for_others}"
         );
     }
 }
@@ -68,12 +65,6 @@ impl Crew<'_> {
     }
 }
 
-/// No events.
-const NONE: Tally = Tally {
-    instructions: 0,
-    steals: 0,
-};
-
 /// What all workers did, event by event.
 #[derive(Drop)]
 pub struct Figures {
@@ -83,9 +74,9 @@ pub struct Figures {
 }
 
 impl Figures {
-    pub fn new(alloc: Global, workers: usize) -> Result<Figures, OutOfMemory> {
+    pub(crate) fn new(alloc: Global, workers: usize) -> Result<Figures, OutOfMemory> {
         Ok(Figures {
-            workers: vec![in alloc; NONE; workers]?,
+            workers: vec![in alloc; Tally::NONE; workers]?,
             rounds: 0,
         })
     }
@@ -95,73 +86,70 @@ impl Figures {
         Figures { workers, rounds }
     }
 
-    /// So many instructions of the worker, the last one in this round.
-    pub fn add_steps(&mut self, worker: usize, count: u64, round: u64) {
+    /// What the worker did more, the last of it in this round.
+    fn add_tally(&mut self, worker: usize, more: Tally, round: u64) {
         self.rounds = self.rounds.max(round);
-        if let Some(figures) = self.workers.as_mut_slice().get_mut(worker) {
-            figures.instructions = figures.instructions.saturating_add(count);
+        if let Some(tally) = self.workers.as_mut_slice().get_mut(worker) {
+            *tally = tally.plus(more);
         }
+    }
+
+    /// So many instructions of the worker, the last one in this round.
+    pub(crate) fn add_steps(&mut self, worker: usize, count: u64, round: u64) {
+        let more = Tally {
+            instructions: count,
+            steals: 0,
+        };
+        self.add_tally(worker, more, round);
     }
 
     /// The next event, with its round. One that was not enabled counts for nothing.
-    pub fn add(&mut self, event: &Event, moment: &Moment, timing: Timing) {
+    pub(crate) fn add(&mut self, event: &Event, moment: &Moment, timing: Timing) {
         if matches!(&moment.outcome, Outcome::NotEnabled(_)) {
             return;
         }
-        self.rounds = self.rounds.max(timing.round);
-        let worker = match event {
-            Event::Step(worker) | Event::Steal(worker, _) => usize::from(*worker),
+        let (worker, instructions, steals) = match event {
+            Event::Step(worker) => (worker, 1, 0),
+            Event::Steal(worker, _) => (worker, 0, 1),
         };
-        let Some(figures) = self.workers.as_mut_slice().get_mut(worker) else {
-            return;
+        let more = Tally {
+            instructions,
+            steals,
         };
-        match event {
-            Event::Step(_) => figures.instructions = figures.instructions.saturating_add(1),
-            Event::Steal(_, _) => figures.steals = figures.steals.saturating_add(1),
-        }
+        self.add_tally(usize::from(*worker), more, timing.round);
     }
 
-    /// A line for each worker: its instructions, its steals, what it did beside, and in how many rounds of a hundred it did something.
-    fn push_workers(&self, out: &mut TextBuffer, efforts: &[Effort]) {
-        for (worker, figures) in self.workers.as_slice().iter().enumerate() {
+    /// A line for each worker: its instructions, its steals, what it did beside, and in how many rounds of a hundred it did something. Then all
+    /// together, with the longest chain and what could be done at once: the instructions over the longest chain. Of a run on threads also how
+    /// many instructions it did in a second.
+    pub fn push_lines(&self, out: &mut TextBuffer, crew: Crew<'_>) {
+        let rounds = self.rounds;
+        let mut total = Tally::NONE;
+        for (worker, tally) in self.workers.as_slice().iter().enumerate() {
             let Tally {
                 instructions,
                 steals,
-            } = *figures;
+            } = *tally;
+            total = total.plus(*tally);
             write!(out, "worker {worker} instructions {instructions} ");
-            match efforts.get(worker) {
+            match crew.efforts.get(worker) {
                 Some(effort) => effort.push_words(out, steals),
                 None => write!(out, "steals {steals}"),
             }
-            let busy = share_of(instructions.saturating_add(steals), self.rounds);
+            let busy = share_of(instructions.saturating_add(steals), rounds);
             writeln!(out, " busy {busy}%");
         }
-    }
-
-    /// The instructions and steals of all workers.
-    fn total(&self) -> Tally {
-        let mut total = NONE;
-        for figures in &self.workers {
-            total.instructions = total.instructions.saturating_add(figures.instructions);
-            total.steals = total.steals.saturating_add(figures.steals);
-        }
-        total
-    }
-
-    /// The lines of a run's figures: a line for each worker, then all together, with the longest chain and what could be done at once: the
-    /// instructions over the longest chain. Of a run on threads also how many instructions it did in a second.
-    pub fn push_lines(&self, out: &mut TextBuffer, crew: Crew<'_>) {
-        self.push_workers(out, crew.efforts);
         let Tally {
             instructions,
             steals,
-        } = self.total();
-        let rounds = self.rounds;
+        } = total;
+        let hundredths = instructions.saturating_mul(100) / rounds.max(1);
+        let ones = hundredths / 100;
+        let rest = hundredths % 100;
         write!(
             out,
-            "total instructions {instructions} steals {steals} rounds {rounds} parallelism "
+            "total instructions {instructions} steals {steals} rounds {rounds} parallelism {ones}.{rest:02}"
         );
-        push_ratio(out, instructions, rounds);
         if !crew.efforts.is_empty() {
             let speed = instructions.saturating_mul(1_000_000) / crew.microseconds.max(1);
             write!(out, " speed {speed}");
@@ -173,12 +161,4 @@ impl Figures {
 /// How many of a hundred these are of all; 0 where there are none.
 fn share_of(part: u64, whole: u64) -> u64 {
     (part.saturating_mul(100) / whole.max(1)).min(100)
-}
-
-/// A ratio with two digits behind the point, the rest cut off.
-fn push_ratio(out: &mut TextBuffer, part: u64, whole: u64) {
-    let hundredths = part.saturating_mul(100) / whole.max(1);
-    let ones = hundredths / 100;
-    let rest = hundredths % 100;
-    write!(out, "{ones}.{rest:02}");
 }

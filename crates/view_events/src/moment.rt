@@ -1,5 +1,5 @@
 use crate::change::Change;
-use frame::Path;
+use frame::{Event, Path};
 use std::fmt;
 
 /// A task's path, as schedules spell it.
@@ -121,5 +121,16 @@ impl Drop for Moment {
             outcome: _,
             change: _,
         } = self;
+    }
+}
+
+impl Moment {
+    /// How the event is called, its worker, and the task that it is about: a step itself names none.
+    pub(crate) fn heading<'a>(&'a self, event: &'a Event) -> (&'static str, u8, Option<&'a Path>) {
+        match (event, &self.place) {
+            (Event::Step(worker), None) => ("step", *worker, None),
+            (Event::Step(worker), Some(place)) => ("step", *worker, Some(&place.task)),
+            (Event::Steal(worker, task), _) => ("steal", *worker, Some(task)),
+        }
     }
 }

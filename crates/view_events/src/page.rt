@@ -31,6 +31,8 @@ pub struct Page {
     text: TextBuffer,
     /// How many events there were, told or not.
     events: u64,
+    /// Whether memory was refused for a text that is quoted.
+    is_refused: bool,
 }
 
 /// A text that stands among tags.
@@ -81,60 +83,47 @@ const BODY: &str = r#"</h1>
 <script type="application/json" id="run">
 "#;
 
-/// A text as JSON within a script: a `<` is spelled by its number, so that no text ends the script.
-fn push_quoted(alloc: Global, out: &mut TextBuffer, text: &str) -> Result<(), AllocError> {
-    let text = quoted(alloc, text)?;
-    for c in text.as_str().chars() {
-        match c {
-            '<' => out.push_str("\\u003c"),
-            _ => out.push(c),
-        }
-    }
-    Ok(())
-}
-
-/// The lines of the source, as a list of texts.
-fn push_source(alloc: Global, out: &mut TextBuffer, source: &str) -> Result<(), AllocError> {
-    out.push_str("\"source\":[");
-    for (number, line) in source.lines().enumerate() {
-        out.push_str(if number == 0 { "\n" } else { ",\n" });
-        push_quoted(alloc, out, line)?;
-    }
-    out.push_str("],\n");
-    Ok(())
-}
-
 impl Page {
     /// The page of a run that begins so, before its first event.
-    ///
-    /// # Errors
-    ///
-    /// Memory was refused.
-    pub fn start<'a>(
-        alloc: Global,
-        names: &'a Names<'a>,
-        start: Start<'a>,
-    ) -> Result<Page, AllocError> {
-        let mut text = TextBuffer::new(alloc);
-        push_head(&mut text, start.title);
+    pub(crate) fn start<'a>(alloc: Global, names: &'a Names<'a>, start: Start<'a>) -> Page {
+        let mut page = Page {
+            alloc,
+            text: TextBuffer::new(alloc),
+            events: 0,
+            is_refused: false,
+        };
+        push_head(&mut page.text, start.title);
         let workers = start.workers;
         write!(
-            text,
+            page.text,
             "{{\"workers\":{workers},\"start\":{{\"task\":\"root\""
         );
-        push_settings(&mut text, names, "sets", start.root);
-        text.push_str("},\n");
-        push_source(alloc, &mut text, start.source)?;
-        text.push_str("\"events\":[");
-        Ok(Page {
-            alloc,
-            text,
-            events: 0,
-        })
+        push_settings(&mut page.text, names, "sets", start.root);
+        page.text.push_str("},\n\"source\":[");
+        for (number, line) in start.source.lines().enumerate() {
+            page.text.push_str(if number == 0 { "\n" } else { ",\n" });
+            page.push_quoted(line);
+        }
+        page.text.push_str("],\n\"events\":[");
+        page
+    }
+
+    /// A text as JSON within a script: a `<` is spelled by its number, so that no text ends the script.
+    fn push_quoted(&mut self, text: &str) {
+        let Ok(text) = quoted(self.alloc, text) else {
+            self.is_refused = true;
+            return;
+        };
+        for c in text.as_str().chars() {
+            match c {
+                '<' => self.text.push_str("\\u003c"),
+                _ => self.text.push(c),
+            }
+        }
     }
 
     /// The next event. Past the most that a page tells it is counted alone.
-    pub fn add<'a>(&mut self, names: &'a Names<'a>, numbered: Numbered<'a>) {
+    pub(crate) fn add<'a>(&mut self, names: &'a Names<'a>, numbered: Numbered<'a>) {
         if self.events < MOST_EVENTS {
             self.text
                 .push_str(if self.events == 0 { "\n" } else { ",\n" });
@@ -144,7 +133,7 @@ impl Page {
     }
 
     /// So many events more, which the page does not tell.
-    pub fn skip(&mut self, events: u64) {
+    pub(crate) fn skip(&mut self, events: u64) {
         self.events = self.events.saturating_add(events);
     }
 
@@ -153,13 +142,9 @@ impl Page {
     /// # Errors
     ///
     /// Memory was refused.
-    pub fn into_text(self, answer: &str) -> Result<String, AllocError> {
-        let Page {
-            alloc,
-            mut text,
-            events,
-        } = self;
-        let mut note = TextBuffer::new(alloc);
+    pub(crate) fn into_text(mut self, answer: &str) -> Result<String, AllocError> {
+        let events = self.events;
+        let mut note = TextBuffer::new(self.alloc);
         if events > MOST_EVENTS {
             write!(
                 note,
@@ -167,11 +152,14 @@ impl Page {
             );
         }
         note.push_str(answer);
-        text.push_str("],\n\"note\":");
-        push_quoted(alloc, &mut text, note.finish()?.as_str())?;
-        text.push_str("}\n</script>\n<script>\n");
-        text.push_str(SCRIPT);
-        text.push_str("</script>\n</body>\n</html>\n");
-        text.finish()
+        self.text.push_str("],\n\"note\":");
+        self.push_quoted(note.finish()?.as_str());
+        self.text.push_str("}\n</script>\n<script>\n");
+        self.text.push_str(SCRIPT);
+        self.text.push_str("</script>\n</body>\n</html>\n");
+        if self.is_refused {
+            return Err(AllocError);
+        }
+        self.text.finish()
     }
 }

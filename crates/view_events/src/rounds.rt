@@ -1,6 +1,6 @@
 //! When events could have happened at the earliest: their rounds.
 
-ghost use Rattle.std.specs.Prelude.{◌≡◌, ◌<◌, IfOk, IfSome, slice_index, slice_set};
+ghost use Rattle.std.specs.Prelude.{◌≡◌, ◌<◌, IfSome, slice_index, slice_set};
 ghost use Rattle.view_events.specs.Rounds.{lasts_after, round_after, round_behind, worker_of};
 
 use crate::moment::{Act, Moment, Outcome};
@@ -20,6 +20,22 @@ pub struct Instant {
 pub struct Tally {
     pub instructions: u64,
     pub steals: u64,
+}
+
+impl Tally {
+    /// No events.
+    pub const NONE: Tally = Tally {
+        instructions: 0,
+        steals: 0,
+    };
+
+    /// These and others together.
+    pub fn plus(self, more: Tally) -> Tally {
+        Tally {
+            instructions: self.instructions.saturating_add(more.instructions),
+            steals: self.steals.saturating_add(more.steals),
+        }
+    }
 }
 
 /// When an event could have happened at the earliest.
@@ -60,6 +76,8 @@ pub struct Rounds {
     /// By worker: the round of its last event; 0 before the first.
     last: Vec<u64>,
     marks: Vec<Marked>,
+    /// Whether memory was refused for a mark.
+    is_refused: bool,
 }
 
 /// Written out, so that no crate above proves it anew.
@@ -69,6 +87,7 @@ impl Drop for Rounds {
             alloc: _,
             last: _,
             marks: _,
+            is_refused: _,
         } = self;
     }
 }
@@ -97,7 +116,13 @@ impl Rounds {
             alloc,
             last: vec![in alloc; 0u64; workers]?,
             marks: Vec::new(alloc),
+            is_refused: false,
         })
+    }
+
+    /// Whether memory was refused so far: then later rounds may be too low.
+    pub fn is_refused(&self) -> bool {
+        self.is_refused
     }
 
     /// The round of the last event of the worker; 0 where it has had none.
@@ -130,13 +155,18 @@ impl Rounds {
     }
 
     /// Marks the path. Of two ends within one region the later one is kept.
-    fn put(&mut self, mark: Mark, numbers: &[u64], at: Instant) -> Result<(), OutOfMemory>
+    fn put(&mut self, mark: Mark, numbers: &[u64], at: Instant)
         ensures { self.new.last ≡ self.old.last }
     {
         let at = later(self.take(mark, numbers), Some(at)).unwrap_or(at);
-        let numbers = Seq::from_vec(numbers.to_vec(self.alloc)?);
-        let path = Path { numbers };
-        Ok(self.marks.push(Marked { mark, path, at })?)
+        let Ok(numbers) = numbers.to_vec(self.alloc) else {
+            self.is_refused = true;
+            return;
+        };
+        let path = Path {
+            numbers: Seq::from_vec(numbers),
+        };
+        self.is_refused |= self.marks.push(Marked { mark, path, at }).is_err();
     }
 
     /// So many events of the worker of which each waits for the one before alone: the round of the last one.
@@ -163,18 +193,13 @@ impl Rounds {
     }
 
     /// A detach at this time left the task with these numbers ready.
-    pub fn leave_ready(&mut self, task: &[u64], at: Instant) -> Result<(), OutOfMemory> {
-        self.put(Mark::Ready, task, at)
+    pub fn leave_ready(&mut self, task: &[u64], at: Instant) {
+        self.put(Mark::Ready, task, at);
     }
 
     /// A child within the region of the frame with these numbers ended at this time.
-    pub fn end_child(
-        &mut self,
-        region: usize,
-        frame: &[u64],
-        at: Instant,
-    ) -> Result<(), OutOfMemory> {
-        self.put(Mark::Joined(region), frame, at)
+    pub fn end_child(&mut self, region: usize, frame: &[u64], at: Instant) {
+        self.put(Mark::Joined(region), frame, at);
     }
 
     /// The event that made this one possible, if another one did than its worker's last.
@@ -206,39 +231,39 @@ impl Rounds {
     }
 
     /// Keeps what later events may have to wait for.
-    fn note(&mut self, moment: &Moment, at: Instant) -> Result<(), OutOfMemory>
+    fn note(&mut self, moment: &Moment, at: Instant)
         ensures { self.new.last ≡ self.old.last }
     {
         let Some(place) = &moment.place else {
-            return Ok(());
+            return;
         };
         let task = place.task.numbers.as_slice();
         match (moment.act, &moment.outcome) {
             (Act::Detach, _) => self.put(Mark::Ready, task, at),
             (Act::Sync(_), Outcome::Waits) => self.put(Mark::Stalled, task, at),
             (Act::Reattach(region), Outcome::Ends | Outcome::TakesOn(_)) => {
-                self.put(Mark::Joined(region), parent_of(&place.frame), at)
+                self.put(Mark::Joined(region), parent_of(&place.frame), at);
             }
-            _ => Ok(()),
+            _ => {}
         }
     }
 
     /// The next event's round. One that was not enabled, or of no worker, has the round after its worker's last event, and counts for
     /// nothing.
-    pub fn next(&mut self, event: &Event, moment: &Moment) -> Result<Timing, OutOfMemory>
-        ensures round { IfOk result (λ t. t.round ≡ round_after (slice_index self.old.last.items (worker_of event.now)) t.after) }
-        ensures later { IfOk result (λ t. IfSome t.after (λ cause. slice_index self.old.last.items (worker_of event.now) < cause.round)) }
-        ensures last { IfOk result (λ t. self.new.last.items ≡ lasts_after moment.now.outcome self.old.last.items (worker_of event.now) t.round) }
+    pub fn next(&mut self, event: &Event, moment: &Moment) -> Timing
+        ensures round { result.round ≡ round_after (slice_index self.old.last.items (worker_of event.now)) result.after }
+        ensures later { IfSome result.after (λ cause. slice_index self.old.last.items (worker_of event.now) < cause.round) }
+        ensures last { self.new.last.items ≡ lasts_after moment.now.outcome self.old.last.items (worker_of event.now) result.round }
     {
         let worker = match event {
             Event::Step(worker) | Event::Steal(worker, _) => usize::from(*worker),
         };
         let own = self.last_of(worker);
         if matches!(&moment.outcome, Outcome::NotEnabled(_)) || worker >= self.last.len() {
-            return Ok(Timing {
+            return Timing {
                 round: own.saturating_add(1),
                 after: None,
-            });
+            };
         }
         let (before, after) = match self.cause(event, moment) {
             Some(cause) if cause.round > own => (cause.round, Some(cause)),
@@ -246,7 +271,7 @@ impl Rounds {
         };
         let round = before.saturating_add(1);
         self.last[worker] = round;
-        self.note(moment, Instant { worker, round })?;
-        Ok(Timing { round, after })
+        self.note(moment, Instant { worker, round });
+        Timing { round, after }
     }
 }

@@ -41,22 +41,6 @@ impl Script {
         self.steps = 0;
     }
 
-    /// So many steps of the worker.
-    fn step(&mut self, worker: u8, count: u64) {
-        if worker != self.worker {
-            self.flush();
-        }
-        self.worker = worker;
-        self.steps = self.steps.saturating_add(count);
-    }
-
-    /// A steal of the task.
-    fn steal(&mut self, worker: u8, task: &Path) {
-        self.flush();
-        let task = TaskName(task);
-        writeln!(self.text, "steal {worker} {task}");
-    }
-
     /// Whether the text is longer than a schedule may be.
     fn is_full(&self) -> bool {
         self.text.as_str().len() > MOST
@@ -70,7 +54,7 @@ impl Script {
     }
 
     /// The next event.
-    pub fn add(&mut self, event: &Event) {
+    pub(crate) fn add(&mut self, event: &Event) {
         match event {
             Event::Step(worker) => self.add_steps(*worker, 1),
             Event::Steal(worker, task) => self.add_steal(*worker, task),
@@ -80,14 +64,20 @@ impl Script {
     /// So many steps of the worker come next.
     pub fn add_steps(&mut self, worker: u8, count: u64) {
         if self.has_room(count) {
-            self.step(worker, count);
+            if worker != self.worker {
+                self.flush();
+            }
+            self.worker = worker;
+            self.steps = self.steps.saturating_add(count);
         }
     }
 
     /// A steal of the task comes next.
     pub fn add_steal(&mut self, worker: u8, task: &Path) {
         if self.has_room(1) {
-            self.steal(worker, task);
+            self.flush();
+            let task = TaskName(task);
+            writeln!(self.text, "steal {worker} {task}");
         }
     }
 

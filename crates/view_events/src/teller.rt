@@ -28,44 +28,25 @@ pub struct Teller {
     events: u64,
 }
 
-/// A page of a run that begins so, where one is wanted.
-fn page_of<'a>(
-    alloc: Global,
-    words: Words<'a>,
-    wanted: Wanted,
-    start: Start<'a>,
-) -> Result<Option<Page>, AllocError> {
-    if wanted.page {
-        Ok(Some(Page::start(alloc, words.names, start)?))
-    } else {
-        Ok(None)
-    }
-}
-
-/// The scene of a picture, where one is wanted.
-fn scene_of(alloc: Global, wanted: Wanted, workers: usize) -> Result<Option<Scene>, OutOfMemory> {
-    if wanted.picture {
-        Ok(Some(Scene::new(alloc, workers)?))
-    } else {
-        Ok(None)
-    }
-}
-
 /// The picture of a scene, where there is one.
 pub fn picture_of(alloc: Global, scene: Option<Scene>) -> Result<Option<String>, OutOfMemory> {
     let Some(mut scene) = scene else {
         return Ok(None);
     };
-    scene.close()?;
+    scene.close();
+    if scene.is_refused() {
+        return Err(OutOfMemory);
+    }
     Ok(Some(picture(alloc, &scene)?))
 }
 
-/// The page, where one is wanted.
-fn page_text(page: Option<Page>, answer: &str) -> Result<Option<String>, OutOfMemory> {
-    match page {
-        Some(page) => Ok(Some(page.into_text(answer)?)),
-        None => Ok(None),
-    }
+/// The page, where one is wanted; `untold` is how many events follow those that were told.
+fn page_text(page: Option<Page>, untold: u64, answer: &str) -> Result<Option<String>, AllocError> {
+    let Some(mut page) = page else {
+        return Ok(None);
+    };
+    page.skip(untold);
+    Ok(Some(page.into_text(answer)?))
 }
 
 impl Teller {
@@ -76,14 +57,23 @@ impl Teller {
         wanted: Wanted,
         start: Start<'a>,
     ) -> Result<Teller, OutOfMemory> {
-        let workers = start.workers;
+        let rounds = Rounds::new(alloc, start.workers)?;
+        let figures = Figures::new(alloc, start.workers)?;
+        let mut scene = None;
+        if wanted.picture {
+            scene = Some(Scene::new(alloc, start.workers)?);
+        }
+        let mut page = None;
+        if wanted.page {
+            page = Some(Page::start(alloc, words.names, start));
+        }
         Ok(Teller {
             alloc,
             wanted,
-            rounds: Rounds::new(alloc, workers)?,
-            figures: Figures::new(alloc, workers)?,
-            scene: scene_of(alloc, wanted, workers)?,
-            page: page_of(alloc, words, wanted, start)?,
+            rounds,
+            figures,
+            scene,
+            page,
             json: TextBuffer::new(alloc),
             script: Script::new(alloc),
             events: 0,
@@ -105,6 +95,15 @@ impl Teller {
         self.wanted.json || (self.wanted.page && self.events < MOST_EVENTS)
     }
 
+    /// Says whether memory was refused for what later events build on.
+    fn checked(&self) -> Result<(), OutOfMemory> {
+        match &self.scene {
+            _ if self.rounds.is_refused() => Err(OutOfMemory),
+            Some(scene) if scene.is_refused() => Err(OutOfMemory),
+            _ => Ok(()),
+        }
+    }
+
     /// A step of the worker that does nothing to frames or tasks, of which nothing else is shown.
     pub fn add_step(&mut self, worker: u8) -> Result<(), OutOfMemory> {
         self.events = self.events.saturating_add(1);
@@ -117,21 +116,10 @@ impl Teller {
         if let Some(page) = &mut self.page {
             page.skip(1);
         }
-        match &mut self.scene {
-            Some(scene) => scene.add_steps(of, 1, round),
-            None => Ok(()),
+        if let Some(scene) = &mut self.scene {
+            scene.add_steps(of, 1, round);
         }
-    }
-
-    /// The event on the page and as a line of JSON.
-    fn add_line<'a>(&mut self, words: Words<'a>, numbered: Numbered<'a>) {
-        if let Some(page) = &mut self.page {
-            page.add(words.names, numbered);
-        }
-        if self.wanted.json {
-            push_event(&mut self.json, words.names, numbered);
-            self.json.push_str("\n");
-        }
+        self.checked()
     }
 
     /// The next event. The answer is its line of the trace, which is empty where none is wanted.
@@ -142,55 +130,58 @@ impl Teller {
         moment: &'a Moment,
     ) -> Result<String, OutOfMemory> {
         self.events = self.events.saturating_add(1);
-        let mut line = TextBuffer::new(self.alloc);
-        if self.wanted.trace {
-            push_moment(&mut line, self.events, event, moment, words.lines);
-        }
+        let timing = self.rounds.next(event, moment);
+        self.figures.add(event, moment, timing);
         if self.wanted.script {
             self.script.add(event);
         }
-        let timing = self.rounds.next(event, moment)?;
         if let Some(scene) = &mut self.scene {
-            scene.add(event, moment, timing)?;
+            scene.add(event, moment, timing);
         }
-        self.figures.add(event, moment, timing);
         let numbered = Numbered {
             number: self.events,
             event,
             moment,
             round: timing.round,
         };
-        self.add_line(words, numbered);
+        if let Some(page) = &mut self.page {
+            page.add(words.names, numbered);
+        }
+        if self.wanted.json {
+            push_event(&mut self.json, words.names, numbered);
+            self.json.push_str("\n");
+        }
+        self.checked()?;
+        let mut line = TextBuffer::new(self.alloc);
+        if self.wanted.trace {
+            push_moment(&mut line, self.events, event, moment, words.lines);
+        }
         Ok(line.finish()?)
     }
 
     /// All that was told; `answer` is what the run came to.
     pub fn finish(self, words: Words<'_>, answer: &str) -> Result<Told, OutOfMemory> {
-        let Teller {
-            alloc,
-            wanted,
-            rounds: _,
-            figures,
-            scene,
-            mut page,
-            json,
-            script,
-            events,
-        } = self;
-        if let Some(page) = &mut page {
-            page.skip(words.untold());
+        let mut stats = TextBuffer::new(self.alloc);
+        if self.wanted.stats {
+            self.figures.push_lines(&mut stats, words.crew);
         }
-        let mut stats = TextBuffer::new(alloc);
-        if wanted.stats {
-            figures.push_lines(&mut stats, words.crew);
+        let picture = picture_of(self.alloc, self.scene);
+        let page = page_text(self.page, words.untold(), answer);
+        if let Ok(stats) = stats.finish()
+            && let Ok(json) = self.json.finish()
+            && let Ok(script) = self.script.into_text()
+            && let Ok(picture) = picture
+            && let Ok(page) = page
+        {
+            return Ok(Told {
+                script,
+                events: self.events,
+                stats,
+                picture,
+                json,
+                page,
+            });
         }
-        Ok(Told {
-            events,
-            stats: stats.finish()?,
-            script: script.into_text()?,
-            picture: picture_of(alloc, scene)?,
-            json: json.finish()?,
-            page: page_text(page, answer)?,
-        })
+        Err(OutOfMemory)
     }
 }

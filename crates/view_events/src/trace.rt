@@ -1,6 +1,6 @@
 //! A line for each event.
 
-use crate::moment::{Moment, Outcome, Place, TaskName};
+use crate::moment::{Moment, Outcome, TaskName};
 use frame::Event;
 use lists::TextBuffer;
 
@@ -10,23 +10,6 @@ fn instruction_at<'a>(lines: &[&'a str], line: u32) -> &'a str {
     let text = lines.get(index).copied().unwrap_or("");
     let (instruction, _comment) = text.split_once(";").unwrap_or((text, ""));
     instruction.trim()
-}
-
-/// The event, with the task that it is about: a step itself names none.
-fn push_event(out: &mut TextBuffer, event: &Event, place: Option<&Place>) {
-    let (word, worker, task) = match (event, place) {
-        (Event::Step(worker), None) => return write!(out, "step {worker}"),
-        (Event::Step(worker), Some(place)) => ("step", worker, &place.task),
-        (Event::Steal(worker, task), _) => ("steal", worker, task),
-    };
-    let task = TaskName(task);
-    write!(out, "{word} {worker} {task}");
-}
-
-/// The line with the task's next instruction.
-fn push_line(out: &mut TextBuffer, line: u32, lines: &[&str]) {
-    let instruction = instruction_at(lines, line);
-    write!(out, " line {line}: {instruction}");
 }
 
 fn push_outcome(out: &mut TextBuffer, outcome: &Outcome) {
@@ -53,11 +36,16 @@ pub fn push_moment(
     moment: &Moment,
     lines: &[&str],
 ) {
-    let place = moment.place.as_ref();
-    write!(out, "{number} ");
-    push_event(out, event, place);
-    if let Some(place) = place {
-        push_line(out, place.line, lines);
+    let (word, worker, task) = moment.heading(event);
+    write!(out, "{number} {word} {worker}");
+    if let Some(task) = task {
+        let task = TaskName(task);
+        write!(out, " {task}");
+    }
+    if let Some(place) = &moment.place {
+        let line = place.line;
+        let instruction = instruction_at(lines, line);
+        write!(out, " line {line}: {instruction}");
     }
     push_outcome(out, &moment.outcome);
     out.push_str("\n");

@@ -50,19 +50,22 @@ fn push_form(out: &mut TextBuffer, terms: &[(&str, i64)], constant: i128) {
     }
 }
 
-/// `F >= 0`: what a fact says.
+/// A line for each fact: `knows F >= 0`.
 ///
 /// # Errors
 ///
 /// Memory was refused.
-pub fn push_fact(
+pub fn push_facts(
     alloc: Global,
     out: &mut TextBuffer,
     names: &[&str],
-    fact: &Fact,
+    facts: &[Fact],
 ) -> Result<(), AllocError> {
-    let terms = sorted_terms(alloc, names, fact.form.terms.as_slice())?;
-    push_form(out, terms.as_slice(), fact.form.constant);
-    out.push_str(" >= 0");
+    for fact in facts {
+        let terms = sorted_terms(alloc, names, fact.form.terms.as_slice())?;
+        out.push_str("    knows ");
+        push_form(out, terms.as_slice(), fact.form.constant);
+        out.push_str(" >= 0\n");
+    }
     Ok(())
 }

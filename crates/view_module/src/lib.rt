@@ -1,7 +1,7 @@
 //! Modules as people see them: the canonical text of a module, and what the verifier knows of each block of one that it took.
 //!
 //! [`printed`] needs a text that is read, [`show`] a module that is verified. `show` asks the phases again for what they know, and spells
-//! it with the names of the text. [`quoted`] spells a text as JSON does.
+//! it with the names of the text, as [`register_names`] lists them. [`quoted`] spells a text as JSON does.
 #![tactic(auto)]
 
 mod canonical;
@@ -14,5 +14,6 @@ mod spelling;
 mod usage;
 
 pub use canonical::printed;
+pub use name::register_names;
 pub use overview::show;
 pub use spelling::quoted;

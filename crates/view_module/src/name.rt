@@ -2,47 +2,44 @@
 
 use lists::ListBuffer;
 use std::alloc::{AllocError, Global};
-use syntax::{Block, Function, Parameter};
+use syntax::{Function, Module, Parameter};
 
-fn push_parameters<'a>(names: &mut ListBuffer<&'a str>, parameters: &'a [Parameter]) {
-    for parameter in parameters {
+/// The names of a function's registers by their numbers, and that of its result behind the last one.
+fn names_in<'a>(alloc: Global, function: &'a Function) -> Result<Vec<&'a str>, AllocError> {
+    let mut names = ListBuffer::new(alloc);
+    for parameter in function.parameters.as_slice() {
         match parameter {
             Parameter::Number { name } | Parameter::Pointer { name, .. } => {
                 names.push(name.as_str());
             }
         }
     }
-}
-
-fn push_phis<'a>(names: &mut ListBuffer<&'a str>, block: &'a Block) {
-    for phi in block.phis.as_slice() {
-        names.push(phi.register.as_str());
-    }
-}
-
-fn push_steps<'a>(names: &mut ListBuffer<&'a str>, block: &'a Block) {
-    for step in block.steps.as_slice() {
-        if let Some(register) = step.instruction.register() {
-            names.push(register.as_str());
+    for block in function.blocks.as_slice() {
+        for phi in block.phis.as_slice() {
+            names.push(phi.register.as_str());
+        }
+        for step in block.steps.as_slice() {
+            if let Some(register) = step.instruction.register() {
+                names.push(register.as_str());
+            }
         }
     }
+    names.push(".ret");
+    names.finish()
 }
 
-/// The names of a function's registers by their numbers, and that of its result behind the last one.
+/// By function: the names of its registers, parameters first, then in the order of the text, and `.ret` for its result.
 ///
 /// # Errors
 ///
 /// Memory was refused.
 pub fn register_names<'a>(
     alloc: Global,
-    function: &'a Function,
-) -> Result<Vec<&'a str>, AllocError> {
+    module: &'a Module,
+) -> Result<Vec<Vec<&'a str>>, AllocError> {
     let mut names = ListBuffer::new(alloc);
-    push_parameters(&mut names, function.parameters.as_slice());
-    for block in function.blocks.as_slice() {
-        push_phis(&mut names, block);
-        push_steps(&mut names, block);
+    for function in module.functions.as_slice() {
+        names.push(names_in(alloc, function)?);
     }
-    names.push(".ret");
     names.finish()
 }

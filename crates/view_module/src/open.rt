@@ -32,10 +32,6 @@ impl<'a> Blocks<'a> {
             tasks,
         })
     }
-
-    fn task(self, block: usize) -> Option<Task> {
-        self.tasks.get(block).copied()
-    }
 }
 
 /// For each block the regions of which a child may still run where it begins: in the blocks of the task that detaches it, from the
@@ -46,45 +42,29 @@ pub fn open_regions(alloc: Global, blocks: Blocks<'_>) -> Result<Vec<Vec<Registe
         open.push(Vec::new(alloc))?;
     }
     for detach in 0..blocks.bodies.len() {
-        put_detached(alloc, &mut open, blocks, detach)?;
+        if let Some((region, continuation)) = detach_of(blocks.bodies, detach) {
+            let marks = open_marks(alloc, blocks.bodies, blocks.edges, region, continuation)?;
+            put_region(&mut open, blocks.tasks, detach, region, marks.as_slice())?;
+        }
     }
     Ok(open)
-}
-
-/// Puts the region of a block that detaches to each block in which the child may still run.
-fn put_detached(
-    alloc: Global,
-    open: &mut Vec<Vec<RegisterId>>,
-    blocks: Blocks<'_>,
-    detach: usize,
-) -> Result<(), AllocError> {
-    let Some((region, continuation)) = detach_of(blocks.bodies, detach) else {
-        return Ok(());
-    };
-    let marks = open_marks(alloc, blocks.bodies, blocks.edges, region, continuation)?;
-    put_region(open, blocks, detach, region, marks.as_slice())
 }
 
 /// Puts the region to each marked block of the detach's task.
 fn put_region(
     open: &mut Vec<Vec<RegisterId>>,
-    blocks: Blocks<'_>,
+    tasks: &[Task],
     detach: usize,
     region: RegisterId,
     marks: &[bool],
 ) -> Result<(), AllocError> {
     for block in 0..open.len() {
-        let is_marked = marks.get(block).copied().unwrap_or(false);
-        if is_marked && blocks.task(block) == blocks.task(detach) {
-            put_once(&mut open[block], region)?;
+        if matches!(marks.get(block), Some(true))
+            && tasks.get(block) == tasks.get(detach)
+            && !open[block].as_slice().contains(&region)
+        {
+            open[block].push(region)?;
         }
-    }
-    Ok(())
-}
-
-fn put_once(regions: &mut Vec<RegisterId>, region: RegisterId) -> Result<(), AllocError> {
-    if !regions.as_slice().contains(&region) {
-        regions.push(region)?;
     }
     Ok(())
 }

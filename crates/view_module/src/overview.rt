@@ -1,22 +1,22 @@
 //! What the verifier knows of a module, block for block.
 
-use crate::form::{name_of, push_fact};
+use crate::form::{name_of, push_facts};
 use crate::name::register_names;
 use crate::open::{Blocks, open_regions};
-use crate::range::range_of;
+use crate::range::{Range, range_of};
 use crate::usage::{most_cells, usage_of};
 use cfg::Graph;
 use ir_annotation::{push_foot, push_left, push_pending};
 use ir_reader::read;
 use lists::TextBuffer;
-use program::{Block, Fact, Function, Parameter, Program, RegisterId};
+use program::{Block, Function, Parameter, Program, RegisterId};
 use ranges::{start_facts, stated};
 use refusal::Refused;
 use region_match::{Regions, Task, regions};
 use std::alloc;
 use std::alloc::AllocError;
 use std::hash::RandomState;
-use syntax::{BlockNotes, Module};
+use syntax::{Left, Module, Pending, Zone};
 use verifier::Verified;
 
 /// A module that is shown: what it spells and what it means.
@@ -24,6 +24,8 @@ use verifier::Verified;
 struct Subject<'a> {
     alloc: alloc::Global,
     module: &'a Module,
+    /// By function: the names of its registers.
+    names: &'a [Vec<&'a str>],
     verified: &'a Verified,
     graph: &'a Graph,
     program: &'a Program,
@@ -60,25 +62,17 @@ fn push_globals(out: &mut TextBuffer, program: &Program) {
 }
 
 /// The parameters of `main` with the numbers that they may be.
-fn push_ranges(out: &mut TextBuffer, main: &Function, names: &[&str], facts: &[Fact]) {
-    for index in 0..main.parameters.len() {
-        let register = RegisterId(index);
-        let name = name_of(names, register);
-        let range = range_of(register, facts);
-        let low = range.low;
-        let high = range.high;
-        writeln!(out, "argument %{name} from {low} to {high}");
-    }
-}
-
-fn push_main(out: &mut TextBuffer, subject: Subject<'_>) -> Result<(), Refused> {
+fn push_ranges(out: &mut TextBuffer, subject: Subject<'_>) -> Result<(), Refused> {
     let index = subject.program.main.0;
     let main = subject.program.functions.as_slice().get(index);
-    let spelled = subject.module.functions.as_slice().get(index);
-    if let (Some(main), Some(spelled)) = (main, spelled) {
-        let names = register_names(subject.alloc, spelled)?;
+    if let (Some(main), Some(names)) = (main, subject.names.get(index)) {
         let facts = stated(subject.alloc, main.requirements.as_slice())?;
-        push_ranges(out, main, names.as_slice(), facts.as_slice());
+        for index in 0..main.parameters.len() {
+            let register = RegisterId(index);
+            let name = name_of(names.as_slice(), register);
+            let Range { low, high } = range_of(register, facts.as_slice());
+            writeln!(out, "argument %{name} from {low} to {high}");
+        }
     }
     Ok(())
 }
@@ -109,59 +103,21 @@ fn push_open(out: &mut TextBuffer, names: &[&str], open: &[RegisterId]) {
     }
 }
 
-/// What is known at a block's start.
-fn push_facts(
-    alloc: alloc::Global,
-    out: &mut TextBuffer,
-    names: &[&str],
-    facts: &[Fact],
-) -> Result<(), AllocError> {
-    for fact in facts {
-        out.push_str("    knows ");
-        push_fact(alloc, out, names, fact)?;
-        out.push_str("\n");
-    }
-    Ok(())
+/// What the text notes of a block.
+enum Note<'a> {
+    Pending(&'a Pending),
+    Foot(&'a Zone),
+    Left(&'a Left),
 }
 
-fn push_note(out: &mut TextBuffer, note: &str) {
-    writeln!(out, "    {note}");
-}
-
-fn push_all_pending(
-    alloc: alloc::Global,
-    out: &mut TextBuffer,
-    notes: &BlockNotes,
-) -> Result<(), AllocError> {
-    for pending in notes.pending.as_slice() {
-        let mut note = String::new(alloc);
-        push_pending(&mut note, pending)?;
-        push_note(out, note.as_str());
-    }
-    Ok(())
-}
-
-fn push_feet(
-    alloc: alloc::Global,
-    out: &mut TextBuffer,
-    notes: &BlockNotes,
-) -> Result<(), AllocError> {
-    for foot in notes.foot.as_slice() {
-        let mut note = String::new(alloc);
-        push_foot(&mut note, foot)?;
-        push_note(out, note.as_str());
-    }
-    Ok(())
-}
-
-fn push_left_line(
-    alloc: alloc::Global,
-    out: &mut TextBuffer,
-    notes: &BlockNotes,
-) -> Result<(), AllocError> {
-    let mut note = String::new(alloc);
-    push_left(&mut note, &notes.left)?;
-    push_note(out, note.as_str());
+fn push_note(alloc: alloc::Global, out: &mut TextBuffer, note: Note<'_>) -> Result<(), AllocError> {
+    let mut words = String::new(alloc);
+    match note {
+        Note::Pending(pending) => push_pending(&mut words, pending),
+        Note::Foot(foot) => push_foot(&mut words, foot),
+        Note::Left(left) => push_left(&mut words, left),
+    }?;
+    writeln!(out, "    {words}");
     Ok(())
 }
 
@@ -188,35 +144,40 @@ fn push_block(
     writeln!(out, "  block %{label} line {line}");
     push_task(out, part, index);
     push_open(out, part.names, open);
-    push_all_pending(alloc, out, &block.notes)?;
-    push_feet(alloc, out, &block.notes)?;
+    for pending in block.notes.pending.as_slice() {
+        push_note(alloc, out, Note::Pending(pending))?;
+    }
+    for foot in block.notes.foot.as_slice() {
+        push_note(alloc, out, Note::Foot(foot))?;
+    }
     let facts = start_facts(alloc, part.function, index, body)?;
     push_facts(alloc, out, part.names, facts.as_slice())?;
-    push_left_line(alloc, out, &block.notes)?;
+    push_note(alloc, out, Note::Left(&block.notes.left))?;
     push_usage(out, part, body);
     Ok(())
 }
 
-fn push_blocks(out: &mut TextBuffer, part: Part<'_>) -> Result<(), Refused> {
-    let open = open_regions(part.subject.alloc, part.blocks)?;
-    let blocks = part.spelled.blocks.as_slice().iter();
-    for (index, (block, body)) in blocks.zip(part.blocks.bodies).enumerate() {
-        if let Some(open) = open.as_slice().get(index) {
-            push_block(out, part, index, block, body, open.as_slice())?;
-        }
-    }
-    Ok(())
-}
-
-/// The blocks of a function, whose place in the module is `index`.
-fn blocks_of<'a>(subject: Subject<'a>, index: usize, function: &'a Function) -> Option<Blocks<'a>> {
+/// A function with what the phases know of it; `index` is its place in the module.
+fn part_of<'a>(
+    subject: Subject<'a>,
+    index: usize,
+    spelled: &'a syntax::Function,
+    function: &'a Function,
+) -> Option<Part<'a>> {
     let edges = subject.graph.functions.as_slice().get(index)?;
     let tasks = subject.regions.functions.as_slice().get(index)?;
-    Blocks::new(
-        function.blocks.as_slice(),
-        edges.blocks.as_slice(),
-        tasks.tasks.as_slice(),
-    )
+    Some(Part {
+        subject,
+        index,
+        spelled,
+        function,
+        names: subject.names.get(index)?.as_slice(),
+        blocks: Blocks::new(
+            function.blocks.as_slice(),
+            edges.blocks.as_slice(),
+            tasks.tasks.as_slice(),
+        )?,
+    })
 }
 
 fn push_function(
@@ -229,35 +190,29 @@ fn push_function(
     let name = spelled.name.as_str();
     let line = spelled.line;
     writeln!(out, "function @{name} line {line}");
-    let Some(blocks) = blocks_of(subject, index, function) else {
+    let Some(part) = part_of(subject, index, spelled, function) else {
         return Ok(());
     };
-    let names = register_names(subject.alloc, spelled)?;
-    let part = Part {
-        subject,
-        index,
-        spelled,
-        function,
-        names: names.as_slice(),
-        blocks,
-    };
-    push_blocks(out, part)
-}
-
-fn push_functions(out: &mut TextBuffer, subject: Subject<'_>) -> Result<(), Refused> {
-    let spelled = subject.module.functions.as_slice();
-    let functions = subject.program.functions.as_slice();
-    for (index, (spelled, function)) in spelled.iter().zip(functions).enumerate() {
-        push_function(out, subject, index, spelled, function)?;
+    let open = open_regions(subject.alloc, part.blocks)?;
+    for (index, (block, open)) in spelled.blocks.as_slice().iter().zip(&open).enumerate() {
+        if let Some(body) = part.blocks.bodies.get(index) {
+            push_block(out, part, index, block, body, open.as_slice())?;
+        }
     }
     Ok(())
 }
 
-fn push_subject(out: &mut TextBuffer, subject: Subject<'_>) -> Result<(), Refused> {
-    push_totals(out, subject);
-    push_globals(out, subject.program);
-    push_main(out, subject)?;
-    push_functions(out, subject)
+fn overview_of(subject: Subject<'_>) -> Result<String, Refused> {
+    let mut out = TextBuffer::new(subject.alloc);
+    push_totals(&mut out, subject);
+    push_globals(&mut out, subject.program);
+    push_ranges(&mut out, subject)?;
+    let spelled = subject.module.functions.as_slice();
+    let functions = subject.program.functions.as_slice();
+    for (index, (spelled, function)) in spelled.iter().zip(functions).enumerate() {
+        push_function(&mut out, subject, index, spelled, function)?;
+    }
+    Ok(out.finish()?)
 }
 
 /// What the verifier knows of a module that it took from this text, a line for each fact. First the budget, the depth, the cells that
@@ -275,17 +230,16 @@ pub fn show(
     verified: &Verified,
 ) -> Result<String, Refused> {
     let module = read(alloc, state, text)?;
+    let names = register_names(alloc, &module)?;
     let graph = verified.graph();
     let regions = regions(alloc, graph)?;
-    let subject = Subject {
+    overview_of(Subject {
         alloc,
         module: &module,
+        names: names.as_slice(),
         verified,
         graph,
         program: verified.program(),
         regions: &regions,
-    };
-    let mut out = TextBuffer::new(alloc);
-    push_subject(&mut out, subject)?;
-    Ok(out.finish()?)
+    })
 }

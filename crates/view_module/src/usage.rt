@@ -20,30 +20,6 @@ fn whole_cost(program: &Program, table: &Table, function: usize) -> u64 {
     }
 }
 
-impl Usage {
-    /// With an instruction more, of this function.
-    fn with(self, program: &Program, table: &Table, function: usize, next: &Instruction) -> Usage {
-        let instructions = self.instructions.saturating_add(1);
-        match next {
-            Instruction::Call { callee, .. } if callee.0 == function => Usage {
-                self_calls: self.self_calls.saturating_add(1),
-                instructions,
-            },
-            Instruction::Call { callee, .. } => {
-                let cost = whole_cost(program, table, callee.0);
-                Usage {
-                    self_calls: self.self_calls,
-                    instructions: instructions.saturating_add(cost),
-                }
-            }
-            _ => Usage {
-                self_calls: self.self_calls,
-                instructions,
-            },
-        }
-    }
-}
-
 /// What the block uses from its start to its end, its terminator counted.
 pub fn usage_of(program: &Program, table: &Table, function: usize, block: &Block) -> Usage {
     let mut usage = Usage {
@@ -51,7 +27,17 @@ pub fn usage_of(program: &Program, table: &Table, function: usize, block: &Block
         instructions: 1,
     };
     for step in block.steps.as_slice() {
-        usage = usage.with(program, table, function, &step.instruction);
+        usage.instructions = usage.instructions.saturating_add(1);
+        match &step.instruction {
+            Instruction::Call { callee, .. } if callee.0 == function => {
+                usage.self_calls = usage.self_calls.saturating_add(1);
+            }
+            Instruction::Call { callee, .. } => {
+                let cost = whole_cost(program, table, callee.0);
+                usage.instructions = usage.instructions.saturating_add(cost);
+            }
+            _ => {}
+        }
     }
     usage
 }

@@ -1,6 +1,6 @@
 //! Where the events of a run come from.
 
-use frame::{Event, Path};
+use frame::Event;
 use lists::OutOfMemory;
 use schedule_core::Machine;
 use std::alloc::Global;
@@ -32,27 +32,16 @@ impl<'e> Listed<'e> {
     }
 }
 
-/// The event again.
-fn copy_of(alloc: Global, event: &Event) -> Result<Event, OutOfMemory> {
-    Ok(match event {
-        Event::Step(worker) => Event::Step(*worker),
-        Event::Steal(worker, task) => Event::Steal(*worker, copy_path(alloc, task)?),
-    })
-}
-
-fn copy_path(alloc: Global, path: &Path) -> Result<Path, OutOfMemory> {
-    path.copy(alloc)
-}
-
 impl Course for Listed<'_> {
     fn next(&mut self, _machine: &Machine<'_>) -> Result<Option<Event>, OutOfMemory> {
-        match self.events.get(self.next) {
-            Some(event) => {
-                self.next = self.next.saturating_add(1);
-                Ok(Some(copy_of(self.alloc, event)?))
-            }
-            None => Ok(None),
-        }
+        let Some(event) = self.events.get(self.next) else {
+            return Ok(None);
+        };
+        self.next = self.next.saturating_add(1);
+        Ok(Some(match event {
+            Event::Step(worker) => Event::Step(*worker),
+            Event::Steal(worker, task) => Event::Steal(*worker, task.copy(self.alloc)?),
+        }))
     }
 
     fn done(&mut self, _machine: &Machine<'_>) -> Result<(), OutOfMemory> {

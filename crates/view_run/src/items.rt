@@ -15,15 +15,27 @@ pub struct Target {
     pub zeros: Option<u64>,
 }
 
+/// Which registers of a frame are told.
+#[derive(Clone, Copy)]
+pub enum Which {
+    None,
+    One(RegisterId),
+    /// The phis of the block in which the frame stands.
+    Phis,
+    /// The parameters of its function.
+    Parameters,
+    /// The one that took the result of the call behind which the frame stands, if one did.
+    Result,
+}
+
 /// What a step is about to do.
 #[derive(Clone, Copy)]
 pub struct Plan {
     pub act: Act,
-    /// The register that an instruction defines at once: a call's result comes later.
-    pub register: Option<RegisterId>,
+    /// What it sets in its own frame: what an instruction defines at once, as a call's result comes later; where the block ends the phis of the
+    /// next one.
+    pub sets: Which,
     pub target: Option<Target>,
-    /// Whether the block ends here: what registers are set are the phis of the next one.
-    pub is_ending: bool,
     /// Of a child's frame, where its parent goes on if nobody took that.
     pub continuation: Option<BlockId>,
 }
@@ -31,9 +43,8 @@ pub struct Plan {
 /// The step of a frame that nothing is known of.
 const UNKNOWN: Plan = Plan {
     act: Act::Plain,
-    register: None,
+    sets: Which::None,
     target: None,
-    is_ending: false,
     continuation: None,
 };
 
@@ -105,27 +116,17 @@ fn act_of(terminator: &Terminator) -> Act {
     }
 }
 
-/// Whether an instruction neither makes a frame nor ends one.
-fn is_within_frame(instruction: &Instruction) -> bool {
-    !matches!(instruction, Instruction::Call { .. })
-}
-
-/// The same of an ending: it leads to another block alone.
-fn leads_on(terminator: &Terminator) -> bool {
-    matches!(
-        terminator,
-        Terminator::Jump { .. } | Terminator::Branch { .. } | Terminator::Switch { .. }
-    )
-}
-
-/// Whether a frame's next step goes on with the frame, whatever others do.
-pub fn is_plain_at(program: &Program, frame: &Frame) -> bool {
+/// Whether a frame's next step goes on with the frame, whatever others do: it neither makes a frame nor ends one.
+pub(crate) fn is_plain_at(program: &Program, frame: &Frame) -> bool {
     let Some(block) = block_at(program, frame.function, frame.place.block) else {
         return false;
     };
     match (block.steps.as_slice().get(frame.place.index), &block.ending) {
-        (Some(step), _) => is_within_frame(&step.instruction),
-        (None, Some(ending)) => leads_on(&ending.terminator),
+        (Some(step), _) => !matches!(&step.instruction, Instruction::Call { .. }),
+        (None, Some(ending)) => matches!(
+            &ending.terminator,
+            Terminator::Jump { .. } | Terminator::Branch { .. } | Terminator::Switch { .. }
+        ),
         (None, None) => false,
     }
 }
@@ -145,19 +146,22 @@ pub fn act_at(program: &Program, frame: &Frame) -> Act {
 }
 
 /// What the next step of a frame is about to do.
-pub fn plan_of(program: &Program, places: &Places, frame: &Frame) -> Plan {
+pub(crate) fn plan_of(program: &Program, places: &Places, frame: &Frame) -> Plan {
     let Some(block) = block_at(program, frame.function, frame.place.block) else {
         return UNKNOWN;
     };
     match (block.steps.as_slice().get(frame.place.index), &block.ending) {
         (Some(step), _) => Plan {
-            register: defined_by(&step.instruction),
+            sets: match defined_by(&step.instruction) {
+                Some(register) => Which::One(register),
+                None => Which::None,
+            },
             target: target_of(places, frame, &step.instruction),
             ..UNKNOWN
         },
         (None, Some(ending)) => Plan {
             act: act_of(&ending.terminator),
-            is_ending: true,
+            sets: Which::Phis,
             continuation: match frame.role {
                 Role::Child { continuation, .. } => Some(continuation),
                 Role::Body => None,
@@ -166,21 +170,6 @@ pub fn plan_of(program: &Program, places: &Places, frame: &Frame) -> Plan {
         },
         (None, None) => UNKNOWN,
     }
-}
-
-/// The registers of the phis of the block in which a frame stands.
-pub fn phis_at(
-    alloc: Global,
-    program: &Program,
-    frame: &Frame,
-) -> Result<Vec<RegisterId>, OutOfMemory> {
-    let mut registers = ListBuffer::new(alloc);
-    if let Some(block) = block_at(program, frame.function, frame.place.block) {
-        for phi in block.phis.as_slice() {
-            registers.push(phi.register);
-        }
-    }
-    Ok(registers.finish()?)
 }
 
 /// The registers of a function's parameters.
@@ -199,11 +188,39 @@ pub fn parameters_at(
 }
 
 /// The register that took the result of the call behind which a frame stands, if one did.
-pub fn result_at(program: &Program, frame: &Frame) -> Option<RegisterId> {
+fn result_at(program: &Program, frame: &Frame) -> Option<RegisterId> {
     let block = block_at(program, frame.function, frame.place.block)?;
     let before = frame.place.index.checked_sub(1)?;
     match &block.steps.as_slice().get(before)?.instruction {
         Instruction::Call { register, .. } => *register,
         _ => None,
     }
+}
+
+/// These registers of a frame.
+pub(crate) fn registers_at(
+    alloc: Global,
+    program: &Program,
+    frame: &Frame,
+    which: Which,
+) -> Result<Vec<RegisterId>, OutOfMemory> {
+    let mut registers = ListBuffer::new(alloc);
+    match which {
+        Which::None => {}
+        Which::One(register) => registers.push(register),
+        Which::Phis => {
+            if let Some(block) = block_at(program, frame.function, frame.place.block) {
+                for phi in block.phis.as_slice() {
+                    registers.push(phi.register);
+                }
+            }
+        }
+        Which::Parameters => return parameters_at(alloc, program, frame),
+        Which::Result => {
+            if let Some(register) = result_at(program, frame) {
+                registers.push(register);
+            }
+        }
+    }
+    Ok(registers.finish()?)
 }

@@ -2,7 +2,7 @@
 
 use frame::Path;
 use frame_engine::{Frame, Places};
-use lists::OutOfMemory;
+use lists::{ListBuffer, OutOfMemory};
 use program::{Program, RegisterId, RegisterKind};
 use schedule_core::{RunFault, Verified, places_of};
 use std::alloc::Global;
@@ -91,7 +91,7 @@ impl Objects {
     }
 
     /// The frame of this path has returned.
-    pub fn end(&mut self, path: &Path) {
+    pub(crate) fn end(&mut self, path: &Path) {
         for place in 0..self.homes.len() {
             if self.homes[place].path.is_same(path) {
                 let _home = self.homes.swap_remove(place);
@@ -111,70 +111,66 @@ impl Objects {
     }
 
     /// The cell at an address.
-    pub fn cell_at(&self, address: i64) -> Result<Option<CellPlace>, OutOfMemory> {
-        let Some(home) = self.home_at(address) else {
-            let found = object_before(self.places.globals.as_slice(), address);
-            let Some((number, index)) = found else {
-                return Ok(None);
-            };
-            let thing = Thing::Global(number);
-            return Ok(Some(CellPlace { thing, index }));
+    pub(crate) fn cell_at(&self, address: i64) -> Result<Option<CellPlace>, OutOfMemory> {
+        let home = self.home_at(address);
+        let (starts, distance) = match home {
+            Some(home) => (
+                self.places.allocas.as_slice().get(home.function),
+                address.wrapping_sub(home.first),
+            ),
+            None => (Some(&self.places.globals), address),
         };
-        let function = home.function;
-        let Some(starts) = self.places.allocas.as_slice().get(function) else {
+        let Some(starts) = starts else {
             return Ok(None);
         };
-        let distance = address.wrapping_sub(home.first);
         let Some((number, index)) = object_before(starts.as_slice(), distance) else {
             return Ok(None);
         };
-        let thing = Thing::Alloca {
-            owner: home.path.copy(self.alloc)?,
-            function,
-            number,
+        let thing = match home {
+            Some(home) => Thing::Alloca {
+                owner: home.path.copy(self.alloc)?,
+                function: home.function,
+                number,
+            },
+            None => Thing::Global(number),
         };
         Ok(Some(CellPlace { thing, index }))
     }
 
-    /// What a word means in a register of this kind; none where that is a region.
-    fn value_of(&self, kind: RegisterKind, word: i64) -> Result<Option<Value>, OutOfMemory> {
-        match kind {
-            RegisterKind::Number(_) => Ok(Some(Value::Number(word))),
-            RegisterKind::Truth => Ok(Some(Value::Truth(word != 0))),
-            RegisterKind::Region => Ok(None),
-            RegisterKind::Object | RegisterKind::Element => {
-                Ok(self.cell_at(word)?.map(Value::Pointer))
-            }
-        }
-    }
-
-    /// What these registers of a frame hold now.
+    /// What these registers of a frame hold now, but for regions.
     pub fn settings(
         &self,
         program: &Program,
         frame: &Frame,
         registers: &[RegisterId],
     ) -> Result<Settings, OutOfMemory> {
-        let mut settings = Settings {
-            function: frame.function.0,
-            list: Vec::new(self.alloc),
+        let mut list = ListBuffer::new(self.alloc);
+        let kinds = match program.functions.as_slice().get(frame.function.0) {
+            Some(function) => function.registers.as_slice(),
+            None => &[],
         };
-        let Some(function) = program.functions.as_slice().get(frame.function.0) else {
-            return Ok(settings);
-        };
-        let kinds = function.registers.as_slice();
-        let words = frame.registers.as_slice();
         for register in registers {
-            let (Some(kind), Some(word)) = (kinds.get(register.0), words.get(register.0)) else {
+            let word = frame.registers.as_slice().get(register.0);
+            let (Some(kind), Some(word)) = (kinds.get(register.0), word) else {
                 continue;
             };
-            if let Some(value) = self.value_of(*kind, *word)? {
-                settings.list.push(Setting {
-                    register: register.0,
-                    value,
-                })?;
-            }
+            let value = match kind {
+                RegisterKind::Number(_) => Value::Number(*word),
+                RegisterKind::Truth => Value::Truth(*word != 0),
+                RegisterKind::Region => continue,
+                RegisterKind::Object | RegisterKind::Element => match self.cell_at(*word)? {
+                    Some(cell) => Value::Pointer(cell),
+                    None => continue,
+                },
+            };
+            list.push(Setting {
+                register: register.0,
+                value,
+            });
         }
-        Ok(settings)
+        Ok(Settings {
+            function: frame.function.0,
+            list: list.finish()?,
+        })
     }
 }

@@ -2,12 +2,10 @@
 
 ghost use Rattle.schedule_core.specs.store.Made.{IsMadeFor};
 
-use crate::items::{Plan, is_plain_at, parameters_at, phis_at, plan_of, result_at};
+use crate::items::{Plan, Which, is_plain_at, parameters_at, plan_of, registers_at};
 use crate::objects::Objects;
 use frame::Path;
-use frame_engine::Frame;
 use lists::OutOfMemory;
-use program::RegisterId;
 use schedule_core::{Event, Machine, Memory, RunFault, Status, TaskView, Verified};
 use std::alloc::Global;
 use view_events::{Act, Change, Hindrance, Moment, Outcome, Place, Settings, Written};
@@ -55,7 +53,7 @@ pub fn place_if(alloc: Global, view: Option<TaskView<'_>>) -> Result<Option<Plac
 }
 
 /// The path of the worker's task.
-pub fn path_of<'m>(machine: &'m Machine<'_>, worker: u8) -> Option<&'m Path> {
+pub(crate) fn path_of<'m>(machine: &'m Machine<'_>, worker: u8) -> Option<&'m Path> {
     match machine.task_of(worker) {
         Some(view) => Some(view.path),
         None => None,
@@ -209,61 +207,15 @@ impl<'v> Watch<'v> {
         Some(plan_of(self.verified.program(), &self.objects.places, view.top))
     }
 
-    /// What these registers of a frame hold now.
-    fn settings(&self, frame: &Frame, registers: &[RegisterId]) -> Result<Settings, OutOfMemory> {
-        self.objects
-            .settings(self.verified.program(), frame, registers)
-    }
-
-    /// The phis of the block in which a frame stands.
-    fn entered(&self, frame: &Frame) -> Result<Settings, OutOfMemory> {
-        let phis = phis_at(self.alloc, self.verified.program(), frame)?;
-        self.settings(frame, phis.as_slice())
-    }
-
-    /// The parameters of a frame's function.
-    fn given(&self, frame: &Frame) -> Result<Settings, OutOfMemory> {
-        let parameters = parameters_at(self.alloc, self.verified.program(), frame)?;
-        self.settings(frame, parameters.as_slice())
-    }
-
-    /// The result of the call behind which a frame stands.
-    fn returned(&self, frame: &Frame) -> Result<Settings, OutOfMemory> {
-        match result_at(self.verified.program(), frame) {
-            Some(register) => self.settings(frame, &[register]),
-            None => Ok(Settings::none(self.alloc)),
-        }
-    }
-
-    /// What a step set in the frame that did it, which lives on as the top of this task.
-    fn own(&self, plan: &Plan, task: Option<TaskView<'_>>) -> Result<Settings, OutOfMemory> {
-        match (task, plan.register) {
-            (Some(view), _) if plan.is_ending => self.entered(view.top),
-            (Some(view), Some(register)) => self.settings(view.top, &[register]),
-            _ => Ok(Settings::none(self.alloc)),
-        }
-    }
-
-    /// What a step set in the frame to which the worker came by it.
-    fn other(
-        &self,
-        plan: &Plan,
-        now: Option<TaskView<'_>>,
-        outcome: &Outcome,
-    ) -> Result<Settings, OutOfMemory> {
-        let Some(now) = now else {
+    /// What these registers of a task's top hold now; nothing where there is no task.
+    fn settings(&self, task: Option<TaskView<'_>>, which: Which) -> Result<Settings, OutOfMemory> {
+        let Some(view) = task else {
             return Ok(Settings::none(self.alloc));
         };
-        match outcome {
-            // A task that was stalled goes on behind its sync, any other one where the child was detached.
-            Outcome::TakesOn(_) if plan.continuation == Some(now.top.place.block) => {
-                Ok(Settings::none(self.alloc))
-            }
-            Outcome::Begins(_) | Outcome::TakesOn(_) => self.entered(now.top),
-            Outcome::Calls(_) => self.given(now.top),
-            Outcome::ReturnsTo(_) => self.returned(now.top),
-            _ => Ok(Settings::none(self.alloc)),
-        }
+        let program = self.verified.program();
+        let registers = registers_at(self.alloc, program, view.top, which)?;
+        self.objects
+            .settings(program, view.top, registers.as_slice())
     }
 
     /// What a step wrote.
@@ -283,7 +235,8 @@ impl<'v> Watch<'v> {
         }
     }
 
-    /// What a step of the worker set.
+    /// What a step of the worker set: in its frame, which lives on as the top of a task, in the one to which the worker came by it, and in
+    /// memory.
     fn change(
         &self,
         plan: &Plan,
@@ -297,9 +250,18 @@ impl<'v> Watch<'v> {
             Outcome::Begins(_) => self.machine.task(&place.task),
             _ => None,
         };
+        let others = match (outcome, now) {
+            // A task that was stalled goes on behind its sync, any other one where the child was detached.
+            (Outcome::TakesOn(_), Some(view)) if plan.continuation == Some(view.top.place.block) =>
+                { Which::None }
+            (Outcome::Begins(_) | Outcome::TakesOn(_), _) => Which::Phis,
+            (Outcome::Calls(_), _) => Which::Parameters,
+            (Outcome::ReturnsTo(_), _) => Which::Result,
+            _ => Which::None,
+        };
         Ok(Change {
-            own: self.own(plan, task)?,
-            other: self.other(plan, now, outcome)?,
+            own: self.settings(task, plan.sets)?,
+            other: self.settings(now, others)?,
             written: self.written(plan)?,
         })
     }

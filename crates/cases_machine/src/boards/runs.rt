@@ -14,6 +14,7 @@ use shared_run::{
 };
 use std::alloc::Global;
 use std::marker::Brand;
+use std::ops::Range;
 use std::sync::ledger::Blank;
 
 /// The most calls that a seed draws.
@@ -187,9 +188,13 @@ fn comes_right(run: &Run<'_>, report: &mut Report) -> Result<bool, OutOfMemory> 
     }
 }
 
-/// Whether so many runs come to what they are to: one a seed, on 1 to 4 workers.
-fn come_right(run: &mut Run<'_>, seeds: u64, report: &mut Report) -> Result<bool, OutOfMemory> {
-    for seed in 0..seeds {
+/// Whether the runs of these seeds come to what they are to, on 1 to 4 workers.
+fn come_right(
+    run: &mut Run<'_>,
+    seeds: &Range<u64>,
+    report: &mut Report,
+) -> Result<bool, OutOfMemory> {
+    for seed in seeds.start..seeds.end {
         run.seed = seed;
         run.workers = (seed % 4) as usize + 1;
         if !comes_right(&*run, report)? {
@@ -199,13 +204,13 @@ fn come_right(run: &mut Run<'_>, seeds: u64, report: &mut Report) -> Result<bool
     Ok(true)
 }
 
-/// Whether so many runs of the module come to what is wanted. It begins with the number of the first cell of `a`, and the arguments.
+/// Whether the runs of the module by these seeds come to what is wanted. It begins with the number of the first cell of `a`, and the arguments.
 pub fn are_right(
     alloc: Global,
     verified: &Verified,
     begin: (i64, &[i64]),
     wanted: Ending,
-    seeds: u64,
+    seeds: &Range<u64>,
     report: &mut Report,
 ) -> Result<bool, OutOfMemory> {
     let places = places_of(alloc, verified)?;

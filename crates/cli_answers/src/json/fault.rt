@@ -6,13 +6,6 @@ use lists::{OutOfMemory, TextBuffer};
 use refusal::push_heads;
 use std::alloc::Global;
 
-/// The columns of the first and the last byte that is no blank, from 1; of an empty line both are 1.
-fn columns_of(line: &str) -> (usize, usize) {
-    let before = line.len().saturating_sub(line.trim_start().len());
-    let end = line.trim_end().len();
-    (before.saturating_add(1), end.max(1))
-}
-
 /// A line without its comment; an annotation is none.
 fn code_of(line: &str) -> &str {
     match line.split_once(";") {
@@ -21,31 +14,8 @@ fn code_of(line: &str) -> &str {
     }
 }
 
-/// The number of the rule, the line that breaks it, its columns and its text: the first members of a fault.
-fn push_place(alloc: Global, out: &mut TextBuffer, text: &str, number: u16, line: u32) {
-    let broken = code_of(line_at(text, line).unwrap_or(""));
-    let (first, last) = columns_of(broken);
-    write!(
-        out,
-        "\"rule\":{number},\"line\":{line},\"columns\":[{first},{last}]"
-    );
-    push_member(alloc, out, "text", broken.trim());
-}
-
-/// What the rule means that the line breaks, without its causes.
-fn words_of(alloc: Global, text: &str, number: u16, line: u32) -> Result<String, OutOfMemory> {
-    let broken = line_at(text, line).unwrap_or("").trim();
-    let mut heads = String::new(alloc);
-    push_heads(&mut heads, number, broken)?;
-    let head = heads.as_str().trim();
-    let words = match head.split_once(": ") {
-        Some((_number, words)) => words,
-        None => head,
-    };
-    Ok(String::from_str(alloc, words)?)
-}
-
-/// Where a rule is broken, and what it means.
+/// Where a rule is broken, and what it means: the number of the rule, the line that breaks it, the columns of its first and last byte that is no blank, from 1
+/// (of an empty line both are 1), its text, and the rule in words, without its causes.
 pub fn push_broken(
     alloc: Global,
     out: &mut TextBuffer,
@@ -53,27 +23,23 @@ pub fn push_broken(
     number: u16,
     line: u32,
 ) -> Result<(), OutOfMemory> {
-    push_place(alloc, out, text, number, line);
-    let words = words_of(alloc, text, number, line)?;
-    push_member(alloc, out, "words", words.as_str());
+    let broken = line_at(text, line).unwrap_or("");
+    let code = code_of(broken);
+    let before = code.len().saturating_sub(code.trim_start().len());
+    let first = before.saturating_add(1);
+    let last = code.trim_end().len().max(1);
+    write!(
+        out,
+        "\"rule\":{number},\"line\":{line},\"columns\":[{first},{last}]"
+    );
+    push_member(alloc, out, "text", code.trim());
+    let mut heads = String::new(alloc);
+    push_heads(&mut heads, number, broken.trim())?;
+    let head = heads.as_str().trim();
+    let words = match head.split_once(": ") {
+        Some((_number, words)) => words,
+        None => head,
+    };
+    push_member(alloc, out, "words", words);
     Ok(())
-}
-
-/// The verdict on a module that is refused.
-///
-/// # Errors
-///
-/// Memory was refused.
-pub fn refusal_json(
-    alloc: Global,
-    text: &[u8],
-    number: u16,
-    line: u32,
-) -> Result<String, OutOfMemory> {
-    let text = str::from_utf8(text).unwrap_or("");
-    let mut out = TextBuffer::new(alloc);
-    out.push_str("{\"verdict\":\"refused\",");
-    push_broken(alloc, &mut out, text, number, line)?;
-    out.push_str("}\n");
-    Ok(out.finish()?)
 }

@@ -1,208 +1,101 @@
 //! What the verifier knows of each block, from the lines that `show` prints.
 
-use crate::json::list::{push_member, push_separator, push_text};
-use lists::{OutOfMemory, TextBuffer};
+use crate::json::list::{push_separator, push_text};
+use lists::TextBuffer;
 use std::alloc::{AllocError, Global};
-use std::mem;
 
-/// What stands around the line of a function or a block.
-#[derive(Clone, Copy)]
-enum Inside {
-    Module,
-    Function,
-    Block,
+/// The words that one line of each block begins with.
+const ONCE: [&str; 3] = ["task", "left", "uses"];
+
+/// The words that any number of lines of a block begin with.
+const OFTEN: [&str; 4] = ["open", "pending", "foot", "knows"];
+
+/// The word of a line that stands behind this mark.
+fn word_behind<'a>(line: &'a str, mark: &str) -> &'a str {
+    let behind = match line.split_once(mark) {
+        Some((_before, behind)) => behind,
+        None => "",
+    };
+    match behind.split_once(" ") {
+        Some((word, _rest)) => word,
+        None => behind,
+    }
 }
 
-/// The lines that are read, and what is written of them.
-#[derive(Drop)]
-struct Reading {
-    alloc: Global,
-    out: TextBuffer,
-    inside: Inside,
-    lists: Lists,
+/// `budget 14`, `depth 2`, `cells of frames 0 for each worker`
+fn push_totals(out: &mut TextBuffer, head: &str) {
+    let mut lines = head.lines();
+    let budget = word_behind(lines.next().unwrap_or(""), "budget ");
+    let depth = word_behind(lines.next().unwrap_or(""), "depth ");
+    let cells = word_behind(lines.next().unwrap_or(""), "frames ");
+    write!(
+        out,
+        "{{\"verdict\":\"accepted\",\"budget\":{budget},\"depth\":{depth},\"cells\":{cells}"
+    );
 }
 
-/// The lines of a block that may come more than once, each as the members of a list.
-#[derive(Drop)]
-struct Lists {
-    opened: TextBuffer,
-    pending: TextBuffer,
-    foot: TextBuffer,
-    knows: TextBuffer,
-}
-
-/// A list without members, which is not closed.
-fn open_list(alloc: Global) -> TextBuffer {
-    let mut list = TextBuffer::new(alloc);
-    list.push('[');
-    list
-}
-
-impl Lists {
-    fn open(alloc: Global) -> Lists {
-        Lists {
-            opened: open_list(alloc),
-            pending: open_list(alloc),
-            foot: open_list(alloc),
-            knows: open_list(alloc),
+/// `global @a cells 2`
+fn push_globals(out: &mut TextBuffer, head: &str) {
+    out.push_str(",\"globals\":[");
+    for line in head.lines() {
+        if line.starts_with("global ") {
+            let name = word_behind(line, "global ");
+            let cells = word_behind(line, " cells ");
+            push_separator(out);
+            write!(out, "{{\"name\":\"{name}\",\"cells\":{cells}}}");
         }
     }
 }
 
-/// A list under its key, closed.
-fn push_list(out: &mut TextBuffer, key: &str, list: TextBuffer) -> Result<(), AllocError> {
-    let members = list.finish()?;
-    write!(out, ",\"{key}\":{members}]");
-    Ok(())
-}
-
-impl Lists {
-    /// Closes the lists.
-    fn push_closed(self, out: &mut TextBuffer) -> Result<(), AllocError> {
-        let Lists {
-            opened,
-            pending,
-            foot,
-            knows,
-        } = self;
-        push_list(out, "open", opened)?;
-        push_list(out, "pending", pending)?;
-        push_list(out, "foot", foot)?;
-        push_list(out, "knows", knows)
+/// `argument %n from 0 to 100`: the ends are texts, since they may be past what readers of JSON keep.
+fn push_arguments(out: &mut TextBuffer, head: &str) {
+    out.push_str("],\"arguments\":[");
+    for line in head.lines() {
+        if line.starts_with("argument ") {
+            let name = word_behind(line, "argument ");
+            let from = word_behind(line, " from ");
+            let to = word_behind(line, " to ");
+            push_separator(out);
+            write!(
+                out,
+                "{{\"name\":\"{name}\",\"from\":\"{from}\",\"to\":\"{to}\"}}"
+            );
+        }
     }
 }
 
-impl Reading {
-    /// Closes the block, with its lists, and opens these for the next one.
-    fn close_block(&mut self) -> Result<(), AllocError> {
-        let lists = mem::replace(&mut self.lists, Lists::open(self.alloc));
-        lists.push_closed(&mut self.out)?;
-        self.out.push('}');
-        Ok(())
-    }
+/// The first members of a function or a block: its name and line, as its first line has them.
+fn push_named(out: &mut TextBuffer, key: &str, part: &str) {
+    let first = part.lines().next().unwrap_or("");
+    let (name, line) = first.split_once(" line ").unwrap_or((first, "0"));
+    push_separator(out);
+    write!(out, "{{\"{key}\":\"{name}\",\"line\":{line}");
+}
 
-    /// Closes what is open, down to the module.
-    fn close(&mut self) -> Result<(), AllocError> {
-        if matches!(self.inside, Inside::Block) {
-            self.close_block()?;
-        }
-        if !matches!(self.inside, Inside::Module) {
-            self.out.push_str("]}");
-        }
-        self.inside = Inside::Module;
-        Ok(())
-    }
-
-    /// `function @f line 3`
-    fn function(&mut self, rest: &str) -> Result<(), AllocError> {
-        self.close()?;
-        let (name, line) = rest.split_once(" line ").unwrap_or((rest, "0"));
-        push_separator(&mut self.out);
-        self.inside = Inside::Function;
-        write!(
-            self.out,
-            "{{\"name\":\"{name}\",\"line\":{line},\"blocks\":["
-        );
-        Ok(())
-    }
-
-    /// `block %b line 3`
-    fn block(&mut self, rest: &str) -> Result<(), AllocError> {
-        if matches!(self.inside, Inside::Block) {
-            self.close_block()?;
-        }
-        let (label, line) = rest.split_once(" line ").unwrap_or((rest, "0"));
-        push_separator(&mut self.out);
-        self.inside = Inside::Block;
-        write!(self.out, "{{\"label\":\"{label}\",\"line\":{line}");
-        Ok(())
-    }
-
-    /// A line of a block.
-    fn member(&mut self, word: &str, rest: &str) {
-        match word {
-            "open" => push_text(self.alloc, &mut self.lists.opened, rest),
-            "pending" => push_text(self.alloc, &mut self.lists.pending, rest),
-            "foot" => push_text(self.alloc, &mut self.lists.foot, rest),
-            "knows" => push_text(self.alloc, &mut self.lists.knows, rest),
-            _ => push_member(self.alloc, &mut self.out, word, rest),
-        }
-    }
-
-    /// A line behind those of the module, which begins with this word.
-    fn worded(&mut self, word: &str, rest: &str) -> Result<(), AllocError> {
-        match word {
-            "function" => return self.function(rest),
-            "block" => return self.block(rest),
-            "budget" | "depth" | "cells" | "global" | "argument" => {}
-            _ => self.member(word, rest),
-        }
-        Ok(())
-    }
-
-    /// All functions.
-    fn functions(&mut self, shown: &str) -> Result<(), AllocError> {
-        self.out.push_str(",\"functions\":[");
-        for line in shown.lines() {
-            let line = line.trim();
-            match line.split_once(" ") {
-                Some((word, rest)) => self.worded(word, rest)?,
-                None => self.worded(line, "")?,
-            }
-        }
-        self.close()?;
-        self.out.push(']');
-        Ok(())
-    }
-
-    /// `budget 14`, `depth 2`, `cells of frames 0 for each worker`
-    fn totals(&mut self, shown: &str) {
-        for line in shown.lines() {
-            if let Some(budget) = line.strip_prefix("budget ") {
-                write!(self.out, ",\"budget\":{budget}");
-            }
-            if let Some(depth) = line.strip_prefix("depth ") {
-                write!(self.out, ",\"depth\":{depth}");
-            }
-            if let Some(rest) = line.strip_prefix("cells of frames ") {
-                if let Some((cells, _)) = rest.split_once(" ") {
-                    write!(self.out, ",\"cells\":{cells}");
-                }
+/// The lines of a block that begin with this word, each as a text without it.
+fn push_lines(alloc: Global, out: &mut TextBuffer, block: &str, key: &str) {
+    for line in block.lines() {
+        if let Some((word, rest)) = line.trim().split_once(" ") {
+            if word == key {
+                push_text(alloc, out, rest);
             }
         }
     }
+}
 
-    /// `global @a cells 2`
-    fn globals(&mut self, shown: &str) {
-        self.out.push_str(",\"globals\":[");
-        for line in shown.lines() {
-            if let Some(rest) = line.strip_prefix("global ") {
-                if let Some((name, cells)) = rest.split_once(" cells ") {
-                    push_separator(&mut self.out);
-                    write!(self.out, "{{\"name\":\"{name}\",\"cells\":{cells}}}");
-                }
-            }
-        }
-        self.out.push(']');
+/// `%b line 3`, and the lines of the block.
+fn push_block(alloc: Global, out: &mut TextBuffer, block: &str) {
+    push_named(out, "label", block);
+    for key in ONCE {
+        write!(out, ",\"{key}\":");
+        push_lines(alloc, out, block, key);
     }
-
-    /// `argument %n from 0 to 100`: the ends are texts, since they may be past what readers of JSON keep.
-    fn arguments(&mut self, shown: &str) {
-        self.out.push_str(",\"arguments\":[");
-        for line in shown.lines() {
-            if let Some(rest) = line.strip_prefix("argument ") {
-                if let Some((name, range)) = rest.split_once(" from ") {
-                    let (from, to) = range.split_once(" to ").unwrap_or((range, ""));
-                    push_separator(&mut self.out);
-                    write!(
-                        self.out,
-                        "{{\"name\":\"{name}\",\"from\":\"{from}\",\"to\":\"{to}\"}}"
-                    );
-                }
-            }
-        }
-        self.out.push(']');
+    for key in OFTEN {
+        write!(out, ",\"{key}\":[");
+        push_lines(alloc, out, block, key);
+        out.push(']');
     }
+    out.push('}');
 }
 
 /// What `show` says of a module, from the lines that it prints.
@@ -210,18 +103,23 @@ impl Reading {
 /// # Errors
 ///
 /// Memory was refused.
-pub fn known_json(alloc: Global, shown: &str) -> Result<String, OutOfMemory> {
-    let mut reading = Reading {
-        alloc,
-        out: TextBuffer::new(alloc),
-        inside: Inside::Module,
-        lists: Lists::open(alloc),
-    };
-    reading.out.push_str("{\"verdict\":\"accepted\"");
-    reading.totals(shown);
-    reading.globals(shown);
-    reading.arguments(shown);
-    reading.functions(shown)?;
-    reading.out.push_str("}\n");
-    Ok(reading.out.finish()?)
+pub fn known_json(alloc: Global, shown: &str) -> Result<String, AllocError> {
+    let mut out = TextBuffer::new(alloc);
+    let mut functions = shown.split("\nfunction ");
+    let head = functions.next().unwrap_or("");
+    push_totals(&mut out, head);
+    push_globals(&mut out, head);
+    push_arguments(&mut out, head);
+    out.push_str("],\"functions\":[");
+    for function in functions {
+        let mut blocks = function.split("\n  block ");
+        push_named(&mut out, "name", blocks.next().unwrap_or(""));
+        out.push_str(",\"blocks\":[");
+        for block in blocks {
+            push_block(alloc, &mut out, block);
+        }
+        out.push_str("]}");
+    }
+    out.push_str("]}\n");
+    out.finish()
 }

@@ -1,4 +1,4 @@
-//! Lists of texts.
+//! Texts as members and in lists.
 
 use lists::TextBuffer;
 use std::alloc::{AllocError, Global};
@@ -23,12 +23,12 @@ impl fmt::Display for Quoted<'_> {
 
 /// The separator before an item of a list, where another one stands before it.
 pub fn push_separator(out: &mut TextBuffer) {
-    if !out.as_str().ends_with(['[', '{']) {
+    if !out.as_str().ends_with(['[', ':']) {
         out.push(',');
     }
 }
 
-/// An item of a list of texts.
+/// An item of a list of texts, or the text of a member whose key was written.
 pub fn push_text(alloc: Global, out: &mut TextBuffer, text: &str) {
     push_separator(out);
     out.write_fmt(Quoted { alloc, text });

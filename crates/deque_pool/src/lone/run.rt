@@ -49,15 +49,6 @@ impl Drop for LoneRun<'_> {
     }
 }
 
-/// Nothing is counted yet.
-fn blank(alloc: Global) -> CountedCells {
-    let flat = Flat {
-        cells: Vec::new(alloc),
-    };
-    let counts = Counts::new(alloc);
-    CountedCells { flat, counts }
-}
-
 impl<'v> LoneRun<'v> {
     /// The run of arguments that the program takes, before its first strand.
     fn of_taken(
@@ -77,14 +68,18 @@ impl<'v> LoneRun<'v> {
         let places = Places::of_program(alloc, program)?;
         let row = memory.row()?;
         let stack = Stack::begin(alloc, program, arguments, row, most_moves(program))?;
-        let counted = blank(alloc);
+        let cells = Vec::new(alloc);
+        let counts = Counts::new(alloc);
         Ok(LoneRun {
             program,
             arguments,
             memory,
             places,
             stack,
-            counted,
+            counted: CountedCells {
+                flat: Flat { cells },
+                counts,
+            },
             done: 0,
             peak: 1,
         })

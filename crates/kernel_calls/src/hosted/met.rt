@@ -5,7 +5,7 @@ ghost use Rattle.kernel_calls.specs.declared.hosted.met.Met.TheVariants.{Stopped
 use strand_turns::Met as Served;
 
 /// What a worker is told when it has met the board.
-#[derive(Clone, Copy, PartialEq, Eq)]
+#[derive(Clone, Copy)]
 pub enum Met {
     /// To go on outside.
     Work,

@@ -1,4 +1,4 @@
-ghost use Rattle.std.specs.Prelude.{◌≡◌, ◌≢◌, ◌+◌, ◌-◌, ◌^◌, ◌<◌, [], Err, IfErr, IfNone, IfOk, IfSome, IsSome, None, OnErr, length, min};
+ghost use Rattle.std.specs.Prelude.{◌≡◌, ◌≢◌, ◌<◌, [], Err, IfErr, IfNone, IfOk, IfSome, IsSome, None, OnErr, length};
 ghost use Rattle.kernel_calls.specs.hosted.Hosted.{IsProgress, IsTold, RunsFrom, WorksFor, start_of};
 ghost use Rattle.kernel_calls.specs.declared.hosted.met.Met.TheVariants.{Stopped};
 ghost use Rattle.schedule_core.specs.Admission.{IsAdmitted};
@@ -84,7 +84,7 @@ fn board_as<L: Bench>(
 
 /// Tells those who go on outside whether others wait. Where memory was refused to a worker the run cannot go on for any.
 fn note(offers: &mut Offers, served: Served) -> Served {
-    if served == Served::OutOfMemory {
+    if let Served::OutOfMemory = served {
         offers.starved = true;
     }
     offers.tell();
@@ -338,15 +338,6 @@ impl HostedRun {
             ears,
         };
         (run, worker, met)
-    }
-
-    /// Grants more fuel, at most 2^64 - 1 in all.
-    pub fn grant(&mut self, more: u64)
-        ensures fuel { self.new.fuel ≡ min (self.old.fuel + more) (2 ^ 64 - 1) }
-        ensures board { self.new.board ≡ self.old.board }
-        ensures places { self.new.places ≡ self.old.places }
-    {
-        self.fuel = self.fuel.saturating_add(more);
     }
 
     /// How far the run has come.

@@ -1,4 +1,4 @@
-ghost use Rattle.std.specs.Prelude.{◌≡◌, IsSome, IsTrue};
+ghost use Rattle.std.specs.Prelude.{◌≡◌};
 ghost use Rattle.kernel_calls.specs.hosted.Hosted.{WorksFor};
 ghost use Rattle.schedule_workers.specs.Starts.{ArePlaces};
 ghost use Rattle.shared_run.specs.Resting.{StaysPut};
@@ -84,13 +84,6 @@ impl HostedWorker {
             ears,
         } = self;
         (number, places, stack, habits, ears)
-    }
-
-    /// Whether the run's stop is set.
-    pub fn is_stopped(&self) -> bool
-        ensures { IsTrue result → IsSome self.now.ears.stop.word }
-    {
-        self.ears.stop.is_set()
     }
 
     /// Goes on outside of the board, as long as nothing is wanted of it and the stop is not set.

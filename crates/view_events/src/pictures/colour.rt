@@ -35,11 +35,11 @@ text{font:12px sans-serif;fill:#222;stroke:none}
 </defs>";
 
 /// The number of a task's hue.
-pub fn hue_of(task: usize) -> usize {
+pub(crate) fn hue_of(task: usize) -> usize {
     task % 16
 }
 
 /// The number of a task's hatching; 0 is none.
-pub fn hatching_of(task: usize) -> usize {
+pub(crate) fn hatching_of(task: usize) -> usize {
     (task / 16) % 4
 }

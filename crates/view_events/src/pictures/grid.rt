@@ -33,7 +33,7 @@ pub struct Grid {
 }
 
 impl Grid {
-    pub fn of(scene: &Scene) -> Grid {
+    pub(crate) fn of(scene: &Scene) -> Grid {
         let rounds = scene.rounds.max(1);
         let wished = (ACROSS / rounds.max(1)).min(WIDEST).max(2);
         Grid {
@@ -44,55 +44,55 @@ impl Grid {
     }
 
     /// Whether a round has a pixel at least.
-    pub fn is_exact(self) -> bool {
+    pub(crate) fn is_exact(self) -> bool {
         self.rounds <= self.across
     }
 
     /// The width of so many rounds.
-    pub fn span(self, rounds: u64) -> u64 {
+    pub(crate) fn span(self, rounds: u64) -> u64 {
         let scaled = rounds.min(self.rounds).saturating_mul(self.across);
         scaled / self.rounds.max(1)
     }
 
     /// Where a round ends.
-    pub fn x(self, round: u64) -> u64 {
+    pub(crate) fn x(self, round: u64) -> u64 {
         LEFT.saturating_add(self.span(round))
     }
 
     /// The middle of a round.
-    pub fn middle(self, round: u64) -> u64 {
+    pub(crate) fn middle(self, round: u64) -> u64 {
         self.x(round.saturating_sub(1))
             .saturating_add(self.x(round))
             / 2
     }
 
     /// The middle of a worker's row.
-    pub fn y(self, worker: usize) -> u64 {
+    pub(crate) fn y(self, worker: usize) -> u64 {
         let rows = (worker as u64).saturating_mul(ROW);
         TOP.saturating_add(rows).saturating_add(ROW / 2)
     }
 
     /// Where the longest chain runs in a worker's row.
-    pub fn chain_y(self, worker: usize) -> u64 {
+    pub(crate) fn chain_y(self, worker: usize) -> u64 {
         self.y(worker).saturating_add(STAY / 2 + 3)
     }
 
     /// The lower edge of the last row.
-    pub fn bottom(self) -> u64 {
+    pub(crate) fn bottom(self) -> u64 {
         TOP.saturating_add((self.workers as u64).saturating_mul(ROW))
     }
 
     /// The right edge of the last round.
-    pub fn right(self) -> u64 {
+    pub(crate) fn right(self) -> u64 {
         self.x(self.rounds)
     }
 
-    pub fn width(self) -> u64 {
+    pub(crate) fn width(self) -> u64 {
         self.right().saturating_add(MARGIN).max(NARROWEST)
     }
 
     /// How many rounds stand between two numbers on the axis: so many that these are 40 pixels apart, and 1, 2 or 5 with noughts.
-    pub fn stride(self) -> u64 {
+    pub(crate) fn stride(self) -> u64 {
         let mut stride = 1u64;
         for step in 0..60u32 {
             if self.span(stride) >= 40 || stride >= self.rounds {
@@ -108,7 +108,7 @@ impl Grid {
     }
 
     /// How many numbers the axis has.
-    pub fn numbers(self) -> u64 {
+    pub(crate) fn numbers(self) -> u64 {
         self.rounds / self.stride().max(1)
     }
 }

@@ -15,6 +15,15 @@ pub struct Stay {
     pub to: u64,
 }
 
+impl Stay {
+    fn end(self) -> Instant {
+        Instant {
+            worker: self.worker,
+            round: self.to,
+        }
+    }
+}
+
 /// Events of a worker in rounds that follow each other: instructions of one task, or one steal.
 #[derive(Clone, Copy)]
 pub struct Work {
@@ -33,7 +42,6 @@ pub struct Theft {
     pub thief: usize,
     /// The worker that ran the task last.
     pub victim: usize,
-    pub task: usize,
 }
 
 /// An event that was not enabled, by the round that it would have had.
@@ -51,6 +59,20 @@ struct Living {
     runner: usize,
 }
 
+/// What a worker does.
+#[derive(Clone, Copy)]
+struct Hand {
+    /// The task that it has, and since when; `to` is not used.
+    stay: Option<Stay>,
+    /// The number of the work that its next instruction may go on with.
+    work: Option<usize>,
+}
+
+const EMPTY: Hand = Hand {
+    stay: None,
+    work: None,
+};
+
 /// A whole run, which is told event by event. Workers and tasks are numbered from 0.
 pub struct Scene {
     alloc: Global,
@@ -66,10 +88,8 @@ pub struct Scene {
     pub rounds: u64,
     /// The round in which the run ended.
     pub end: Option<u64>,
-    /// What each worker has in its hand, and since when; `to` is not used.
-    hands: Vec<Option<Stay>>,
-    /// By worker: the number of its last work.
-    latest: Vec<Option<usize>>,
+    /// By worker.
+    hands: Vec<Hand>,
     living: Vec<Living>,
     /// Whether memory was refused for a part of the scene.
     is_refused: bool,
@@ -88,7 +108,6 @@ impl Drop for Scene {
             rounds: _,
             end: _,
             hands: _,
-            latest: _,
             living: _,
             is_refused: _,
         } = self;
@@ -96,12 +115,13 @@ impl Drop for Scene {
 }
 
 impl Scene {
-    /// The scene before the first event: worker 0 runs the root. Where memory is refused for that, the next event says so.
+    /// The scene before the first event: worker 0 runs the root.
     ///
     /// # Errors
     ///
     /// Memory was refused for the rows of the workers.
     pub fn new(alloc: Global, workers: usize) -> Result<Scene, OutOfMemory> {
+        let hands = vec![in alloc; EMPTY; workers]?;
         let mut scene = Scene {
             alloc,
             tasks: Vec::new(alloc),
@@ -111,26 +131,21 @@ impl Scene {
             misses: Vec::new(alloc),
             rounds: 0,
             end: None,
-            hands: vec![in alloc; None; workers]?,
-            latest: vec![in alloc; None; workers]?,
+            hands,
             living: Vec::new(alloc),
             is_refused: false,
         };
-        scene.begin(0, &Path::root(alloc), 0);
+        let _runner = scene.begin(0, &Path::root(alloc), 0);
         Ok(scene)
     }
 
-    /// Says whether memory was refused so far.
-    fn checked(&self) -> Result<(), OutOfMemory> {
-        if self.is_refused {
-            Err(OutOfMemory)
-        } else {
-            Ok(())
-        }
+    /// Whether memory was refused so far: then parts of the scene are missing.
+    pub(crate) fn is_refused(&self) -> bool {
+        self.is_refused
     }
 
     /// How many workers there are.
-    pub fn workers(&self) -> usize {
+    pub(crate) fn workers(&self) -> usize {
         self.hands.len()
     }
 
@@ -143,40 +158,22 @@ impl Scene {
         None
     }
 
-    fn living(&mut self, task: &Path) -> Option<&mut Living> {
-        let place = self.find(task)?;
-        self.living.as_mut_slice().get_mut(place)
-    }
-
     /// A task begins, with the next number.
-    fn enter(&mut self, task: &Path, runner: usize) -> Result<(), OutOfMemory> {
+    fn enter(&mut self, task: &Path, runner: usize) {
+        let number = self.tasks.len();
         let name = TaskName(task);
-        let number = self.tasks.len();
-        self.tasks.push(format!(in self.alloc; "{name}")?)?;
-        self.living.push(Living {
-            path: task.copy(self.alloc)?,
-            number,
-            runner,
-        })?;
-        Ok(())
-    }
-
-    /// The number of a task that the worker runs now; a task that has none gets the next one.
-    fn number(&mut self, task: &Path, runner: usize) -> usize {
-        if let Some(living) = self.living(task) {
-            living.runner = runner;
-            return living.number;
-        }
-        let number = self.tasks.len();
-        self.is_refused |= self.enter(task, runner).is_err();
-        number
-    }
-
-    /// The worker that ran the task last.
-    fn runner_of(&mut self, task: &Path) -> usize {
-        match self.living(task) {
-            Some(living) => living.runner,
-            None => 0,
+        if let Ok(name) = format!(in self.alloc; "{name}")
+            && self.tasks.push(name).is_ok()
+            && let Ok(path) = task.copy(self.alloc)
+        {
+            let living = Living {
+                path,
+                number,
+                runner,
+            };
+            self.is_refused |= self.living.push(living).is_err();
+        } else {
+            self.is_refused = true;
         }
     }
 
@@ -189,231 +186,157 @@ impl Scene {
         }
     }
 
-    fn hand(&self, worker: usize) -> Option<Stay> {
-        self.hands.as_slice().get(worker).copied().flatten()
-    }
-
-    fn set_hand(&mut self, worker: usize, hand: Option<Stay>) {
-        if worker < self.hands.len() {
-            self.hands[worker] = hand;
-        }
-    }
-
-    /// The worker has the task in its hand after this round. The answer is the task's number.
+    /// The worker has the task in its hand after this round; a task that has no number gets the next one. The answer is the worker that ran
+    /// it last; 0 where none did.
     fn begin(&mut self, worker: usize, task: &Path, from: u64) -> usize {
-        let task = self.number(task, worker);
-        let stay = Stay {
-            worker,
-            task,
-            from,
-            to: from,
-        };
-        self.set_hand(worker, Some(stay));
-        task
+        let mut number = self.tasks.len();
+        let mut runner = 0;
+        if let Some(place) = self.find(task)
+            && let Some(living) = self.living.as_mut_slice().get_mut(place)
+        {
+            number = living.number;
+            runner = living.runner;
+            living.runner = worker;
+        } else {
+            self.enter(task, worker);
+        }
+        if let Some(hand) = self.hands.as_mut_slice().get_mut(worker) {
+            *hand = Hand {
+                stay: Some(Stay {
+                    worker,
+                    task: number,
+                    from,
+                    to: from,
+                }),
+                work: None,
+            };
+        }
+        runner
     }
 
     /// The worker has its task in its hand up to this round.
     fn leave(&mut self, worker: usize, to: u64) {
-        if let Some(stay) = self.hand(worker) {
+        if let Some(hand) = self.hands.as_mut_slice().get_mut(worker)
+            && let Some(stay) = hand.stay.take()
+        {
             self.is_refused |= self.stays.push(Stay { to, ..stay }).is_err();
         }
-        self.set_hand(worker, None);
     }
 
-    /// The work that this one goes on with, where it does.
-    fn going_on(&mut self, next: &Work) -> Option<&mut Work> {
-        let stay = next.stay;
-        let number = self.latest.as_slice().get(stay.worker).copied().flatten()?;
-        let work = self.works.as_mut_slice().get_mut(number)?;
-        let goes_on = work.stay.task == stay.task && next.after.is_none();
-        if goes_on && !next.is_steal && !work.is_steal && work.stay.to == stay.from {
-            Some(work)
-        } else {
-            None
-        }
-    }
-
-    /// The worker does events for a task, in rounds that follow each other.
-    fn add_work(&mut self, next: Work) {
-        if let Some(work) = self.going_on(&next) {
-            work.stay.to = next.stay.to;
+    /// The worker does so many events for its task, in rounds that follow each other. Instructions go on with its last work where that ended
+    /// in the round before.
+    fn work(&mut self, worker: usize, count: u64, timing: Timing, is_steal: bool) {
+        let Some(hand) = self.hands.as_mut_slice().get_mut(worker) else {
+            return;
+        };
+        let Some(stay) = hand.stay else {
+            return;
+        };
+        let from = timing.round.saturating_sub(count);
+        if let (Some(number), None) = (hand.work, timing.after)
+            && let Some(work) = self.works.as_mut_slice().get_mut(number)
+            && work.stay.to == from
+        {
+            work.stay.to = timing.round;
             return;
         }
-        let worker = next.stay.worker;
-        if worker < self.latest.len() {
-            self.latest[worker] = Some(self.works.len());
-        }
-        self.is_refused |= self.works.push(next).is_err();
-    }
-
-    /// The worker does an event for a task.
-    fn work(&mut self, worker: usize, task: usize, timing: Timing, is_steal: bool) {
-        let stay = Stay {
-            worker,
-            task,
-            from: timing.round.saturating_sub(1),
-            to: timing.round,
+        hand.work = if is_steal {
+            None
+        } else {
+            Some(self.works.len())
         };
-        self.add_work(Work {
-            stay,
+        let next = Work {
+            stay: Stay {
+                from,
+                to: timing.round,
+                ..stay
+            },
             after: timing.after,
             is_critical: false,
             is_steal,
-        });
+        };
+        self.is_refused |= self.works.push(next).is_err();
     }
 
     /// The worker executes so many instructions of its task that do nothing to tasks, the last one in this round.
-    ///
-    /// # Errors
-    ///
-    /// Memory was refused.
-    pub fn add_steps(&mut self, worker: usize, count: u64, round: u64) -> Result<(), OutOfMemory> {
+    pub fn add_steps(&mut self, worker: usize, count: u64, round: u64) {
         self.rounds = self.rounds.max(round);
-        if let Some(hand) = self.hand(worker) {
-            let stay = Stay {
-                from: round.saturating_sub(count),
-                to: round,
-                ..hand
-            };
-            self.add_work(Work {
-                stay,
-                after: None,
-                is_critical: false,
-                is_steal: false,
-            });
-        }
-        self.checked()
+        self.work(worker, count, Timing { round, after: None }, false);
     }
 
     /// The worker takes the task of this place from the one that ran it last.
     fn steal(&mut self, thief: usize, place: &Place, timing: Timing) {
         let round = timing.round;
-        let victim = self.runner_of(&place.task);
-        let task = self.begin(thief, &place.task, round.saturating_sub(1));
+        let victim = self.begin(thief, &place.task, round.saturating_sub(1));
         let theft = Theft {
             round,
             thief,
             victim,
-            task,
         };
         self.is_refused |= self.thefts.push(theft).is_err();
-        self.work(thief, task, timing, true);
+        self.work(thief, 1, timing, true);
     }
 
     /// The worker executes an instruction of its task.
     fn step(&mut self, worker: usize, place: &Place, outcome: &Outcome, timing: Timing) {
-        if let Some(hand) = self.hand(worker) {
-            self.work(worker, hand.task, timing, false);
-        }
+        self.work(worker, 1, timing, false);
         let round = timing.round;
         match outcome {
-            Outcome::Begins(task) => {
-                self.leave(worker, round);
-                self.begin(worker, task, round);
-            }
-            Outcome::TakesOn(task) => {
-                self.leave(worker, round);
-                self.forget(&place.task);
-                self.begin(worker, task, round);
-            }
-            Outcome::Waits => self.leave(worker, round),
-            Outcome::Ends => {
-                self.forget(&place.task);
-                self.leave(worker, round);
-            }
-            Outcome::Returns => {
-                self.end = Some(round);
-                self.leave(worker, round);
-            }
-            _ => {}
+            Outcome::TakesOn(_) | Outcome::Ends => self.forget(&place.task),
+            Outcome::Returns => self.end = Some(round),
+            Outcome::Begins(_) | Outcome::Waits => {}
+            _ => return,
+        }
+        self.leave(worker, round);
+        if let Outcome::Begins(task) | Outcome::TakesOn(task) = outcome {
+            let _runner = self.begin(worker, task, round);
         }
     }
 
     /// The next event, with its round.
-    ///
-    /// # Errors
-    ///
-    /// Memory was refused.
-    pub fn add(
-        &mut self,
-        event: &Event,
-        moment: &Moment,
-        timing: Timing,
-    ) -> Result<(), OutOfMemory> {
+    pub fn add(&mut self, event: &Event, moment: &Moment, timing: Timing) {
         let worker = match event {
             Event::Step(worker) | Event::Steal(worker, _) => usize::from(*worker),
         };
-        self.rounds = self.rounds.max(timing.round);
+        let round = timing.round;
+        self.rounds = self.rounds.max(round);
         match (&moment.outcome, event, &moment.place) {
             (Outcome::NotEnabled(_), _, _) | (_, _, None) => {
-                let round = timing.round;
                 self.is_refused |= self.misses.push(Miss { round, worker }).is_err();
             }
             (_, Event::Steal(_, _), Some(place)) => self.steal(worker, place, timing),
             (outcome, _, Some(place)) => self.step(worker, place, outcome, timing),
         }
-        self.checked()
     }
 
     /// The end of what is told: stays that still last are closed, and the longest chain is marked.
-    ///
-    /// # Errors
-    ///
-    /// Memory was refused.
-    pub fn close(&mut self) -> Result<(), OutOfMemory> {
+    pub(crate) fn close(&mut self) {
         for worker in 0..self.hands.len() {
             self.leave(worker, self.rounds);
         }
         self.mark_chain();
-        self.checked()
     }
 
-    /// The work of the worker that ends with this round.
-    fn work_ending(&self, worker: usize, round: u64, before: usize) -> Option<usize> {
-        for number in (0..before).rev() {
-            if let Some(work) = self.works.as_slice().get(number) {
-                if work.stay.worker == worker && work.stay.to == round {
-                    return Some(number);
-                }
-            }
-        }
-        None
-    }
-
-    /// The work with the last round.
-    fn last_work(&self) -> Option<usize> {
-        let mut last = None;
-        let mut round = 0u64;
-        for (number, work) in self.works.as_slice().iter().enumerate() {
-            if work.stay.to > round {
-                round = work.stay.to;
-                last = Some(number);
-            }
-        }
-        last
-    }
-
-    /// Marks the work as one of the longest chain. The answer is the work before it on the chain.
-    fn mark(&mut self, number: usize) -> Option<usize> {
-        let work = self.works.as_mut_slice().get_mut(number)?;
-        work.is_critical = true;
-        let before = match work.after {
-            Some(instant) => instant,
-            None => Instant {
-                worker: work.stay.worker,
-                round: work.stay.from,
-            },
-        };
-        self.work_ending(before.worker, before.round, number)
-    }
-
-    /// Marks the longest chain of events, each of which had to wait for the one before: from a last one back to a first.
+    /// Marks the longest chain of events, each of which had to wait for the one before: from a last one back to a first. A worker's works end in
+    /// different rounds, and what one had to wait for stands before it.
     fn mark_chain(&mut self) {
-        let mut next = self.last_work();
-        for _work in 0..self.works.len() {
-            match next {
-                Some(number) => next = self.mark(number),
-                None => return,
+        let mut next = Instant {
+            worker: 0,
+            round: 0,
+        };
+        for work in &self.works {
+            if work.stay.to > next.round {
+                next = work.stay.end();
+            }
+        }
+        for work in self.works.as_mut_slice().iter_mut().rev() {
+            let Instant { worker, round } = work.stay.end();
+            if worker == next.worker && round == next.round {
+                work.is_critical = true;
+                next = work.after.unwrap_or(Instant {
+                    worker,
+                    round: work.stay.from,
+                });
             }
         }
     }

@@ -81,18 +81,6 @@ impl Table {
             column.steals = column.steals.saturating_add(1);
         }
     }
-
-    fn add_thefts(&mut self, scene: &Scene) {
-        for theft in &scene.thefts {
-            self.add_theft(theft);
-        }
-    }
-
-    fn add_works(&mut self, scene: &Scene) {
-        for work in &scene.works {
-            self.add_work(work);
-        }
-    }
 }
 
 /// How high a bar is, of so many rounds of all.
@@ -140,7 +128,7 @@ fn push_column(out: &mut TextBuffer, grid: Grid, place: usize, column: &Column, 
 }
 
 /// A run with more rounds than there are pixels.
-pub fn push_summary(
+pub(crate) fn push_summary(
     alloc: Global,
     out: &mut TextBuffer,
     grid: Grid,
@@ -151,8 +139,12 @@ pub fn push_summary(
         columns: vec![in alloc; EMPTY; count]?,
         rounds: (scene.rounds / COLUMNS).saturating_add(1),
     };
-    table.add_works(scene);
-    table.add_thefts(scene);
+    for work in &scene.works {
+        table.add_work(work);
+    }
+    for theft in &scene.thefts {
+        table.add_theft(theft);
+    }
     for (place, column) in table.columns.as_slice().iter().enumerate() {
         push_column(out, grid, place, column, table.rounds);
     }

@@ -5,8 +5,8 @@ use crate::pictures::grid::{Grid, LEFT, STAY, WORK};
 use crate::pictures::legend::{LEGEND, push_legend};
 use crate::pictures::scene::{Scene, Stay, Theft, Work};
 use crate::pictures::summary::push_summary;
-use lists::{OutOfMemory, TextBuffer};
-use std::alloc::Global;
+use lists::TextBuffer;
+use std::alloc::{AllocError, Global};
 use std::fmt;
 
 fn push_head(out: &mut TextBuffer, grid: Grid) {
@@ -57,7 +57,7 @@ pub struct Line {
 
 impl Line {
     /// A line at this height.
-    pub fn across(y: u64, left: u64, right: u64) -> Line {
+    pub(crate) fn across(y: u64, left: u64, right: u64) -> Line {
         Line {
             left,
             top: y,
@@ -113,7 +113,7 @@ impl fmt::Display for Rectangle {
 }
 
 /// A rectangle of a task, hatched as the task is.
-pub fn push_rectangle(out: &mut TextBuffer, place: Rectangle, task: usize, class: &str) {
+pub(crate) fn push_rectangle(out: &mut TextBuffer, place: Rectangle, task: usize, class: &str) {
     let hue = hue_of(task);
     write!(out, "<rect {place} class=\"{class}c{hue}\"/>");
     let hatching = hatching_of(task);
@@ -123,16 +123,12 @@ pub fn push_rectangle(out: &mut TextBuffer, place: Rectangle, task: usize, class
     out.push_str("\n");
 }
 
-/// The task's path where there is room for it: some seven pixels a byte.
-fn push_label(out: &mut TextBuffer, place: Rectangle, name: &str) {
-    if (name.len() as u64).saturating_mul(7).saturating_add(6) <= place.width {
-        let x = place.x.saturating_add(4);
-        let y = place.y.saturating_add(11);
-        writeln!(
-            out,
-            "<text x=\"{x}\" y=\"{y}\" class=\"label\">{name}</text>"
-        );
-    }
+/// Words of the smaller size.
+pub(crate) fn push_words(out: &mut TextBuffer, x: u64, y: u64, words: &str) {
+    writeln!(
+        out,
+        "<text x=\"{x}\" y=\"{y}\" class=\"label\">{words}</text>"
+    );
 }
 
 /// A rectangle across the rounds of a stay.
@@ -145,7 +141,8 @@ fn place_of(grid: Grid, stay: Stay, y: u64, height: u64) -> Rectangle {
     }
 }
 
-/// A worker with a task in its hand: a pale box, which tells more where a pointer rests on it.
+/// A worker with a task in its hand: a pale box, which tells more where a pointer rests on it, with the task's path where there is room for it:
+/// some seven pixels a byte.
 fn push_stay(out: &mut TextBuffer, grid: Grid, name: &str, stay: Stay) {
     let y = grid.y(stay.worker).saturating_sub(STAY / 2);
     let place = place_of(grid, stay, y, STAY);
@@ -157,14 +154,17 @@ fn push_stay(out: &mut TextBuffer, grid: Grid, name: &str, stay: Stay) {
         "<g><title>{name} on worker {worker}, rounds {first} to {last}</title>"
     );
     push_rectangle(out, place, stay.task, "box ");
-    push_label(out, place, name);
+    if (name.len() as u64).saturating_mul(7).saturating_add(6) <= place.width {
+        push_words(out, place.x.saturating_add(4), y.saturating_add(11), name);
+    }
     out.push_str("</g>\n");
 }
 
 fn push_stays(out: &mut TextBuffer, grid: Grid, scene: &Scene) {
     for stay in &scene.stays {
-        let name = scene.tasks.as_slice().get(stay.task);
-        if let (Some(name), true) = (name, stay.from < stay.to) {
+        if stay.from < stay.to
+            && let Some(name) = scene.tasks.as_slice().get(stay.task)
+        {
             push_stay(out, grid, name.as_str(), *stay);
         }
     }
@@ -181,55 +181,47 @@ fn push_works(out: &mut TextBuffer, grid: Grid, scene: &Scene) {
     }
 }
 
-/// A part of the longest chain: a line below the bar, and down or up to it from what it had to wait for.
-fn push_link(out: &mut TextBuffer, grid: Grid, work: &Work) {
-    let stay = work.stay;
-    let y = grid.chain_y(stay.worker);
-    let from = grid.x(stay.from);
-    let to = grid.x(stay.to);
-    out.push_str("<path class=\"chain\" d=\"");
-    if let Some(cause) = work.after {
-        let way = Line {
-            left: grid.x(cause.round),
-            top: grid.chain_y(cause.worker),
-            right: from,
-            bottom: y,
-        };
-        write!(out, "{way} ");
-    }
-    let line = Line::across(y, from, to);
-    writeln!(out, "{line}\"/>");
-}
-
+/// The longest chain, work for work: a line below the bar, and down or up to it from what it had to wait for.
 fn push_chain(out: &mut TextBuffer, grid: Grid, scene: &Scene) {
     for work in &scene.works {
         if work.is_critical {
-            push_link(out, grid, work);
+            let stay = work.stay;
+            let y = grid.chain_y(stay.worker);
+            let from = grid.x(stay.from);
+            let to = grid.x(stay.to);
+            out.push_str("<path class=\"chain\" d=\"");
+            if let Some(cause) = work.after {
+                let way = Line {
+                    left: grid.x(cause.round),
+                    top: grid.chain_y(cause.worker),
+                    right: from,
+                    bottom: y,
+                };
+                write!(out, "{way} ");
+            }
+            let line = Line::across(y, from, to);
+            writeln!(out, "{line}\"/>");
         }
     }
 }
 
-/// A steal: an arrow from the row of the worker that ran the task last to the thief's.
-fn push_theft(out: &mut TextBuffer, grid: Grid, theft: &Theft) {
-    let x = grid.middle(theft.round);
-    let from = grid.y(theft.victim);
-    let thief = grid.y(theft.thief);
-    let to = if theft.victim < theft.thief {
-        thief.saturating_sub(STAY / 2)
-    } else {
-        thief.saturating_add(STAY / 2)
-    };
-    let line = Line::down(x, from, to);
-    writeln!(
-        out,
-        "<circle cx=\"{x}\" cy=\"{from}\" r=\"3\" class=\"dot\"/><path d=\"{line}\" class=\"ink\" marker-end=\"url(#head)\"/>"
-    );
-}
-
+/// Steals: arrows from the row of the worker that ran the task last to the thief's.
 fn push_thefts(out: &mut TextBuffer, grid: Grid, scene: &Scene) {
     for theft in &scene.thefts {
         if theft.victim != theft.thief {
-            push_theft(out, grid, theft);
+            let x = grid.middle(theft.round);
+            let from = grid.y(theft.victim);
+            let thief = grid.y(theft.thief);
+            let to = if theft.victim < theft.thief {
+                thief.saturating_sub(STAY / 2)
+            } else {
+                thief.saturating_add(STAY / 2)
+            };
+            let line = Line::down(x, from, to);
+            writeln!(
+                out,
+                "<circle cx=\"{x}\" cy=\"{from}\" r=\"3\" class=\"dot\"/><path d=\"{line}\" class=\"ink\" marker-end=\"url(#head)\"/>"
+            );
         }
     }
 }
@@ -279,12 +271,13 @@ fn push_end(out: &mut TextBuffer, grid: Grid, scene: &Scene) {
 /// # Errors
 ///
 /// Memory was refused.
-pub fn picture(alloc: Global, scene: &Scene) -> Result<String, OutOfMemory> {
+pub fn picture(alloc: Global, scene: &Scene) -> Result<String, AllocError> {
     let grid = Grid::of(scene);
     let mut out = TextBuffer::new(alloc);
     push_head(&mut out, grid);
     push_axis(&mut out, grid);
     push_workers(&mut out, grid);
+    let mut summed = Ok(());
     if grid.is_exact() {
         push_stays(&mut out, grid, scene);
         push_works(&mut out, grid, scene);
@@ -292,10 +285,10 @@ pub fn picture(alloc: Global, scene: &Scene) -> Result<String, OutOfMemory> {
         push_misses(&mut out, grid, scene);
         push_thefts(&mut out, grid, scene);
     } else {
-        push_summary(alloc, &mut out, grid, scene)?;
+        summed = push_summary(alloc, &mut out, grid, scene);
     }
     push_end(&mut out, grid, scene);
     push_legend(&mut out, grid, scene);
     out.push_str("</svg>\n");
-    Ok(out.finish()?)
+    summed.and(out.finish())
 }

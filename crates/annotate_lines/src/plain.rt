@@ -1,9 +1,10 @@
 //! Lines that say no more than another one of their block.
 
+use explain_facts::Means;
 use linear::Form;
-use lists::ListBuffer;
-use program::Block;
-use ranges::{Unanswered, difference_of, sum_form};
+use lists::{ListBuffer, OutOfMemory};
+use program::{Block, Inequality};
+use ranges::{difference_of, sum_form};
 use std::alloc::Global;
 
 /// What an inequality says is at least 0, with its line.
@@ -13,17 +14,20 @@ pub struct Said {
     form: Form,
 }
 
+fn form_of(alloc: Global, inequality: &Inequality) -> Result<Option<Form>, OutOfMemory> {
+    sum_form(alloc, &difference_of(alloc, &[], inequality)?)
+}
+
 /// What the `keeps` lines of a block say.
-pub fn said_of(alloc: Global, block: &Block) -> Result<Vec<Said>, Unanswered> {
-    let mut said = ListBuffer::new(alloc);
+pub fn said_of(means: &Means<'_>, block: &Block) -> Vec<Said> {
+    let mut said = ListBuffer::new(means.alloc);
     for inequality in block.keeps.as_slice() {
-        let sum = difference_of(alloc, &[], inequality)?;
-        if let Some(form) = sum_form(alloc, &sum)? {
+        if let Some(form) = means.found(form_of(means.alloc, inequality)) {
             let line = inequality.line;
             said.push(Said { line, form });
         }
     }
-    Ok(said.finish()?)
+    means.list(said)
 }
 
 fn is_number(form: &Form) -> bool {
@@ -36,12 +40,12 @@ fn is_number(form: &Form) -> bool {
 }
 
 /// Whether one line says no more than the other, and less or stands behind it.
-fn is_plain_by(alloc: Global, one: &Said, other: &Said) -> bool {
+fn is_plain_by(means: &Means<'_>, one: &Said, other: &Said) -> bool {
     if one.line == other.line {
         return false;
     }
-    match one.form.difference(alloc, &other.form) {
-        Ok(apart) if is_number(&apart) => {
+    match means.within_bounds(one.form.difference(means.alloc, &other.form)) {
+        Some(apart) if is_number(&apart) => {
             apart.constant > 0 || apart.constant == 0 && one.line > other.line
         }
         _ => false,
@@ -49,9 +53,9 @@ fn is_plain_by(alloc: Global, one: &Said, other: &Said) -> bool {
 }
 
 /// Whether one of the lines says no more than another one.
-pub fn is_plain(alloc: Global, said: &[Said], one: &Said) -> bool {
+pub fn is_plain(means: &Means<'_>, said: &[Said], one: &Said) -> bool {
     for other in said {
-        if is_plain_by(alloc, one, other) {
+        if is_plain_by(means, one, other) {
             return true;
         }
     }

@@ -1,4 +1,4 @@
-//! One call of the program.
+//! The program as one call.
 
 use crate::answers::answer;
 use crate::framed::framed;
@@ -74,8 +74,7 @@ fn answered(
 /// many there are. Returns 0, and 1 where memory is refused.
 ///
 /// `low` and `high` are numbers that whoever wrote the texts does not know.
-#[unsafe(no_mangle)]
-pub extern "C" fn play_answer(
+pub fn answer_line(
     alloc: Global,
     line: &[u8],
     module: &[u8],

@@ -1,0 +1,182 @@
+//! Which of the lines that may be put into a text stay there: they are tried kind by kind.
+
+use crate::new_lines::NewLines;
+use crate::proposal::{Kind, proposed};
+use crate::trial::Trial;
+use explain_facts::{Means, match_text};
+use ranges::{Effort, Unanswered};
+use std::alloc::{AllocError, Global};
+use std::hash::RandomState;
+
+/// The steps that a byte of a text counts for whose lines are tried.
+const STEPS_A_BYTE: usize = 100;
+
+/// How often lines are tried anew once some were taken out.
+const MOST_ROUNDS: usize = 64;
+
+/// How often guesses are tried anew.
+const MOST_GUESSES: usize = 24;
+
+/// How deep calls are followed for zones.
+const MOST_CALLS: usize = 3;
+
+/// The bytes of a text over which guesses are tried without the lines that may show them.
+const LONG: usize = 65_536;
+
+/// Whether a text is so long that guesses are tried without the lines that may show them, and nothing is found that costs and zones want.
+pub fn is_long(text: &[u8]) -> bool {
+    text.len() > LONG
+}
+
+/// What lines are tried with. Where the means do not reach, texts stay as they are.
+#[derive(Clone, Copy)]
+struct Tries<'a> {
+    means: &'a Means<'a>,
+    state: RandomState,
+}
+
+impl Tries<'_> {
+    fn proposed(self, text: &str, kind: Kind) -> String {
+        proposed(self.means, self.state, text, kind)
+    }
+
+    /// The lines of a text that were put in, of which those that do not stay are refused. None where a phase before that of numbers refuses the text.
+    fn tried(self, text: &str, new: NewLines) -> Option<NewLines> {
+        let means = self.means;
+        if !means.spend(text.len().saturating_mul(STEPS_A_BYTE)) {
+            return None;
+        }
+        let matched = match_text(means.alloc, self.state, text.as_bytes(), true);
+        match means.found(matched) {
+            Some(matched) => {
+                let mut trial = Trial { means, new };
+                trial.try_all(&matched);
+                let Trial { new, .. } = trial;
+                Some(new)
+            }
+            None => None,
+        }
+    }
+
+    /// Puts those of the proposed lines into a text that stand their trial; the text stays as it was, where that cannot be tried.
+    fn put_in(self, text: &mut String, proposal: String) {
+        let mut more = proposal;
+        for _round in 0..MOST_ROUNDS {
+            let new = NewLines::found(self.means, text.as_str(), more.as_str());
+            if new.is_empty() {
+                *text = more;
+                return;
+            }
+            let Some(new) = self.tried(more.as_str(), new) else {
+                return;
+            };
+            if !new.has_refused() {
+                *text = more;
+                return;
+            }
+            more = new.without_refused(self.means, more.as_str());
+        }
+    }
+
+    /// Puts in lines of a kind that stand their trial.
+    fn put_in_kind(self, text: &mut String, kind: Kind) {
+        let proposal = self.proposed(text.as_str(), kind);
+        self.put_in(text, proposal);
+    }
+
+    /// Puts those of the guesses into a text that stand their trial beside the `shows` lines by which edges show them. As long as a guess is refused, what is
+    /// shown without it is found anew.
+    fn put_in_guessed(self, text: &mut String, guesses: String) {
+        let means = self.means;
+        let mut guessed = guesses;
+        let mut more = self.proposed(guessed.as_str(), Kind::Steps);
+        for _round in 0..MOST_GUESSES {
+            let new = NewLines::found(means, text.as_str(), more.as_str());
+            let Some(mut new) = self.tried(more.as_str(), new) else {
+                return;
+            };
+            let steps = NewLines::found(means, guessed.as_str(), more.as_str());
+            if !new.refuse_all(&steps) {
+                break;
+            }
+            guessed = new.without_refused(means, more.as_str());
+            more = self.proposed(guessed.as_str(), Kind::Steps);
+        }
+        self.put_in(text, more);
+    }
+
+    /// The same of guesses of a kind.
+    fn put_in_guesses(self, text: &mut String, kind: Kind) {
+        let guesses = self.proposed(text.as_str(), kind);
+        self.put_in_guessed(text, guesses);
+    }
+
+    /// Puts in zones where children and functions have none, and the facts that show that they cover what is touched; those of a call's callee come first.
+    fn put_in_feet(self, text: &mut String) {
+        let mut zones = self.proposed(text.as_str(), Kind::Feet);
+        for _round in 0..MOST_CALLS {
+            zones = self.proposed(zones.as_str(), Kind::Feet);
+        }
+        if !NewLines::found(self.means, text.as_str(), zones.as_str()).is_empty() {
+            *text = zones;
+            self.put_in_guesses(text, Kind::Wanted);
+        }
+    }
+
+    /// Puts in what is left, and the facts that show that this is at least 0 and enough.
+    fn put_in_costs(self, text: &mut String) {
+        let costs = self.proposed(text.as_str(), Kind::Costs);
+        let guesses = self.proposed(costs.as_str(), Kind::Wanted);
+        self.put_in_guessed(text, guesses);
+    }
+
+    /// Puts in lines of each kind that stand their trial: what is sure first, since there is room for few lines at a block; zones and costs follow from facts.
+    /// Of a long text each kind is tried by itself, and nothing is found that zones and costs want.
+    fn put_in_all(self, text: &mut String) {
+        self.put_in_kind(text, Kind::Facts);
+        if is_long(text.as_bytes()) {
+            self.put_in_kind(text, Kind::Guesses);
+            self.put_in_kind(text, Kind::Steps);
+        } else {
+            self.put_in_guesses(text, Kind::Guesses);
+            self.put_in_guesses(text, Kind::Wanted);
+        }
+        if !is_long(text.as_bytes()) {
+            self.put_in_feet(text);
+        }
+        self.put_in_kind(text, Kind::Zones);
+        if !is_long(text.as_bytes()) {
+            self.put_in_costs(text);
+        }
+        self.put_in_kind(text, Kind::Costs);
+    }
+}
+
+/// A text with lines put in that follow from others and stood their trial, as far as it is known; the text as it was, where the effort is spent. In the end all
+/// lines are tried together, since one may say no more than another that came later.
+///
+/// # Errors
+///
+/// Memory was refused.
+pub fn with_lines(
+    alloc: Global,
+    state: RandomState,
+    text: &[u8],
+    effort: &Effort,
+) -> Result<String, AllocError> {
+    let text = str::from_utf8(text).unwrap_or("");
+    let means = Means::new(alloc, effort);
+    let tries = Tries {
+        means: &means,
+        state,
+    };
+    let mut more = String::from_str(alloc, text)?;
+    tries.put_in_all(&mut more);
+    let mut whole = String::from_str(alloc, text)?;
+    tries.put_in(&mut whole, more);
+    match means.finish() {
+        Ok(()) => Ok(whole),
+        Err(Unanswered::OutOfMemory) => Err(AllocError),
+        Err(Unanswered::OutOfEffort) => String::from_str(alloc, text),
+    }
+}

@@ -1,0 +1,92 @@
+//! What is answered, and why there is no answer of its own.
+
+use crate::faults::note_effort;
+use cli_words::{Beside, Question, Status, print_refused, print_unreadable};
+use lists::OutOfMemory;
+use std::alloc::AllocError;
+use std::io;
+use std::io::Write;
+use verifier::{Refused, Unverified};
+
+/// What is printed, and the status.
+#[derive(Drop)]
+pub struct Answer {
+    pub text: Vec<u8>,
+    pub status: Status,
+}
+
+impl Answer {
+    pub fn of(text: String, status: Status) -> Answer {
+        Answer {
+            text: text.into_bytes(),
+            status,
+        }
+    }
+}
+
+/// Why a question has no answer of its own.
+#[derive(Clone, Copy)]
+pub enum Unanswered {
+    /// A word names nothing that there is.
+    Words,
+    /// The module's file could not be read.
+    Unreadable,
+    /// The module is refused, or memory was.
+    Refused(Refused),
+    /// The effort is spent before a verdict.
+    Undecided,
+}
+
+impl From<Unverified> for Unanswered {
+    fn from(unverified: Unverified) -> Unanswered {
+        match unverified {
+            Unverified::Refused(refused) => Unanswered::Refused(refused),
+            Unverified::OutOfEffort { .. } => Unanswered::Undecided,
+        }
+    }
+}
+
+impl From<Refused> for Unanswered {
+    fn from(refused: Refused) -> Unanswered {
+        Unanswered::Refused(refused)
+    }
+}
+
+impl From<OutOfMemory> for Unanswered {
+    fn from(_error: OutOfMemory) -> Unanswered {
+        Unanswered::Refused(Refused::Memory)
+    }
+}
+
+impl From<AllocError> for Unanswered {
+    fn from(_error: AllocError) -> Unanswered {
+        Unanswered::Refused(Refused::Memory)
+    }
+}
+
+/// Prints an answer.
+pub fn print_answer<W: Write>(answer: &Answer, output: &mut W) -> io::Result<Status> {
+    output.write_all(answer.text.as_slice())?;
+    Ok(answer.status)
+}
+
+/// Says why a question has no answer of its own, and answers the status.
+pub fn print_unanswered<W: Write>(
+    question: Question<'_>,
+    unanswered: Unanswered,
+    output: &mut W,
+    beside: &mut Beside,
+) -> io::Result<Status> {
+    match unanswered {
+        Unanswered::Words => Ok(Status::Words),
+        Unanswered::Unreadable => {
+            print_unreadable(question.alloc, question.request.file.as_str(), output)
+        }
+        Unanswered::Refused(refused) => print_refused(&refused, output),
+        Unanswered::Undecided => {
+            output.write_all(b"undecided\n")?;
+            note_effort(beside)?;
+            Ok(Status::Stopped)
+        }
+    }
+}
