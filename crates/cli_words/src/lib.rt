@@ -7,23 +7,21 @@
 
 mod command;
 pub mod io;
-mod manual_page;
 mod names;
 mod options;
 mod parsing;
 mod question;
 mod request;
-mod shells;
+mod scripts;
 mod table;
 mod version;
 mod word;
 
 pub use io::{
     Beside, DataFault, Dump, FileText, Status, Times, fail, print_numbers, print_refused,
-    print_unreadable, read_data, read_file, read_numbers, read_text, read_words, stop_for_memory,
-    write_bytes, write_file, write_words,
+    print_unreadable, read_data, read_file, read_numbers, read_words, stop_for_memory, write_bytes,
+    write_file, write_words,
 };
-pub use manual_page::manual;
 pub use names::is_name;
 pub use parsing::words;
 pub use question::Question;
@@ -31,5 +29,5 @@ pub use request::{
     Annotating, CellWord, DataWord, DataWords, Dialogue, Grant, Request, RowWord, Setting, Shell,
     Telling, Verb, WordsFault,
 };
-pub use shells::completions;
+pub use scripts::{completions, manual};
 pub use word::{bytes_of, is_raw, text_of};

@@ -1,6 +1,6 @@
 //! The words and options of a command, read one by one.
 
-ghost use Rattle.std.specs.Prelude.{◌≡◌};
+ghost use Rattle.std.specs.Prelude.{◌≡◌, IfOk};
 
 use crate::names::is_name;
 use crate::request::{
@@ -13,54 +13,122 @@ use std::alloc::{AllocError, Global};
 
 /// The words and options of a command as they are read: what is wrong first is kept, and all else is read as if it were not given.
 #[derive(Drop)]
-pub(crate) struct Options<'m, 'a> {
+struct Options<'m, 'a> {
     alloc: Global,
     matches: &'m ArgMatches<'a>,
     fault: Option<WordsFault>,
 }
 
-/// What an option with one text names.
-pub(crate) trait Value: Drop {
-    /// None where the text is none such.
-    fn read(options: &mut Options<'_, '_>, text: &str) -> Option<Self>;
+/// What an option names.
+trait Value: Drop {
+    /// Reads the option's text, or the first of its texts and those behind it; none where they are none such.
+    fn read(options: &mut Options<'_, '_>, text: &str, behind: &[&str]) -> Option<Self>;
+}
+
+impl Value for u64 {
+    fn read(_options: &mut Options<'_, '_>, text: &str, _behind: &[&str]) -> Option<u64> {
+        text.parse::<u64>().ok()
+    }
 }
 
 impl Value for i64 {
-    fn read(_options: &mut Options<'_, '_>, text: &str) -> Option<i64> {
+    fn read(_options: &mut Options<'_, '_>, text: &str, _behind: &[&str]) -> Option<i64> {
         text.parse::<i64>().ok()
+    }
+}
+
+/// `@a`: the name of a global or a function.
+impl Value for String {
+    fn read(options: &mut Options<'_, '_>, text: &str, _behind: &[&str]) -> Option<String> {
+        match text.strip_prefix("@") {
+            Some(name) if is_name(name) => Some(options.kept(name)),
+            _ => None,
+        }
     }
 }
 
 /// `@a:I`
 impl Value for CellWord {
-    fn read(options: &mut Options<'_, '_>, text: &str) -> Option<CellWord> {
+    fn read(options: &mut Options<'_, '_>, text: &str, behind: &[&str]) -> Option<CellWord> {
         let (name, index) = text.split_once(":")?;
         let index = index.parse::<u64>().ok()?;
-        let name = options.global(name)?;
+        let name = String::read(options, name, behind)?;
         Some(CellWord { name, index })
     }
 }
 
 /// `@a:I=V`
 impl Value for Setting {
-    fn read(options: &mut Options<'_, '_>, text: &str) -> Option<Setting> {
+    fn read(options: &mut Options<'_, '_>, text: &str, behind: &[&str]) -> Option<Setting> {
         let (cell, value) = text.split_once("=")?;
         let value = value.parse::<i64>().ok()?;
-        let cell = CellWord::read(options, cell)?;
+        let cell = CellWord::read(options, cell, behind)?;
         Some(Setting { cell, value })
     }
 }
 
 /// `@a=FILE`
 impl Value for DataWord {
-    fn read(options: &mut Options<'_, '_>, text: &str) -> Option<DataWord> {
+    fn read(options: &mut Options<'_, '_>, text: &str, behind: &[&str]) -> Option<DataWord> {
         let (name, file) = text.split_once("=")?;
-        let name = options.global(name)?;
+        let name = String::read(options, name, behind)?;
         Some(DataWord {
             name,
             file: options.kept(file),
             bytes: None,
         })
+    }
+}
+
+/// `@a I N`
+impl Value for RowWord {
+    fn read(options: &mut Options<'_, '_>, text: &str, behind: &[&str]) -> Option<RowWord> {
+        let [first, count] = behind else {
+            return None;
+        };
+        let first = first.parse::<u64>().ok()?;
+        let count = count.parse::<u64>().ok()?;
+        let name = String::read(options, text, behind)?;
+        Some(RowWord { name, first, count })
+    }
+}
+
+/// `N` or `unbounded`
+impl Value for Grant {
+    fn read(options: &mut Options<'_, '_>, text: &str, behind: &[&str]) -> Option<Grant> {
+        if text == "unbounded" {
+            return Some(Grant::Unbounded);
+        }
+        Some(Grant::Steps(u64::read(options, text, behind)?))
+    }
+}
+
+/// `N,N..`
+impl Value for Vec<usize> {
+    fn read(options: &mut Options<'_, '_>, text: &str, behind: &[&str]) -> Option<Vec<usize>> {
+        let mut numbers = Vec::new(options.alloc);
+        for word in text.split(",") {
+            let number = u64::read(options, word, behind)?;
+            options.push(&mut numbers, number as usize);
+        }
+        Some(numbers)
+    }
+}
+
+static SHELLS: [(&str, Shell); 3] = [
+    ("bash", Shell::Bash),
+    ("zsh", Shell::Zsh),
+    ("fish", Shell::Fish),
+];
+
+impl Value for Shell {
+    fn read(_options: &mut Options<'_, '_>, text: &str, _behind: &[&str]) -> Option<Shell> {
+        for (word, shell) in SHELLS {
+            if word == text {
+                return Some(shell);
+            }
+        }
+        None
     }
 }
 
@@ -72,24 +140,12 @@ pub(crate) fn fault_with(text: Result<String, AllocError>) -> WordsFault {
     }
 }
 
-pub(crate) fn wrong_value(alloc: Global, option: &str, text: &str) -> WordsFault {
-    fault_with(format!(in alloc; "error: invalid value '{text}' for '{option}'\n"))
+/// Says that a text is no value of what the help shows so.
+pub(crate) fn wrong_value(alloc: Global, shown: &str, text: &str) -> WordsFault {
+    fault_with(format!(in alloc; "error: invalid value '{text}' for '{shown}'\n"))
 }
 
-impl<'m, 'a> Options<'m, 'a> {
-    pub(crate) fn new(alloc: Global, matches: &'m ArgMatches<'a>) -> Options<'m, 'a> {
-        Options {
-            alloc,
-            matches,
-            fault: None,
-        }
-    }
-
-    /// What was wrong first.
-    pub(crate) fn fault(self) -> Option<WordsFault> {
-        self.fault
-    }
-
+impl Options<'_, '_> {
     fn refuse(&mut self, fault: WordsFault) {
         if self.fault.is_none() {
             self.fault = Some(fault);
@@ -107,28 +163,10 @@ impl<'m, 'a> Options<'m, 'a> {
         }
     }
 
-    /// The name of a global or a function, which a text gives with `@`.
-    fn global(&mut self, text: &str) -> Option<String> {
-        match text.strip_prefix("@") {
-            Some(name) if is_name(name) => Some(self.kept(name)),
-            _ => None,
-        }
-    }
-
     /// The text of a word or an option.
     fn text(&mut self, name: &str) -> Option<String> {
         let text = self.matches.get_str(name)?;
         Some(self.kept(text))
-    }
-
-    fn flag(&self, name: &str) -> bool {
-        self.matches.get_flag(name)
-    }
-
-    /// Says that this is no value of what the help shows so.
-    fn refuse_value(&mut self, shown: &str, text: &str) {
-        let fault = wrong_value(self.alloc, shown, text);
-        self.refuse(fault);
     }
 
     fn push<T: Drop>(&mut self, list: &mut Vec<T>, value: T) {
@@ -137,103 +175,29 @@ impl<'m, 'a> Options<'m, 'a> {
         }
     }
 
-    /// The values of an option that may be given more than once.
-    fn list<T: Value>(&mut self, name: &str, shown: &str) -> Vec<T> {
+    /// The values of an option, which has so many texts each time that it is given.
+    fn list<T: Value>(&mut self, name: &str, shown: &str, count: usize) -> Vec<T> {
         let mut list = Vec::new(self.alloc);
-        for text in self.matches.get_strs(name).unwrap_or(&[]) {
-            match T::read(self, text) {
+        for texts in self.matches.get_strs(name).unwrap_or(&[]).chunks(count) {
+            let Some((text, behind)) = texts.split_first() else {
+                continue;
+            };
+            match T::read(self, text, behind) {
                 Some(value) => self.push(&mut list, value),
-                None => self.refuse_value(shown, text),
+                None => self.refuse(wrong_value(self.alloc, shown, text)),
             }
         }
         list
     }
 
-    /// The number of an option, if it is given.
-    fn number(&mut self, name: &str, shown: &str) -> Option<u64> {
-        let text = self.matches.get_str(name)?;
-        let number = text.parse::<u64>().ok();
-        if number.is_none() {
-            self.refuse_value(shown, text);
-        }
-        number
+    /// The value of an option that is given once, if it is given.
+    fn one<T: Value>(&mut self, name: &str, shown: &str) -> Option<T> {
+        self.list(name, shown, 1).pop()
     }
 
-    /// Reads `N` or `unbounded`.
-    fn effort(&mut self) -> Grant {
-        if let Some("unbounded") = self.matches.get_str("effort") {
-            return Grant::Unbounded;
-        }
-        match self.number("effort", "--effort <N|unbounded>") {
-            Some(steps) => Grant::Steps(steps),
-            None => Grant::Usual,
-        }
-    }
-
-    /// Reads `N,N..`, where runs are to be timed.
-    fn speedup(&mut self) -> Vec<usize> {
-        let mut numbers = Vec::new(self.alloc);
-        if let Some(text) = self.matches.get_str("speedup") {
-            for word in text.split(",") {
-                match word.parse::<u64>() {
-                    Ok(workers) => self.push(&mut numbers, workers as usize),
-                    Err(_) => self.refuse_value("--speedup <N,N..>", text),
-                }
-            }
-        }
-        numbers
-    }
-
-    /// Reads `@a 0 10`.
-    fn row(&mut self, texts: &[&str]) -> Option<RowWord> {
-        let [name, first, count] = texts else {
-            return None;
-        };
-        let first = first.parse::<u64>().ok()?;
-        let count = count.parse::<u64>().ok()?;
-        let name = self.global(name)?;
-        Some(RowWord { name, first, count })
-    }
-
-    fn rows(&mut self) -> Vec<RowWord> {
-        let mut rows = Vec::new(self.alloc);
-        for texts in self.matches.get_strs("cells").unwrap_or(&[]).chunks(3) {
-            match self.row(texts) {
-                Some(row) => self.push(&mut rows, row),
-                None => {
-                    let first = texts.first().copied().unwrap_or("");
-                    self.refuse_value("--cells <@a> <I> <N>", first);
-                }
-            }
-        }
-        rows
-    }
-
-    /// Reads `@f`, where a table is asked for.
-    fn table(&mut self) -> Option<String> {
-        let text = self.matches.get_str("table")?;
-        let name = self.global(text);
-        if name.is_none() {
-            self.refuse_value("--table <@f>", text);
-        }
-        name
-    }
-
-    fn shell(&mut self) -> Option<Shell> {
-        match self.matches.get_str("shell")? {
-            "bash" => Some(Shell::Bash),
-            "zsh" => Some(Shell::Zsh),
-            "fish" => Some(Shell::Fish),
-            word => {
-                self.refuse_value("<SHELL>", word);
-                None
-            }
-        }
-    }
-
-    /// The number of a rule, where the word is a number.
-    fn rule(&mut self, word: &str) -> Option<u16> {
-        if !is_number(word) {
+    /// The number of the rule that `explain` is asked for, where the word is a number.
+    fn rule(&mut self, verb: Verb, word: &str) -> Option<u16> {
+        if !matches!(verb, Verb::Explain) || !is_number(word) {
             return None;
         }
         let number = word.parse::<u16>().unwrap_or(0);
@@ -250,19 +214,19 @@ impl<'m, 'a> Options<'m, 'a> {
 
     fn data(&mut self) -> DataWords {
         DataWords {
-            load: self.list("load", "--load <@a=FILE>"),
-            dump: self.list("dump", "--dump <@a=FILE>"),
-            is_raw: self.flag("raw"),
-            rows: self.rows(),
+            load: self.list("load", "--load <@a=FILE>", 1),
+            dump: self.list("dump", "--dump <@a=FILE>", 1),
+            is_raw: self.matches.get_flag("raw"),
+            rows: self.list("cells", "--cells <@a> <I> <N>", 3),
         }
     }
 
     /// What is to be told of a run; `json` names a file for the verbs that have one.
     fn telling(&mut self, has_events: bool) -> Telling {
         Telling {
-            trace: self.flag("trace"),
-            stats: self.flag("stats"),
-            seed: self.number("seed", "--seed <S>"),
+            trace: self.matches.get_flag("trace"),
+            stats: self.matches.get_flag("stats"),
+            seed: self.one("seed", "--seed <S>"),
             save: self.text("save"),
             picture: self.text("picture"),
             json: if has_events { self.text("json") } else { None },
@@ -270,79 +234,80 @@ impl<'m, 'a> Options<'m, 'a> {
         }
     }
 
-    /// The rule that `explain` is asked for by its number.
-    fn explained(&mut self, verb: Verb, word: &str) -> Option<u16> {
-        match verb {
-            Verb::Explain => self.rule(word),
-            _ => None,
-        }
-    }
-
-    fn workers(&mut self) -> usize {
-        self.number("workers", "--workers <N>").unwrap_or(1) as usize
-    }
-
-    /// Whether the dialogue has colours depends on the program's streams, which the words do not name.
-    fn dialogue(&self) -> Dialogue {
-        Dialogue {
-            is_for_people: self.flag("interactive"),
-            has_colours: false,
-        }
-    }
-
-    fn annotating(&self) -> Annotating {
-        Annotating {
-            puts_in: self.flag("annotate"),
-            takes_out: self.flag("prune"),
-            writes: self.flag("write"),
-        }
-    }
-
-    /// What the command of a verb asks for. An option that the verb does not have is not given.
-    pub(crate) fn request(&mut self, verb: Verb) -> Request
+    /// What the command of a verb asks for. An option that the verb does not have is not given. Whether a dialogue has colours depends on the
+    /// program's streams, which the words do not name.
+    fn request(&mut self, verb: Verb) -> Request
         ensures { result.verb ≡ verb }
     {
+        let matches = self.matches;
         let has_events = matches!(verb, Verb::Run | Verb::Replay);
         let file = self.text("file").unwrap_or(String::new(self.alloc));
         Request {
             verb,
-            table: self.table(),
-            rule: self.explained(verb, file.as_str()),
-            workers: self.workers(),
-            args: self.list("arg", "--arg <V>"),
-            set: self.list("set", "--set <@a:I=V>"),
-            show: self.list("show", "--show <@a:I>"),
+            table: self.one("table", "--table <@f>"),
+            rule: self.rule(verb, file.as_str()),
+            workers: self.one::<u64>("workers", "--workers <N>").unwrap_or(1) as usize,
+            args: self.list("arg", "--arg <V>", 1),
+            set: self.list("set", "--set <@a:I=V>", 1),
+            show: self.list("show", "--show <@a:I>", 1),
             data: self.data(),
-            is_timed: self.flag("time"),
-            effort: self.effort(),
+            is_timed: matches.get_flag("time"),
+            effort: self
+                .one("effort", "--effort <N|unbounded>")
+                .unwrap_or(Grant::Usual),
             telling: self.telling(has_events),
-            speedup: self.speedup(),
+            speedup: self
+                .one("speedup", "--speedup <N,N..>")
+                .unwrap_or(Vec::new(self.alloc)),
             schedule: self.text("schedule"),
-            dialogue: self.dialogue(),
-            annotating: self.annotating(),
-            shell: self.shell(),
-            is_json: !has_events && self.flag("json"),
+            dialogue: Dialogue {
+                is_for_people: matches.get_flag("interactive"),
+                has_colours: false,
+            },
+            annotating: Annotating {
+                puts_in: matches.get_flag("annotate"),
+                takes_out: matches.get_flag("prune"),
+                writes: matches.get_flag("write"),
+            },
+            shell: self.one("shell", "<SHELL>"),
+            is_json: !has_events && matches.get_flag("json"),
             file,
         }
     }
 
-    fn refuse_pair(&mut self, said: &str) {
-        let fault = fault_with(String::from_str(self.alloc, said));
-        self.refuse(fault);
-    }
-
     /// Refuses options that do not go together. An answer in JSON names the lines of the file as it is.
-    pub(crate) fn check(&mut self, request: &Request) {
+    fn check(&mut self, request: &Request) {
         let is_told = request.telling.is_any() || request.is_timed;
         let is_one = is_told || self.matches.get_str("workers").is_some();
-        if is_one && !request.speedup.is_empty() {
-            self.refuse_pair(
-                "error: --speedup goes without --workers, --seed and what tells of one run\n",
-            );
-        }
-        if request.is_json && request.annotating.puts_in {
-            self.refuse_pair("error: --json goes without --annotate\n");
-        }
+        let said = if is_one && !request.speedup.is_empty() {
+            "error: --speedup goes without --workers, --seed and what tells of one run\n"
+        } else if request.is_json && request.annotating.puts_in {
+            "error: --json goes without --annotate\n"
+        } else {
+            return;
+        };
+        self.refuse(fault_with(String::from_str(self.alloc, said)));
+    }
+}
+
+/// What the words of a verb's own command ask for.
+pub(crate) fn request_for(
+    alloc: Global,
+    verb: Verb,
+    matches: &ArgMatches<'_>,
+) -> Result<Request, WordsFault>
+    ensures { IfOk result (λ r. r.verb ≡ verb) }
+{
+    let mut options = Options {
+        alloc,
+        matches,
+        fault: None,
+    };
+    let request = options.request(verb);
+    options.check(&request);
+    match options.fault {
+        None => Ok(request),
+        Some(fault) => Err(fault),
     }
 }
 

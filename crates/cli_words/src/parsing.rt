@@ -4,35 +4,21 @@ ghost use Rattle.std.specs.Prelude.{◌≡◌, IfOk, IfSome, map};
 ghost use Rattle.cli_words.specs.Asked.{IsAsked, word_of};
 
 use crate::command::{command, fault_of};
-use crate::options::{Options, wrong_value};
+use crate::options::{request_for, wrong_value};
 use crate::request::{Request, Verb, WordsFault};
-use crate::table::VERBS;
-use clap::ArgMatches;
+use crate::table::ROWS;
 use std::alloc::Global;
 
 /// The verb that a word names.
 fn verb_of(word: &str) -> Option<Verb>
     ensures { IfSome result (λ verb. word.now ≡ word_of verb) }
 {
-    for verb in VERBS {
-        if verb.word() == word {
-            return Some(verb);
+    for row in &ROWS {
+        if row.verb.word() == word {
+            return Some(row.verb);
         }
     }
     None
-}
-
-/// What the words of a verb's own command ask for.
-fn request_for(alloc: Global, verb: Verb, matches: &ArgMatches<'_>) -> Result<Request, WordsFault>
-    ensures { IfOk result (λ r. r.verb ≡ verb) }
-{
-    let mut options = Options::new(alloc, matches);
-    let request = options.request(verb);
-    options.check(&request);
-    match options.fault() {
-        None => Ok(request),
-        Some(fault) => Err(fault),
-    }
 }
 
 /// Reads the program's words, the program's own name first.

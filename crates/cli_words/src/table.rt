@@ -68,20 +68,6 @@ Example:
 Statuses:
   as those of run --help";
 
-pub(crate) static VERBS: [Verb; 11] = [
-    Verb::Verify,
-    Verb::Explain,
-    Verb::Serial,
-    Verb::Run,
-    Verb::Replay,
-    Verb::Debug,
-    Verb::Print,
-    Verb::Show,
-    Verb::Annotate,
-    Verb::Completions,
-    Verb::Man,
-];
-
 /// How a word or an option of a command is given.
 #[derive(Clone, Copy)]
 pub(crate) enum Given {
@@ -101,351 +87,395 @@ pub(crate) enum Given {
     Flag,
 }
 
-/// A word or an option of a command.
+/// A word or an option of a command, and what is said of it where the commands are listed (`scripts`).
 #[derive(Clone, Copy)]
 pub(crate) struct Part {
     pub(crate) name: &'static str,
     pub(crate) value: &'static str,
     pub(crate) given: Given,
     pub(crate) help: &'static str,
+    pub(crate) bash: &'static str,
+    pub(crate) zsh: &'static str,
+    pub(crate) fish: &'static str,
+    pub(crate) page: &'static str,
 }
 
-const FILE: Part = Part {
-    name: "file",
-    value: "FILE",
-    given: Given::Word,
-    help: "the text of the module",
-};
+/// A word, with what zsh completes there.
+macro_rules! word {
+    ($name:literal, $value:literal, $completed:literal, $help:literal) => {
+        Part {
+            name: $name,
+            value: $value,
+            given: Given::Word,
+            help: $help,
+            bash: "",
+            zsh: concat!(" ':", $value, ":", $completed, "'"),
+            fish: "",
+            page: concat!(".TP\n.I ", $value, "\n", $help, "\n"),
+        }
+    };
+}
 
-const FILE_OR_NUMBER: Part = Part {
-    name: "file",
-    value: "FILE|NUMBER",
-    given: Given::Word,
-    help: "the text of a module, or the number of a rule",
-};
+/// An option with a value, with what zsh completes there; `often` is `*` where the option may be given more than once.
+macro_rules! option {
+    ($given:expr, $often:literal, $name:literal, $value:literal, $completed:literal, $help:literal) => {
+        Part {
+            name: $name,
+            value: $value,
+            given: $given,
+            help: $help,
+            bash: concat!("--", $name, " "),
+            zsh: concat!(
+                " '", $often, "--", $name, "=[", $help, "]:", $value, ":", $completed, "'"
+            ),
+            fish: concat!(
+                "complete -c tapirvm -n '__fish_seen_subcommand_from %' -l ",
+                $name,
+                " -r -d '",
+                $help,
+                "'\n"
+            ),
+            page: concat!(".TP\n.BI --", $name, " \" ", $value, "\"\n", $help, "\n"),
+        }
+    };
+}
 
-const TABLE: Part = Part {
-    name: "table",
-    value: "@f",
-    given: Given::Option,
-    help: "prints the costs and depths of a function",
-};
+/// An option without a value.
+macro_rules! flag {
+    ($name:literal, $help:literal) => {
+        Part {
+            name: $name,
+            value: "",
+            given: Given::Flag,
+            help: $help,
+            bash: concat!("--", $name, " "),
+            zsh: concat!(" '--", $name, "[", $help, "]'"),
+            fish: concat!(
+                "complete -c tapirvm -n '__fish_seen_subcommand_from %' -l ",
+                $name,
+                " -d '",
+                $help,
+                "'\n"
+            ),
+            page: concat!(".TP\n.B --", $name, "\n", $help, "\n"),
+        }
+    };
+}
 
-const EFFORT: Part = Part {
-    name: "effort",
-    value: "N|unbounded",
-    given: Given::Option,
-    help: "gives up after N steps of search, in place of 1000000000, or never",
-};
+const FILE: Part = word!("file", "FILE", "_files", "the text of the module");
 
-const ARG: Part = Part {
-    name: "arg",
-    value: "V",
-    given: Given::Repeated,
-    help: "an argument of @main, in order; --arg=-5 for one below 0",
-};
+const FILE_OR_NUMBER: Part = word!(
+    "file",
+    "FILE|NUMBER",
+    " ",
+    "the text of a module, or the number of a rule"
+);
 
-const SET: Part = Part {
-    name: "set",
-    value: "@a:I=V",
-    given: Given::Repeated,
-    help: "sets cell I of the global @a before the run",
-};
+const TABLE: Part = option!(
+    Given::Option,
+    "",
+    "table",
+    "@f",
+    " ",
+    "prints the costs and depths of a function"
+);
 
-const SHOW: Part = Part {
-    name: "show",
-    value: "@a:I",
-    given: Given::Repeated,
-    help: "prints cell I of the global @a after the run",
-};
+const EFFORT: Part = option!(
+    Given::Option,
+    "",
+    "effort",
+    "N|unbounded",
+    "(unbounded)",
+    "gives up after N steps of search, in place of 1000000000, or never"
+);
 
-const WORKERS: Part = Part {
-    name: "workers",
-    value: "N",
-    given: Given::Required,
-    help: "the number of workers, from 1 to 64",
-};
+const ARG: Part = option!(
+    Given::Repeated,
+    "*",
+    "arg",
+    "V",
+    " ",
+    "an argument of @main, in order; --arg=-5 for one below 0"
+);
+
+const SET: Part = option!(
+    Given::Repeated,
+    "*",
+    "set",
+    "@a:I=V",
+    " ",
+    "sets cell I of the global @a before the run"
+);
+
+const SHOW: Part = option!(
+    Given::Repeated,
+    "*",
+    "show",
+    "@a:I",
+    " ",
+    "prints cell I of the global @a after the run"
+);
+
+const WORKERS: Part = option!(
+    Given::Required,
+    "",
+    "workers",
+    "N",
+    " ",
+    "the number of workers, from 1 to 64"
+);
 
 const WORKERS_OF_ONE: Part = Part {
     given: Given::Unless("speedup"),
     ..WORKERS
 };
 
-const SPEEDUP: Part = Part {
-    name: "speedup",
-    value: "N,N..",
-    given: Given::Option,
-    help: "in place of --workers: times runs on each of these numbers of workers, the least of five",
-};
+const SPEEDUP: Part = option!(
+    Given::Option,
+    "",
+    "speedup",
+    "N,N..",
+    " ",
+    "in place of --workers: times runs on each of these numbers of workers, the least of five"
+);
 
-const SEED: Part = Part {
-    name: "seed",
-    value: "S",
-    given: Given::Option,
-    help: "draws the events at random by this number",
-};
+const SEED: Part = option!(
+    Given::Option,
+    "",
+    "seed",
+    "S",
+    " ",
+    "draws the events at random by this number"
+);
 
-const SAVE: Part = Part {
-    name: "save",
-    value: "OUT",
-    given: Given::Option,
-    help: "writes the events to a file, as replay takes them",
-};
+const SAVE: Part = option!(
+    Given::Option,
+    "",
+    "save",
+    "OUT",
+    "_files",
+    "writes the events to a file, as replay takes them"
+);
 
-const SCHEDULE: Part = Part {
-    name: "schedule",
-    value: "SCHEDULE",
-    given: Given::Word,
-    help: "the events, a line for each: step W N, or steal W PATH",
-};
+const SCHEDULE: Part = word!(
+    "schedule",
+    "SCHEDULE",
+    "_files",
+    "the events, a line for each: step W N, or steal W PATH"
+);
 
-const TRACE: Part = Part {
-    name: "trace",
-    value: "",
-    given: Given::Flag,
-    help: "prints a line for each event before the answer",
-};
+const TRACE: Part = flag!("trace", "prints a line for each event before the answer");
 
-const PICTURE: Part = Part {
-    name: "picture",
-    value: "OUT",
-    given: Given::Option,
-    help: "writes a picture of the run to a file, as SVG",
-};
+const PICTURE: Part = option!(
+    Given::Option,
+    "",
+    "picture",
+    "OUT",
+    "_files",
+    "writes a picture of the run to a file, as SVG"
+);
 
-const JSON: Part = Part {
-    name: "json",
-    value: "",
-    given: Given::Flag,
-    help: "prints the answer as one object of JSON",
-};
+const JSON: Part = flag!("json", "prints the answer as one object of JSON");
 
-const EVENTS: Part = Part {
-    name: "json",
-    value: "OUT",
-    given: Given::Option,
-    help: "writes a line of JSON for each event to a file",
-};
+const EVENTS: Part = option!(
+    Given::Option,
+    "",
+    "json",
+    "OUT",
+    "_files",
+    "writes a line of JSON for each event to a file"
+);
 
-const PAGE: Part = Part {
-    name: "page",
-    value: "OUT",
-    given: Given::Option,
-    help: "writes a page to step through the run to a file, as HTML",
-};
+const PAGE: Part = option!(
+    Given::Option,
+    "",
+    "page",
+    "OUT",
+    "_files",
+    "writes a page to step through the run to a file, as HTML"
+);
 
-const STATS: Part = Part {
-    name: "stats",
-    value: "",
-    given: Given::Flag,
-    help: "prints what each worker did after the answer",
-};
+const STATS: Part = flag!("stats", "prints what each worker did after the answer");
 
-const SHELL: Part = Part {
-    name: "shell",
-    value: "SHELL",
-    given: Given::Word,
-    help: "bash, zsh or fish",
-};
+const SHELL: Part = word!("shell", "SHELL", "(bash zsh fish)", "bash, zsh or fish");
 
-const LOAD: Part = Part {
-    name: "load",
-    value: "@a=FILE",
-    given: Given::Repeated,
-    help: "fills the global @a with the numbers of a file before the run",
-};
+const LOAD: Part = option!(
+    Given::Repeated,
+    "*",
+    "load",
+    "@a=FILE",
+    " ",
+    "fills the global @a with the numbers of a file before the run"
+);
 
-const DUMP: Part = Part {
-    name: "dump",
-    value: "@a=FILE",
-    given: Given::Repeated,
-    help: "writes the numbers of the global @a to a file after the run",
-};
+const DUMP: Part = option!(
+    Given::Repeated,
+    "*",
+    "dump",
+    "@a=FILE",
+    " ",
+    "writes the numbers of the global @a to a file after the run"
+);
 
-const RAW: Part = Part {
-    name: "raw",
-    value: "",
-    given: Given::Flag,
-    help: "takes the files for words of eight bytes, the low one first",
-};
+const RAW: Part = flag!(
+    "raw",
+    "takes the files for words of eight bytes, the low one first"
+);
 
 const CELLS: Part = Part {
-    name: "cells",
-    value: "@a I N",
-    given: Given::Row,
-    help: "prints N cells of the global @a from cell I on, after the run",
+    zsh: " '*--cells[prints N cells of the global @a from cell I on, after the run]:@a: :I: :N: '",
+    ..option!(
+        Given::Row,
+        "*",
+        "cells",
+        "@a I N",
+        " ",
+        "prints N cells of the global @a from cell I on, after the run"
+    )
 };
 
-const TIME: Part = Part {
-    name: "time",
-    value: "",
-    given: Given::Flag,
-    help: "tells on standard error what reading, verifying and running took",
-};
+const TIME: Part = flag!(
+    "time",
+    "tells on standard error what reading, verifying and running took"
+);
 
-const INTERACTIVE: Part = Part {
-    name: "interactive",
-    value: "",
-    given: Given::Flag,
-    help: "has a prompt and help, as between terminals",
-};
+const INTERACTIVE: Part = flag!("interactive", "has a prompt and help, as between terminals");
 
-const ANNOTATE: Part = Part {
-    name: "annotate",
-    value: "",
-    given: Given::Flag,
-    help: "puts in lines that follow from others first, as the command of this name does",
-};
+const ANNOTATE: Part = flag!(
+    "annotate",
+    "puts in lines that follow from others first, as the command of this name does"
+);
 
-const PRUNE: Part = Part {
-    name: "prune",
-    value: "",
-    given: Given::Flag,
-    help: "takes annotations out that an accepted module can do without, and puts none in",
-};
+const PRUNE: Part = flag!(
+    "prune",
+    "takes annotations out that an accepted module can do without, and puts none in"
+);
 
-const WRITE: Part = Part {
-    name: "write",
-    value: "",
-    given: Given::Flag,
-    help: "writes the text into FILE, and does not print it",
-};
+const WRITE: Part = flag!("write", "writes the text into FILE, and does not print it");
 
-/// What the help says of a command.
+/// A command.
 #[derive(Clone, Copy)]
 pub(crate) struct CommandRow {
-    /// What it tells first.
+    pub(crate) verb: Verb,
+    /// What its help tells first.
     pub(crate) about: &'static str,
     pub(crate) calls: Calls,
     /// Its words and options, as its help lists them.
     pub(crate) parts: &'static [Part],
 }
 
-static VERIFY_ROW: CommandRow = CommandRow {
-    about: "verifies a module, and tells its budget and depth",
-    calls: calls!("$ tapirvm verify fib.ll --table @fib"),
-    parts: &[FILE, TABLE, ANNOTATE, EFFORT, JSON],
-};
-
-static EXPLAIN_ROW: CommandRow = CommandRow {
-    about: "says why a module is refused and what was to be shown, or what an accepted one could do without; or prints a rule",
-    calls: calls!("$ tapirvm explain fib.ll", "$ tapirvm explain 602"),
-    parts: &[FILE_OR_NUMBER, ANNOTATE, EFFORT, JSON],
-};
-
-static SERIAL_ROW: CommandRow = CommandRow {
-    about: "runs the serial elision of a module",
-    calls: calls!("$ tapirvm serial pair.ll --arg 7 --show @a:0"),
-    parts: &[
-        FILE, ARG, SET, SHOW, LOAD, DUMP, RAW, CELLS, TIME, ANNOTATE, EFFORT,
-    ],
-};
-
-static RUN_ROW: CommandRow = CommandRow {
-    about: "runs a module on workers",
-    calls: calls!(
-        "$ tapirvm run fib.ll --workers 4 --arg 10",
-        "$ tapirvm run fib.ll --workers 4 --arg 6 --seed 1 --save s.txt"
-    ),
-    parts: &[
-        FILE,
-        ARG,
-        SET,
-        SHOW,
-        LOAD,
-        DUMP,
-        RAW,
-        CELLS,
-        WORKERS_OF_ONE,
-        SPEEDUP,
-        SEED,
-        SAVE,
-        TRACE,
-        STATS,
-        PICTURE,
-        EVENTS,
-        PAGE,
-        TIME,
-        ANNOTATE,
-        EFFORT,
-    ],
-};
-
-static REPLAY_ROW: CommandRow = CommandRow {
-    about: "runs a module by a schedule",
-    calls: calls!("$ tapirvm replay pair.ll s.txt --workers 2 --arg 7 --trace"),
-    parts: &[
-        FILE, ARG, SET, SHOW, LOAD, DUMP, RAW, CELLS, SCHEDULE, WORKERS, SAVE, TRACE, STATS,
-        PICTURE, EVENTS, PAGE, TIME, EFFORT,
-    ],
-};
-
-static DEBUG_ROW: CommandRow = CommandRow {
-    about: "goes forwards and backwards through a schedule, by commands from standard input",
-    calls: Calls {
-        lines: "$ tapirvm debug pair.ll s.txt --workers 2 --arg 7\n",
-        ending: DIALOGUE,
+/// The commands, as help lists them.
+pub(crate) static ROWS: [CommandRow; 11] = [
+    CommandRow {
+        verb: Verb::Verify,
+        about: "verifies a module, and tells its budget and depth",
+        calls: calls!("$ tapirvm verify fib.ll --table @fib"),
+        parts: &[FILE, TABLE, ANNOTATE, EFFORT, JSON],
     },
-    parts: &[
-        FILE,
-        ARG,
-        SET,
-        SHOW,
-        LOAD,
-        RAW,
-        SCHEDULE,
-        WORKERS,
-        INTERACTIVE,
-        EFFORT,
-    ],
-};
-
-static PRINT_ROW: CommandRow = CommandRow {
-    about: "prints the canonical text of a module",
-    calls: calls!("$ tapirvm print fib.ll"),
-    parts: &[FILE],
-};
-
-static SHOW_ROW: CommandRow = CommandRow {
-    about: "tells what the verifier knows of each block of a module",
-    calls: calls!("$ tapirvm show fib.ll"),
-    parts: &[FILE, EFFORT, JSON],
-};
-
-static ANNOTATE_ROW: CommandRow = CommandRow {
-    about: "prints a module with annotations put in that follow from others, or without those that it does not need",
-    calls: calls!(
-        "$ tapirvm annotate fib.ll > annotated.ll",
-        "$ tapirvm annotate --prune --write annotated.ll"
-    ),
-    parts: &[FILE, PRUNE, WRITE, EFFORT],
-};
-
-static COMPLETIONS_ROW: CommandRow = CommandRow {
-    about: "prints a script that completes the words of this program in a shell",
-    calls: calls!("$ source <(tapirvm completions bash)"),
-    parts: &[SHELL],
-};
-
-static MAN_ROW: CommandRow = CommandRow {
-    about: "prints the manual page",
-    calls: calls!("$ tapirvm man > tapirvm.1 && man ./tapirvm.1"),
-    parts: &[],
-};
-
-/// The command of a verb.
-pub(crate) fn row_of(verb: Verb) -> &'static CommandRow {
-    match verb {
-        Verb::Verify => &VERIFY_ROW,
-        Verb::Explain => &EXPLAIN_ROW,
-        Verb::Serial => &SERIAL_ROW,
-        Verb::Run => &RUN_ROW,
-        Verb::Replay => &REPLAY_ROW,
-        Verb::Debug => &DEBUG_ROW,
-        Verb::Print => &PRINT_ROW,
-        Verb::Show => &SHOW_ROW,
-        Verb::Annotate => &ANNOTATE_ROW,
-        Verb::Completions => &COMPLETIONS_ROW,
-        Verb::Man => &MAN_ROW,
-    }
-}
+    CommandRow {
+        verb: Verb::Explain,
+        about: "says why a module is refused and what was to be shown, or what an accepted one could do without; or prints a rule",
+        calls: calls!("$ tapirvm explain fib.ll", "$ tapirvm explain 602"),
+        parts: &[FILE_OR_NUMBER, ANNOTATE, EFFORT, JSON],
+    },
+    CommandRow {
+        verb: Verb::Serial,
+        about: "runs the serial elision of a module",
+        calls: calls!("$ tapirvm serial pair.ll --arg 7 --show @a:0"),
+        parts: &[
+            FILE, ARG, SET, SHOW, LOAD, DUMP, RAW, CELLS, TIME, ANNOTATE, EFFORT,
+        ],
+    },
+    CommandRow {
+        verb: Verb::Run,
+        about: "runs a module on workers",
+        calls: calls!(
+            "$ tapirvm run fib.ll --workers 4 --arg 10",
+            "$ tapirvm run fib.ll --workers 4 --arg 6 --seed 1 --save s.txt"
+        ),
+        parts: &[
+            FILE,
+            ARG,
+            SET,
+            SHOW,
+            LOAD,
+            DUMP,
+            RAW,
+            CELLS,
+            WORKERS_OF_ONE,
+            SPEEDUP,
+            SEED,
+            SAVE,
+            TRACE,
+            STATS,
+            PICTURE,
+            EVENTS,
+            PAGE,
+            TIME,
+            ANNOTATE,
+            EFFORT,
+        ],
+    },
+    CommandRow {
+        verb: Verb::Replay,
+        about: "runs a module by a schedule",
+        calls: calls!("$ tapirvm replay pair.ll s.txt --workers 2 --arg 7 --trace"),
+        parts: &[
+            FILE, ARG, SET, SHOW, LOAD, DUMP, RAW, CELLS, SCHEDULE, WORKERS, SAVE, TRACE, STATS,
+            PICTURE, EVENTS, PAGE, TIME, EFFORT,
+        ],
+    },
+    CommandRow {
+        verb: Verb::Debug,
+        about: "goes forwards and backwards through a schedule, by commands from standard input",
+        calls: Calls {
+            lines: "$ tapirvm debug pair.ll s.txt --workers 2 --arg 7\n",
+            ending: DIALOGUE,
+        },
+        parts: &[
+            FILE,
+            ARG,
+            SET,
+            SHOW,
+            LOAD,
+            RAW,
+            SCHEDULE,
+            WORKERS,
+            INTERACTIVE,
+            EFFORT,
+        ],
+    },
+    CommandRow {
+        verb: Verb::Print,
+        about: "prints the canonical text of a module",
+        calls: calls!("$ tapirvm print fib.ll"),
+        parts: &[FILE],
+    },
+    CommandRow {
+        verb: Verb::Show,
+        about: "tells what the verifier knows of each block of a module",
+        calls: calls!("$ tapirvm show fib.ll"),
+        parts: &[FILE, EFFORT, JSON],
+    },
+    CommandRow {
+        verb: Verb::Annotate,
+        about: "prints a module with annotations put in that follow from others, or without those that it does not need",
+        calls: calls!(
+            "$ tapirvm annotate fib.ll > annotated.ll",
+            "$ tapirvm annotate --prune --write annotated.ll"
+        ),
+        parts: &[FILE, PRUNE, WRITE, EFFORT],
+    },
+    CommandRow {
+        verb: Verb::Completions,
+        about: "prints a script that completes the words of this program in a shell",
+        calls: calls!("$ source <(tapirvm completions bash)"),
+        parts: &[SHELL],
+    },
+    CommandRow {
+        verb: Verb::Man,
+        about: "prints the manual page",
+        calls: calls!("$ tapirvm man > tapirvm.1 && man ./tapirvm.1"),
+        parts: &[],
+    },
+];

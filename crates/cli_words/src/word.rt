@@ -3,6 +3,7 @@
 //! A word of UTF-8 is its own text. In the text of any other word a character of the private use area stands for each byte past ASCII; so
 //! does it in a word that has such a character itself. Thus no two words have one text.
 
+use lists::{ListBuffer, TextBuffer};
 use std::alloc::{AllocError, Global};
 
 /// The character that would stand for byte 0.
@@ -27,11 +28,11 @@ pub fn text_of(alloc: Global, word: &[u8]) -> Result<String, AllocError> {
             return String::from_str(alloc, text);
         }
     }
-    let mut text = String::new(alloc);
+    let mut text = TextBuffer::new(alloc);
     for byte in word {
-        text.push(stand_in(*byte))?;
+        text.push(stand_in(*byte));
     }
-    Ok(text)
+    text.finish()
 }
 
 /// Whether the word is not its text.
@@ -49,9 +50,9 @@ pub fn bytes_of(alloc: Global, text: &str) -> Result<Vec<u8>, AllocError> {
     if !is_raw(text) {
         return text.as_bytes().to_vec(alloc);
     }
-    let mut word = Vec::new(alloc);
+    let mut word = ListBuffer::new(alloc);
     for c in text.chars() {
-        word.push((u32::from(c) & 0xff) as u8)?;
+        word.push((u32::from(c) & 0xff) as u8);
     }
-    Ok(word)
+    word.finish()
 }

@@ -10,7 +10,7 @@ use std::io::{ErrorKind, Write};
 
 /// Says that memory was refused.
 pub fn stop_for_memory<W: Write>(output: &mut W) -> io::Result<Status> {
-    writeln!(output, "stopped 803")?;
+    output.write_all(b"stopped 803\n")?;
     Ok(Status::Stopped)
 }
 
