@@ -1,213 +1,196 @@
-//! The dialogue of `tapirvm debug`: a command a line, and a line in answer.
+//! The dialogue: a line is read, done and answered, until `quit` or the end of the input.
 
-use cli_words::{Status, is_name};
-use debugger::{Debugger, Status as Standing, TaskView, read_number, read_task};
-use frame::Path;
+use crate::command::{Command, read_command};
+use crate::help::HELP;
+use crate::paint::{Colour, Paint};
+use crate::session::Session;
+use crate::word::Word;
+use cli_words::{Question, Status, print_refused};
+use debugger::{Debugger, Verified};
+use ir_reader::read;
 use lists::{OutOfMemory, TextBuffer};
-use std::alloc::{AllocError, Global};
-use std::io;
-use std::io::{BufRead, BufReader, ErrorKind, Read, Write};
+use std::alloc::AllocError;
+use std::io::{BufRead, BufReader, Read, Write};
+use std::{io, mem};
+use view_events::Names;
 
-/// What a line asks for.
-#[derive(Drop)]
-enum Command<'a> {
-    To(u64),
-    Forward,
-    Back,
-    Break(u64),
-    Task { name: &'a str, path: Path },
-    Cell { name: &'a str, index: u64 },
-    Quit,
-}
-
-/// Reads `@a:I`.
-fn cell_of(word: &str) -> Option<Command<'_>> {
-    let (name, digits) = word.strip_prefix("@")?.split_once(":")?;
-    let index = read_number(digits.as_bytes())?;
-    if is_name(name) {
-        Some(Command::Cell { name, index })
-    } else {
-        None
-    }
-}
-
-fn task_of<'a>(alloc: Global, name: &'a str) -> Result<Option<Command<'a>>, OutOfMemory> {
-    match read_task(alloc, name.as_bytes())? {
-        Some(path) => Ok(Some(Command::Task { name, path })),
-        None => Ok(None),
-    }
-}
-
-/// Reads a command of two words.
-fn worded<'a>(
-    alloc: Global,
-    verb: &str,
-    word: &'a str,
-) -> Result<Option<Command<'a>>, OutOfMemory> {
-    match (verb, read_number(word.as_bytes())) {
-        ("to", Some(number)) => Ok(Some(Command::To(number))),
-        ("break", Some(number)) => Ok(Some(Command::Break(number))),
-        ("task", _) => task_of(alloc, word),
-        ("cell", _) => Ok(cell_of(word)),
-        _ => Ok(None),
-    }
-}
-
-/// Reads a line without its LF; none where it is no command.
-fn read_command(alloc: Global, line: &[u8]) -> Result<Option<Command<'_>>, OutOfMemory> {
-    let Ok(text) = str::from_utf8(line) else {
-        return Ok(None);
-    };
-    if let Some((verb, word)) = text.split_once(" ") {
-        return worded(alloc, verb, word);
-    }
-    match text {
-        "forward" => Ok(Some(Command::Forward)),
-        "back" => Ok(Some(Command::Back)),
-        "quit" => Ok(Some(Command::Quit)),
-        _ => Ok(None),
-    }
-}
-
-fn push_standing(out: &mut TextBuffer, standing: Standing) {
-    match standing {
-        Standing::Running(worker) => write!(out, "running {worker}"),
-        Standing::Ready => out.push_str("ready"),
-        Standing::Stalled(_) => out.push_str("stalled"),
-    }
-}
-
-/// How a task stands and where, or that there is none.
-fn push_task(out: &mut TextBuffer, name: &str, task: Option<TaskView<'_>>) {
-    write!(out, "task {name} ");
-    let Some(task) = task else {
-        out.push_str("none\n");
-        return;
-    };
-    push_standing(out, task.status);
-    let line = task.line;
-    writeln!(out, " line {line}");
-}
-
-fn push_cell(out: &mut TextBuffer, name: &str, index: u64, value: Option<i64>) {
-    match value {
-        Some(value) => writeln!(out, "cell @{name}:{index} {value}"),
-        None => out.push_str("cell none\n"),
-    }
-}
-
-fn push_position(out: &mut TextBuffer, debugger: &Debugger<'_>) {
-    let position = debugger.position();
-    let length = debugger.len();
-    writeln!(out, "at {position} of {length}");
-}
-
-/// Obeys a command that does not end the dialogue, and adds the line that answers it.
-fn obey_command(
-    debugger: &mut Debugger<'_>,
-    command: &Command<'_>,
-    out: &mut TextBuffer,
-) -> Result<(), OutOfMemory> {
-    let gone = match command {
-        Command::To(position) => debugger.to(*position as usize),
-        Command::Forward => debugger.forward(),
-        Command::Back => debugger.back(),
-        Command::Break(line) => debugger.break_at(*line),
-        Command::Task { name, path } => {
-            push_task(out, name, debugger.show_task(path));
-            return Ok(());
+/// What people are told where a command does not find what it looks for.
+fn note_of(command: &Command<'_>) -> &'static str {
+    match command {
+        Command::Number(Word::Next, _) => "that worker has no further event",
+        Command::Number(Word::Over, _) => {
+            "that worker has no further event, or the call does not end"
         }
-        Command::Cell { name, index } => {
-            push_cell(out, name, *index, debugger.show_cell(name, *index));
-            return Ok(());
+        Command::Path(..) => "it does not end before the schedule does",
+        _ => "no worker comes to that line any more: this is the end",
+    }
+}
+
+impl Session<'_, '_> {
+    /// Where the session stands now, and a note where what was looked for was not found.
+    fn push_arrival(&self, out: &mut TextBuffer, is_found: bool, note: &str) {
+        if self.is_for_people && !is_found {
+            let Colour { begins, ends } = self.colour(Paint::Mark);
+            writeln!(out, "{begins}{note}{ends}");
         }
-        Command::Quit => return Ok(()),
-    };
-    gone?;
-    push_position(out, debugger);
-    Ok(())
-}
-
-/// Obeys a line, and adds the line that answers it; false at `quit`.
-fn obey(
-    alloc: Global,
-    debugger: &mut Debugger<'_>,
-    line: &[u8],
-    out: &mut TextBuffer,
-) -> Result<bool, OutOfMemory> {
-    match read_command(alloc, line)? {
-        Some(Command::Quit) => return Ok(false),
-        Some(command) => obey_command(debugger, &command, out)?,
-        None => out.push_str("unknown\n"),
-    }
-    Ok(true)
-}
-
-/// Answers a line by a line of its own, written at once; false at `quit`.
-fn answer_line<W: Write>(
-    alloc: Global,
-    debugger: &mut Debugger<'_>,
-    line: &[u8],
-    output: &mut W,
-) -> io::Result<bool> {
-    let mut answer = TextBuffer::new(alloc);
-    match obey(alloc, debugger, line, &mut answer) {
-        Ok(true) => output.write_all(answer.finish()?.as_bytes())?,
-        Ok(false) => return Ok(false),
-        Err(OutOfMemory) => return Err(io::Error::from(AllocError)),
-    }
-    output.flush()?;
-    Ok(true)
-}
-
-/// Answers the next line; false where there is none, and at `quit`. The last line may lack the LF.
-fn answer_next<B: BufRead, W: Write>(
-    alloc: Global,
-    debugger: &mut Debugger<'_>,
-    input: &mut B,
-    line: &mut Vec<u8>,
-    output: &mut W,
-) -> io::Result<bool> {
-    line.clear();
-    if input.read_until(b'\n', line)? == 0 {
-        return Ok(false);
-    }
-    if line.as_slice().ends_with(b"\n") {
-        line.pop();
-    }
-    answer_line(alloc, debugger, line.as_slice(), output)
-}
-
-/// Answers each line.
-fn answer_all<R: Read + Drop, W: Write>(
-    alloc: Global,
-    debugger: &mut Debugger<'_>,
-    input: R,
-    output: &mut W,
-) -> io::Result<()> {
-    let mut input = BufReader::new(alloc, input)?;
-    let mut line = Vec::new(alloc);
-    for _ in 0..u64::MAX {
-        if !answer_next(alloc, debugger, &mut input, &mut line, output)? {
-            return Ok(());
+        self.push_where(out);
+        if self.is_for_people {
+            self.push_workers(out);
         }
     }
-    Ok(())
+
+    /// Goes where a command asks to, and says whether that was found; none where it does not ask to go.
+    fn go(&mut self, command: &Command<'_>) -> Result<Option<bool>, OutOfMemory> {
+        let is_found = match command {
+            Command::Number(Word::To, position) => self.go_to(*position as usize),
+            Command::Alone(Word::Forward) => {
+                self.go_to(self.debugger.position().saturating_add(1))
+            }
+            Command::Alone(Word::Back) => self.go_to(self.debugger.position().saturating_sub(1)),
+            Command::Number(Word::Next, worker) => self.go_next(*worker),
+            Command::Number(Word::Over, worker) => self.go_over(*worker),
+            Command::Number(Word::Break, line) => self.go_to_line(*line),
+            Command::Path(Word::Until, path) => self.go_to_end(path),
+            _ => return Ok(None),
+        };
+        Ok(Some(is_found?))
+    }
+
+    /// Shows what a command asks for.
+    fn show(&self, out: &mut TextBuffer, command: &Command<'_>) -> Result<(), OutOfMemory> {
+        match command {
+            Command::Alone(Word::Tasks) => return self.push_living(out, false),
+            Command::Alone(Word::Frames) => return self.push_living(out, true),
+            Command::Alone(Word::Where) => self.push_where(out),
+            Command::Alone(Word::Workers) => self.push_workers(out),
+            Command::Alone(Word::Help) => out.push_str(HELP),
+            Command::Alone(_) => self.push_source(out, self.first_line()),
+            Command::Number(_, line) => self.push_source(out, *line),
+            Command::Path(Word::Registers, path) => return self.push_registers(out, path),
+            Command::Path(Word::Allocas, path) => self.push_allocas(out, path),
+            Command::Path(_, path) => self.push_task(out, path),
+            Command::Cells { name, from, count } => self.push_cells(out, name, *from, *count),
+            Command::Unknown(_) if !self.is_for_people => out.push_str("unknown\n"),
+            Command::Unknown(said) => writeln!(out, "{said}"),
+        }
+        Ok(())
+    }
+
+    /// Obeys a line; false where the dialogue ends.
+    fn obey(&mut self, out: &mut TextBuffer, line: &str) -> Result<bool, OutOfMemory> {
+        if self.is_for_people && line.is_empty() {
+            return Ok(true);
+        }
+        let command = read_command(self.alloc, line, self.is_for_people)?;
+        if matches!(&command, Command::Alone(Word::Quit)) {
+            return Ok(false);
+        }
+        match self.go(&command)? {
+            Some(is_found) => self.push_arrival(out, is_found, note_of(&command)),
+            None => self.show(out, &command)?,
+        }
+        Ok(true)
+    }
+
+    /// The text of a line: without blanks around it where it is people's, without its LF where it is a program's.
+    fn text_of<'l>(&self, line: &'l [u8]) -> &'l str {
+        let text = str::from_utf8(line).unwrap_or("?");
+        if self.is_for_people {
+            text.trim()
+        } else {
+            text.strip_suffix("\n").unwrap_or(text)
+        }
+    }
+
+    /// Writes a prompt for people, reads the next line and answers it; false where the dialogue ends. People's empty line asks for the last again.
+    fn answer_next<B: BufRead, W: Write>(
+        &mut self,
+        input: &mut B,
+        line: &mut Vec<u8>,
+        last: &mut Vec<u8>,
+        output: &mut W,
+    ) -> io::Result<bool> {
+        if self.is_for_people {
+            let position = self.debugger.position();
+            let length = self.debugger.len();
+            write!(output, "{position}/{length}> ")?;
+        }
+        output.flush()?;
+        line.clear();
+        if input.read_until(b'\n', line)? == 0 {
+            if self.is_for_people {
+                output.write_all(b"\n")?;
+            }
+            return Ok(false);
+        }
+        if !self.is_for_people || !self.text_of(line.as_slice()).is_empty() {
+            mem::swap(line, last);
+        }
+        let mut out = TextBuffer::new(self.alloc);
+        let Ok(goes_on) = self.obey(&mut out, self.text_of(last.as_slice())) else {
+            return Err(io::Error::from(AllocError));
+        };
+        output.write_all(out.finish()?.as_bytes())?;
+        Ok(goes_on)
+    }
 }
 
-/// Reads commands up to `quit` or the end of the input, and answers each.
-pub fn converse<R: Read + Drop, W: Write>(
-    alloc: Global,
-    debugger: &mut Debugger<'_>,
+/// Answers line after line. People are told first how to ask.
+fn converse<R: Read + Drop, W: Write>(
+    session: Session<'_, '_>,
     input: R,
     output: &mut W,
 ) -> io::Result<Status> {
-    match answer_all(alloc, debugger, input, output) {
-        Ok(()) => Ok(Status::Done),
-        Err(error) if error.kind() == ErrorKind::OutOfMemory => {
-            output.write_all(b"stopped 803\n")?;
-            Ok(Status::Stopped)
-        }
-        Err(error) => Err(error),
+    let mut session = session;
+    let alloc = session.alloc;
+    let mut input = BufReader::new(alloc, input)?;
+    let mut line = Vec::new(alloc);
+    let mut last = Vec::new(alloc);
+    if session.is_for_people {
+        output.write_all(b"help lists the commands\n")?;
     }
+    for _line in 0..u64::MAX {
+        if !session.answer_next(&mut input, &mut line, &mut last, output)? {
+            break;
+        }
+    }
+    output.flush()?;
+    Ok(Status::Done)
+}
+
+/// Answers the commands of the input, by a debugger of this module, which the verifier took.
+pub fn answer_commands<R: Read, W: Write>(
+    question: Question<'_>,
+    text: &[u8],
+    verified: &Verified,
+    debugger: &mut Debugger<'_>,
+    input: &mut R,
+    output: &mut W,
+) -> io::Result<Status> {
+    let Question {
+        alloc,
+        state,
+        request,
+        ..
+    } = question;
+    let module = match read(alloc, state, text) {
+        Ok(module) => module,
+        Err(refused) => return print_refused(&refused, output),
+    };
+    let Ok(names) = Names::of(alloc, verified.program(), &module) else {
+        return Err(io::Error::from(AllocError));
+    };
+    let source = str::from_utf8(text).unwrap_or("");
+    let lines: Vec<&str> = source.lines().collect(alloc)?;
+    let session = Session {
+        alloc,
+        debugger,
+        verified,
+        names: &names,
+        lines: lines.as_slice(),
+        workers: request.workers,
+        is_for_people: request.dialogue.is_for_people,
+        has_colours: request.dialogue.has_colours,
+    };
+    converse(session, input, output)
 }

@@ -1,12 +1,21 @@
-//! The dialogues of `tapirvm debug`: what is answered while somebody goes through a schedule.
+//! The dialogue of `tapirvm debug`: what is answered while somebody goes through a schedule.
 //!
-//! [`answer_commands`] has that with programs on a pipe (`dialogue`), a line for each line, and that with people (`people`), whose commands and answers
-//! stand in `prompts`. Which run it is says a [`Debugger`], which is made above.
+//! [`answer_commands`] has it with programs on a pipe, a line for each line, or with people: they have a prompt, words that may be abbreviated, and
+//! answers that show tasks, frames, registers and cells by the module's names and lines. Which run it is says a [`Debugger`], which is made above.
 #![tactic(auto)]
 
+mod command;
 mod dialogue;
-mod people;
-mod prompts;
+mod going;
+mod help;
+mod paint;
+mod registers;
+mod session;
+mod showing;
+mod source;
+mod values;
+mod ways;
+mod word;
 
 pub use debugger::Debugger;
-pub use people::answer_commands;
+pub use dialogue::answer_commands;

@@ -2,7 +2,7 @@
 
 /// What a text is.
 #[derive(Clone, Copy)]
-pub enum Paint {
+pub(crate) enum Paint {
     /// A task's or a frame's path.
     Path,
     /// What stands beside.
@@ -13,20 +13,20 @@ pub enum Paint {
 
 /// What stands before a text and behind it, so that it has a colour where there are colours.
 #[derive(Clone, Copy)]
-pub struct Colour {
+pub(crate) struct Colour {
     pub begins: &'static str,
     pub ends: &'static str,
 }
 
 impl Colour {
-    pub fn none() -> Colour {
+    pub(crate) fn none() -> Colour {
         Colour {
             begins: "",
             ends: "",
         }
     }
 
-    pub fn of(paint: Paint, has_colours: bool) -> Colour {
+    pub(crate) fn of(paint: Paint, has_colours: bool) -> Colour {
         if !has_colours {
             return Colour::none();
         }

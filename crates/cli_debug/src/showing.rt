@@ -1,8 +1,8 @@
 //! What is shown of a position.
 
-use crate::prompts::paint::{Colour, Paint};
-use crate::prompts::session::{Session, push_event};
-use debugger::{FrameView, Status, TaskView};
+use crate::paint::{Colour, Paint};
+use crate::session::{Session, push_event};
+use debugger::{Status, TaskView};
 use frame::Path;
 use lists::{OutOfMemory, TextBuffer};
 use view_events::TaskName;
@@ -10,15 +10,20 @@ use view_events::TaskName;
 /// The most cells that one command shows of an object.
 const MOST_CELLS: u64 = 64;
 
-fn push_status(out: &mut TextBuffer, status: Status) {
-    match status {
-        Status::Running(worker) => write!(out, "running on worker {worker}"),
-        Status::Ready => out.push_str("ready"),
-        Status::Stalled(_) => out.push_str("stalled"),
-    }
-}
-
 impl Session<'_, '_> {
+    fn push_status(&self, out: &mut TextBuffer, status: Status) {
+        let running = if self.is_for_people {
+            "running on worker"
+        } else {
+            "running"
+        };
+        match status {
+            Status::Running(worker) => write!(out, "{running} {worker}"),
+            Status::Ready => out.push_str("ready"),
+            Status::Stalled(_) => out.push_str("stalled"),
+        }
+    }
+
     fn push_path(&self, out: &mut TextBuffer, path: &Path) {
         let Colour { begins, ends } = self.colour(Paint::Path);
         let name = TaskName(path);
@@ -41,27 +46,46 @@ impl Session<'_, '_> {
     fn push_view(&self, out: &mut TextBuffer, view: TaskView<'_>) {
         self.push_path(out, view.path);
         out.push(' ');
-        push_status(out, view.status);
+        self.push_status(out, view.status);
         self.push_place(out, view);
     }
 
     /// A note that no task or frame has this path.
-    pub fn push_missing(&self, out: &mut TextBuffer, what: &str, path: &Path) {
+    pub(crate) fn push_missing(&self, out: &mut TextBuffer, what: &str, path: &Path) {
         write!(out, "no {what} ");
         self.push_path(out, path);
         out.push_str(" lives here\n");
     }
 
-    pub fn push_task(&self, out: &mut TextBuffer, path: &Path) {
+    /// A task in words for a program.
+    fn push_plain_task(&self, out: &mut TextBuffer, path: &Path) {
+        let name = TaskName(path);
+        write!(out, "task {name} ");
+        let Some(TaskView { status, line, .. }) = self.debugger.show_task(path) else {
+            return out.push_str("none\n");
+        };
+        self.push_status(out, status);
+        writeln!(out, " line {line}");
+    }
+
+    pub(crate) fn push_task(&self, out: &mut TextBuffer, path: &Path) {
         match self.debugger.show_task(path) {
+            _ if !self.is_for_people => self.push_plain_task(out, path),
             Some(view) => self.push_view(out, view),
             None => self.push_missing(out, "task", path),
         }
     }
 
-    pub fn push_tasks(&self, out: &mut TextBuffer) -> Result<(), OutOfMemory> {
+    /// The tree of living frames, or the tasks among them.
+    pub(crate) fn push_living(
+        &self,
+        out: &mut TextBuffer,
+        are_frames: bool,
+    ) -> Result<(), OutOfMemory> {
         for path in self.paths()? {
-            if let Some(view) = self.debugger.show_task(&path) {
+            if are_frames {
+                self.push_frame(out, &path);
+            } else if let Some(view) = self.debugger.show_task(&path) {
                 self.push_view(out, view);
             }
         }
@@ -69,7 +93,7 @@ impl Session<'_, '_> {
     }
 
     /// What each worker does.
-    pub fn push_workers(&self, out: &mut TextBuffer) {
+    pub(crate) fn push_workers(&self, out: &mut TextBuffer) {
         for worker in 0..self.workers {
             write!(out, "worker {worker} ");
             match self.worker(worker as u64) {
@@ -82,11 +106,18 @@ impl Session<'_, '_> {
         }
     }
 
-    /// The position, and the events beside it.
-    pub fn push_where(&self, out: &mut TextBuffer) {
+    /// The position, and for people the events beside it.
+    pub(crate) fn push_where(&self, out: &mut TextBuffer) {
         let position = self.debugger.position();
         let length = self.debugger.len();
         write!(out, "at {position} of {length}");
+        if self.is_for_people {
+            self.push_events_at(out, position);
+        }
+        out.push('\n');
+    }
+
+    fn push_events_at(&self, out: &mut TextBuffer, position: usize) {
         let events = self.debugger.events();
         if let Some(last) = events.get(position.wrapping_sub(1)) {
             out.push_str(", last ");
@@ -96,32 +127,24 @@ impl Session<'_, '_> {
             out.push_str(", next ");
             push_event(out, next);
         }
-        out.push('\n');
     }
 
-    /// A frame in the tree, further to the right the deeper it is.
-    fn push_frame(&self, out: &mut TextBuffer, view: FrameView<'_>) {
-        for _level in 0..view.path.numbers.len() {
+    /// A living frame in the tree, further to the right the deeper it is.
+    fn push_frame(&self, out: &mut TextBuffer, path: &Path) {
+        let Some(view) = self.debugger.show_frame(path) else {
+            return;
+        };
+        for _level in 0..path.numbers.len() {
             out.push_str("  ");
         }
-        self.push_path(out, view.path);
+        self.push_path(out, path);
         let function = self.names.function(view.frame.function.0);
         write!(out, " @{function}");
-        if let Some(task) = self.debugger.show_task(view.path) {
+        if let Some(task) = self.debugger.show_task(path) {
             out.push_str(", task ");
-            push_status(out, task.status);
+            self.push_status(out, task.status);
         }
         out.push('\n');
-    }
-
-    /// The tree of living frames.
-    pub fn push_frames(&self, out: &mut TextBuffer) -> Result<(), OutOfMemory> {
-        for path in self.paths()? {
-            if let Some(view) = self.debugger.show_frame(&path) {
-                self.push_frame(out, view);
-            }
-        }
-        Ok(())
     }
 
     /// The cells of one alloca.
@@ -144,7 +167,7 @@ impl Session<'_, '_> {
     }
 
     /// The arrays of a frame's function. A cell that was never written shows any number.
-    pub fn push_allocas(&self, out: &mut TextBuffer, path: &Path) {
+    pub(crate) fn push_allocas(&self, out: &mut TextBuffer, path: &Path) {
         let Some(view) = self.debugger.show_frame(path) else {
             return self.push_missing(out, "frame", path);
         };
@@ -161,13 +184,14 @@ impl Session<'_, '_> {
     }
 
     /// Cells of a global, up to one that is not there.
-    pub fn push_cells(&self, out: &mut TextBuffer, name: &str, from: u64, count: u64) {
+    pub(crate) fn push_cells(&self, out: &mut TextBuffer, name: &str, from: u64, count: u64) {
+        let what = if self.is_for_people { "" } else { "cell " };
         for index in from..from.saturating_add(count.min(MOST_CELLS)) {
-            let Some(value) = self.debugger.show_cell(name, index) else {
-                writeln!(out, "no cell @{name}:{index}");
-                return;
-            };
-            writeln!(out, "@{name}:{index} {value}");
+            match self.debugger.show_cell(name, index) {
+                Some(value) => writeln!(out, "{what}@{name}:{index} {value}"),
+                None if self.is_for_people => return writeln!(out, "no cell @{name}:{index}"),
+                None => return out.push_str("cell none\n"),
+            }
         }
     }
 }

@@ -2,7 +2,7 @@
 
 ghost use Rattle.std.specs.Prelude.{◌≤◌, length};
 
-use crate::prompts::paint::{Colour, Paint};
+use crate::paint::{Colour, Paint};
 use debugger::{Debugger, Event, TaskView, Verified};
 use frame::Path;
 use lists::{OutOfMemory, TextBuffer};
@@ -11,7 +11,7 @@ use view_events::{Names, TaskName};
 
 /// A debugger, with the texts that people see.
 #[derive(Drop)]
-pub struct Session<'s, 'v> {
+pub(crate) struct Session<'s, 'v> {
     pub alloc: Global,
     pub debugger: &'s mut Debugger<'v>,
     pub verified: &'s Verified,
@@ -19,16 +19,18 @@ pub struct Session<'s, 'v> {
     /// The lines of the module.
     pub lines: &'s [&'s str],
     pub workers: usize,
+    /// Whether people are answered; else programs are, which need less.
+    pub is_for_people: bool,
     pub has_colours: bool,
 }
 
 impl Session<'_, '_> {
-    pub fn colour(&self, paint: Paint) -> Colour {
+    pub(crate) fn colour(&self, paint: Paint) -> Colour {
         Colour::of(paint, self.has_colours)
     }
 
     /// A line of the module, without blanks around and without its comment.
-    pub fn source(&self, line: u32) -> &str {
+    pub(crate) fn source(&self, line: u32) -> &str {
         let index = (line as usize).saturating_sub(1);
         let text = self.lines.get(index).copied().unwrap_or("");
         match text.split_once(";") {
@@ -38,15 +40,12 @@ impl Session<'_, '_> {
     }
 
     /// The task that a worker runs.
-    pub fn worker(&self, number: u64) -> Option<TaskView<'_>> {
-        match u8::try_from(number) {
-            Ok(number) => self.debugger.show_worker(number),
-            Err(_) => None,
-        }
+    pub(crate) fn worker(&self, number: u64) -> Option<TaskView<'_>> {
+        self.debugger.show_worker(u8::try_from(number).ok()?)
     }
 
     /// The paths of the living frames, by rising path: each behind the one that made it.
-    pub fn paths(&self) -> Result<Vec<Path>, OutOfMemory> {
+    pub(crate) fn paths(&self) -> Result<Vec<Path>, OutOfMemory> {
         let mut sorted: Vec<Path> = Vec::new(self.alloc);
         for path in self.debugger.paths(self.alloc)? {
             let place = place_for(sorted.as_slice(), &path);
@@ -69,7 +68,7 @@ fn place_for(sorted: &[Path], path: &Path) -> usize
 }
 
 /// An event in words.
-pub fn push_event(out: &mut TextBuffer, event: &Event) {
+pub(crate) fn push_event(out: &mut TextBuffer, event: &Event) {
     match event {
         Event::Step(worker) => write!(out, "step {worker}"),
         Event::Steal(worker, task) => {

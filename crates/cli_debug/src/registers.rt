@@ -1,11 +1,10 @@
 //! Registers and what they hold.
 
-use crate::prompts::session::Session;
-use crate::prompts::values::registers_with_values;
-use debugger::Frame;
+use crate::session::Session;
+use crate::values::registers_with_values;
 use frame::{Path, Role};
 use lists::{OutOfMemory, TextBuffer};
-use view_events::{Settings, ThingName, Value};
+use view_events::{ThingName, Value};
 use view_run::Objects;
 
 impl Session<'_, '_> {
@@ -39,23 +38,20 @@ impl Session<'_, '_> {
         }
     }
 
-    /// The registers of a frame that have values, with these.
-    fn settings(&self, frame: &Frame) -> Result<Settings, OutOfMemory> {
-        let program = self.names.program();
-        let registers = registers_with_values(self.alloc, program, frame)?;
-        Ok(
-            self.objects()?
-                .settings(program, frame, registers.as_slice())?,
-        )
-    }
-
     /// The registers of a frame that have values, but for regions.
-    pub fn push_registers(&self, out: &mut TextBuffer, path: &Path) -> Result<(), OutOfMemory> {
+    pub(crate) fn push_registers(
+        &self,
+        out: &mut TextBuffer,
+        path: &Path,
+    ) -> Result<(), OutOfMemory> {
         let Some(view) = self.debugger.show_frame(path) else {
             self.push_missing(out, "frame", path);
             return Ok(());
         };
-        let settings = self.settings(view.frame)?;
+        let program = self.names.program();
+        let registers = registers_with_values(self.alloc, program, view.frame)?;
+        let objects = self.objects()?;
+        let settings = objects.settings(program, view.frame, registers.as_slice())?;
         for setting in &settings.list {
             let name = self.names.register(settings.function, setting.register);
             write!(out, "%{name} ");

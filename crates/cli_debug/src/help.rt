@@ -1,5 +1,5 @@
 /// The commands in words. Of those that begin as a word does, the first is meant that takes what follows.
-pub const HELP: &str = "\
+pub(crate) const HELP: &str = "\
 Going:
   to N           goes to the position after N events
   forward        does the next event

@@ -1,7 +1,7 @@
 //! Going through the schedule.
 
-use crate::prompts::session::Session;
-use debugger::Event;
+use crate::session::Session;
+use debugger::{Event, TaskView};
 use frame::Path;
 use lists::OutOfMemory;
 
@@ -22,39 +22,49 @@ fn behind_next(events: &[Event], position: usize, worker: u64) -> Option<usize> 
 }
 
 impl Session<'_, '_> {
+    /// A position is found always: one behind the end is the end.
+    pub(crate) fn go_to(&mut self, position: usize) -> Result<bool, OutOfMemory> {
+        self.debugger.to(position)?;
+        Ok(true)
+    }
+
     /// Goes on past the worker's next event; false where it has none.
-    pub fn go_next(&mut self, worker: u64) -> Result<bool, OutOfMemory> {
+    pub(crate) fn go_next(&mut self, worker: u64) -> Result<bool, OutOfMemory> {
         let position = self.debugger.position();
         match behind_next(self.debugger.events(), position, worker) {
-            Some(next) => {
-                self.debugger.to(next)?;
-                Ok(true)
-            }
+            Some(next) => self.go_to(next),
             None => Ok(false),
         }
     }
 
-    /// The path of the top frame of the worker's task.
-    fn top_of(&self, worker: u64) -> Result<Option<Path>, OutOfMemory> {
+    /// How deep the top frame of the worker's task lies; an idle worker has none that another is deeper than.
+    fn depth_of(&self, worker: u64) -> usize {
         match self.worker(worker) {
-            Some(view) => Ok(Some(view.top_path.copy(self.alloc)?)),
-            None => Ok(None),
+            Some(view) => view.top_path.numbers.len(),
+            None => usize::MAX,
+        }
+    }
+
+    /// The path of the top frame of the worker's task, where a call made it and it is deeper than this.
+    fn callee_of(&self, worker: u64, depth: usize) -> Result<Option<Path>, OutOfMemory> {
+        match self.worker(worker) {
+            Some(TaskView { top_path, .. })
+                if top_path.numbers.len() > depth && self.debugger.show_task(top_path).is_none() =>
+                { Ok(Some(top_path.copy(self.alloc)?)) }
+            _ => Ok(None),
         }
     }
 
     /// Goes on past the worker's next event and, where that is a call, to the callee's end; false where the worker has no event.
-    pub fn go_over(&mut self, worker: u64) -> Result<bool, OutOfMemory> {
-        let before = self.top_of(worker)?;
+    pub(crate) fn go_over(&mut self, worker: u64) -> Result<bool, OutOfMemory> {
+        let depth = self.depth_of(worker);
         if !self.go_next(worker)? {
             return Ok(false);
         }
-        if let (Some(before), Some(after)) = (before, self.top_of(worker)?) {
-            let is_call = self.debugger.show_task(&after).is_none();
-            if is_call && after.numbers.len() > before.numbers.len() {
-                return self.go_to_end(&after);
-            }
+        match self.callee_of(worker, depth)? {
+            Some(callee) => self.go_to_end(&callee),
+            None => Ok(true),
         }
-        Ok(true)
     }
 
     fn lives(&self, path: &Path) -> bool {
@@ -62,7 +72,7 @@ impl Session<'_, '_> {
     }
 
     /// Goes on until the frame has ended, which may not have begun yet; false where it has not ended at the end.
-    pub fn go_to_end(&mut self, path: &Path) -> Result<bool, OutOfMemory> {
+    pub(crate) fn go_to_end(&mut self, path: &Path) -> Result<bool, OutOfMemory> {
         let mut has_lived = self.lives(path);
         for _event in self.debugger.position()..self.debugger.len() {
             self.debugger.forward()?;
@@ -76,7 +86,7 @@ impl Session<'_, '_> {
     }
 
     /// Goes on until a worker's next instruction stands on the line; false where that is nowhere.
-    pub fn go_to_line(&mut self, line: u64) -> Result<bool, OutOfMemory> {
+    pub(crate) fn go_to_line(&mut self, line: u64) -> Result<bool, OutOfMemory> {
         self.debugger.break_at(line)?;
         Ok(self.debugger.machine().stands_at(line))
     }
