@@ -126,8 +126,9 @@ impl Session<'_, '_> {
         if !self.is_for_people || !self.text_of(line.as_slice()).is_empty() {
             mem::swap(line, last);
         }
+        let text = self.text_of(last.as_slice());
         let mut out = TextBuffer::new(self.alloc);
-        let Ok(goes_on) = self.obey(&mut out, self.text_of(last.as_slice())) else {
+        let Ok(goes_on) = self.obey(&mut out, text) else {
             return Err(io::Error::from(AllocError));
         };
         output.write_all(out.finish()?.as_bytes())?;

@@ -14,7 +14,6 @@ mod session;
 mod showing;
 mod source;
 mod values;
-mod ways;
 mod word;
 
 pub use debugger::Debugger;

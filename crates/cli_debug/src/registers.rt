@@ -13,9 +13,10 @@ impl Session<'_, '_> {
         let Ok(mut objects) = Objects::of(self.alloc, self.verified) else {
             return Err(OutOfMemory);
         };
-        for path in self.debugger.paths(self.alloc)? {
-            if let Some(view) = self.debugger.show_frame(&path) {
-                if view.frame.role == Role::Body {
+        let paths = self.debugger.paths(self.alloc)?;
+        for path in &paths {
+            if let Some(view) = self.debugger.show_frame(path) {
+                if matches!(view.frame.role, Role::Body) {
                     objects.begin(self.names.program(), view.path, view.frame)?;
                 }
             }
@@ -49,7 +50,7 @@ impl Session<'_, '_> {
             return Ok(());
         };
         let program = self.names.program();
-        let registers = registers_with_values(self.alloc, program, view.frame)?;
+        let registers = registers_with_values(self.alloc, self.verified, view.frame)?;
         let objects = self.objects()?;
         let settings = objects.settings(program, view.frame, registers.as_slice())?;
         for setting in &settings.list {

@@ -82,10 +82,11 @@ impl Session<'_, '_> {
         out: &mut TextBuffer,
         are_frames: bool,
     ) -> Result<(), OutOfMemory> {
-        for path in self.paths()? {
+        let paths = self.paths()?;
+        for path in &paths {
             if are_frames {
-                self.push_frame(out, &path);
-            } else if let Some(view) = self.debugger.show_task(&path) {
+                self.push_frame(out, path);
+            } else if let Some(view) = self.debugger.show_task(path) {
                 self.push_view(out, view);
             }
         }
