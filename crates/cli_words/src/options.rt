@@ -1,6 +1,6 @@
 //! The words and options of a command, read one by one.
 
-ghost use Rattle.std.specs.Prelude.{◌≡◌, IfOk};
+ghost use Rattle.std.specs.Prelude.{◌≡◌, ◌<◌, IfOk};
 
 use crate::names::is_name;
 use crate::request::{
@@ -176,7 +176,9 @@ impl Options<'_, '_> {
     }
 
     /// The values of an option, which has so many texts each time that it is given.
-    fn list<T: Value>(&mut self, name: &str, shown: &str, count: usize) -> Vec<T> {
+    fn list<T: Value>(&mut self, name: &str, shown: &str, count: usize) -> Vec<T>
+        requires { 0 < count }
+    {
         let mut list = Vec::new(self.alloc);
         for texts in self.matches.get_strs(name).unwrap_or(&[]).chunks(count) {
             let Some((text, behind)) = texts.split_first() else {
