@@ -41,12 +41,11 @@ impl Session<'_, '_> {
 
     /// Goes where a command asks to, and says whether that was found; none where it does not ask to go.
     fn go(&mut self, command: &Command<'_>) -> Result<Option<bool>, OutOfMemory> {
+        let here = self.debugger.position();
         let is_found = match command {
             Command::Number(Word::To, position) => self.go_to(*position as usize),
-            Command::Alone(Word::Forward) => {
-                self.go_to(self.debugger.position().saturating_add(1))
-            }
-            Command::Alone(Word::Back) => self.go_to(self.debugger.position().saturating_sub(1)),
+            Command::Alone(Word::Forward) => self.go_to(here.saturating_add(1)),
+            Command::Alone(Word::Back) => self.go_to(here.saturating_sub(1)),
             Command::Number(Word::Next, worker) => self.go_next(*worker),
             Command::Number(Word::Over, worker) => self.go_over(*worker),
             Command::Number(Word::Break, line) => self.go_to_line(*line),
@@ -159,6 +158,30 @@ fn converse<R: Read + Drop, W: Write>(
     Ok(Status::Done)
 }
 
+/// Answers by the module's names and lines.
+fn answer_named<R: Read + Drop, W: Write>(
+    question: Question<'_>,
+    verified: &Verified,
+    debugger: &mut Debugger<'_>,
+    names: &Names<'_>,
+    lines: &[&str],
+    input: R,
+    output: &mut W,
+) -> io::Result<Status> {
+    let Question { alloc, request, .. } = question;
+    let session = Session {
+        alloc,
+        debugger,
+        verified,
+        names,
+        lines,
+        workers: request.workers,
+        is_for_people: request.dialogue.is_for_people,
+        has_colours: request.dialogue.has_colours,
+    };
+    converse(session, input, output)
+}
+
 /// Answers the commands of the input, by a debugger of this module, which the verifier took.
 pub fn answer_commands<R: Read, W: Write>(
     question: Question<'_>,
@@ -168,12 +191,7 @@ pub fn answer_commands<R: Read, W: Write>(
     input: &mut R,
     output: &mut W,
 ) -> io::Result<Status> {
-    let Question {
-        alloc,
-        state,
-        request,
-        ..
-    } = question;
+    let Question { alloc, state, .. } = question;
     let module = match read(alloc, state, text) {
         Ok(module) => module,
         Err(refused) => return print_refused(&refused, output),
@@ -182,16 +200,15 @@ pub fn answer_commands<R: Read, W: Write>(
         return Err(io::Error::from(AllocError));
     };
     let source = str::from_utf8(text).unwrap_or("");
-    let lines: Vec<&str> = source.lines().collect(alloc)?;
-    let session = Session {
-        alloc,
-        debugger,
+    let list: Vec<&str> = source.lines().collect(alloc)?;
+    let lines = list.as_slice();
+    answer_named(
+        question,
         verified,
-        names: &names,
-        lines: lines.as_slice(),
-        workers: request.workers,
-        is_for_people: request.dialogue.is_for_people,
-        has_colours: request.dialogue.has_colours,
-    };
-    converse(session, input, output)
+        debugger,
+        &names,
+        lines,
+        &mut *input,
+        output,
+    )
 }
