@@ -81,12 +81,10 @@ class Expressions:
         node.place.refuse(node.type.is_pointer, *NO_POINTER)
         if kind == "LValueToRValue":
             return self.load(self.target(inner), inner)
-        if kind == "ToVoid":
-            return self.value(inner)
         if kind == "IntegralToBoolean":
             return self.bit(inner)
         inner.type.check(inner.place)
-        is_number = kind in ("IntegralCast", "NoOp")
+        is_number = kind in ("IntegralCast", "NoOp", "ToVoid")
         node.place.refuse(not is_number, "a pointer is no number", "keep the index, not the pointer")
         return self.converted(self.value(inner), inner.type, node.type)
 
@@ -228,9 +226,6 @@ class Expressions:
                 self.condition(node.inner[0], *((more, no) if node.opcode == "&&" else (yes, more)))
                 self.build.start(more)
                 self.condition(node.inner[1], yes, no)
-            elif node.opcode == ",":
-                self.value(node.inner[0])
-                self.condition(node.inner[1], yes, no)
             elif node.opcode in COMPARES:
                 self.compare(node, yes, no)
             elif cast == "IntegralToBoolean" or (cast == "IntegralCast" and node.inner[0].bare.opcode in COMPARES):
@@ -289,7 +284,9 @@ class Expressions:
     def load(self, target: Union[Cell, str], node: Node) -> Value:
         if isinstance(target, str):
             return self.build.read(target)
-        value = self.build.load(*target, node.bare.declared.name or "t")
+        object, index = target
+        hint = node.bare.declared.name or "t"
+        value = self.build.once(("load", *target), "load", hint=hint, object=object, index=index)
         return self.converted(value, Type("long"), node.type) if node.type.base == "uint" else value
 
     def store(self, target: Union[Cell, str], value: Value, node: Node) -> Value:

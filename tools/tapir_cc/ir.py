@@ -65,7 +65,7 @@ class Place(NamedTuple):
 
 
 class Fault(Exception):
-    """C that is not taken; its words are those of `Source.told`."""
+    """C that is not taken; its words are those of `report.told`."""
 
 
 class Choice(NamedTuple):
@@ -97,8 +97,8 @@ class Zone(NamedTuple):
 @dataclass(eq=False)
 class Instruction:
     """An instruction or a terminator. Of LLVM's `br` has a target, `cbr` two (true, false), `switch` the default's
-    first. Tapir's are `detach` (child, continuation), `reattach` and `sync`. Ours: `region` (its start), `atomic`
-    (addition), `zero` (of a whole object)."""
+    first and its numbers behind its value. Tapir's are `detach` (child, continuation), `reattach` and `sync`. Ours:
+    `region` (its start), `atomic` (addition), `zero` (of a whole object)."""
 
     op: str
     result: Optional[str] = None
@@ -108,16 +108,14 @@ class Instruction:
     nsw: Optional[Choice] = None  # that it does not overflow is tried
     incoming: list[tuple[Value, str]] = field(default_factory=list)
     targets: list[str] = field(default_factory=list)
-    numbers: list[int] = field(default_factory=list)
     callee: str = ""
     object: Optional[str] = None  # of memory's instructions: what they touch, and the cell
     index: Optional[Value] = None
-    region: Optional[str] = None
     shows: list[Claim] = field(default_factory=list)  # what is shown before it
     tasks: Sequence = ()  # the SPAWNs that it is in, and the function's own body
 
     def uses(self) -> list[Optional[Value]]:
-        own = [value for value, _ in self.incoming] + self.args + [self.index, self.object, self.region]
+        own = [value for value, _ in self.incoming] + self.args + [self.index, self.object]
         return own + [register for claim in self.shows for register in claim.form.terms]
 
 
@@ -151,11 +149,6 @@ class Function:
     falls: dict[int, list[Form]] = field(default_factory=dict)  # a parameter -> what self calls add to it
     unset: dict[str, Choice] = field(default_factory=dict)  # a local -> that it is set before it is read
     tried: dict[str, Choice] = field(default_factory=dict)  # an object -> that its zones are less than the whole
-    parts: int = 0  # functions that are made of its parallel loops
-
-    @property
-    def entry(self) -> Block:
-        return next(iter(self.blocks.values()))
 
     def fresh(self, hint: str, is_plain: bool = False) -> str:
         """A new name, as our language takes it; without a number where it may be."""

@@ -6,7 +6,7 @@ import subprocess
 from typing import NamedTuple, Optional
 
 from .ir import Choice
-from .printer import Printed, print_module
+from .printer import Line, print_module
 from .translate import translate
 from .tree import Tree
 
@@ -36,8 +36,8 @@ class Judge:
 
     def verdict(self) -> Verdict:
         self.unit = translate(self.tree, self.entry, self.refused, self.is_thorough)
-        self.printed: Printed = print_module(self.unit)
-        pathlib.Path(self.file).write_text("".join(line.text + "\n" for line in self.printed))
+        self.printed: list[Line] = print_module(self.unit)
+        pathlib.Path(self.file).write_text("".join(line.text + "\n" for line in self.printed[1:]))
         if self.program is None:
             return Verdict("", 0, UNJUDGED)
         done = self.ask("verify", "--annotate")
@@ -56,7 +56,7 @@ class Judge:
 
     def tried(self, verdict: Verdict) -> set[Choice]:
         """The ways on which what is refused rests."""
-        line = self.printed.line(verdict.at)
+        line = self.printed[verdict.at]
         f, x, choices = line.function, line.of, {line.choice}
         if verdict.rule == UNJUDGED:
             choices = {line.choice for line in self.printed} | {line.of.nsw for line in self.printed if line.of}
@@ -66,5 +66,5 @@ class Judge:
             choices |= {f.tried.get(x.object)} if x.object else set(f.tried.values())
         elif verdict.rule == 505:
             asked = re.findall(r"asked by line (\d+)", self.explained())
-            choices |= {self.printed.line(int(number)).choice for number in asked}
+            choices |= {self.printed[int(number)].choice for number in asked}
         return choices - {None}

@@ -2,6 +2,7 @@
 PARALLEL_FOR_HALVES, for which tapir.h has a function that halves a range. Out: a function of that part, and a call of
 it. What the part takes from outside it is given, and it requires what is known of that."""
 import json
+from functools import partial
 
 from .ir import Claim, Form, Function, Value
 from .statements import Statements
@@ -14,8 +15,7 @@ MOST_PARAMETERS = 13
 class Parts(Statements):
     def part(self, word: str, uses: Node, body: Node) -> tuple["Parts", list[Value]]:
         """A function of a part, and what is passed to it."""
-        self.f.parts += 1
-        part = Parts(self.unit, Function(f"{self.f.name}.{word}.{self.f.parts}", self.build.place), body)
+        part = Parts(self.unit, Function(f"{self.f.name}.{self.f.fresh(word)[1:]}", self.build.place), body)
         inside, part.is_child, args = body.own() | self.unit.objects.keys(), True, []
         for id, name in dict(uses.named()).items():
             cell = self.objects.get(id)
@@ -24,8 +24,10 @@ class Parts(Statements):
                 part.parameter(id, name, self.f.extents[cell.object] if cell else 0)
         return part, args
 
-    def require(self, part: "Parts", args: list[Value], own: dict[Value, Form] = {}, forms: list[Form] = []) -> None:
-        """Of what is known here, and of forms that name the part's own, that which is about what is passed."""
+    def make(self, part: "Parts", args: list[Value], own: dict[Value, Form] = {}, forms: list[Form] = []) -> None:
+        """Makes the function. It requires what is known here, and what forms that name its own say of what is passed."""
+        text = f"a parallel part uses more than {MOST_PARAMETERS} variables"
+        self.build.place.refuse(len(part.f.parameters) > MOST_PARAMETERS, text, "make a function of it")
         passed = dict(zip(args, map(Form.of, part.f.parameters))) | own
         for form in [claim.form for claim in self.f.requires] + self.facts + forms:
             strange = Form({r: factor for r, factor in form.terms.items() if r not in passed})
@@ -35,18 +37,18 @@ class Parts(Statements):
                 part.f.requires.append(Claim(known.replaced(passed.get), part.f.place))
         same = [Form.of(p) - value for value, p in zip(args, part.f.parameters) if isinstance(value, int)]
         part.f.requires += [Claim(form * sign, part.f.place) for form in same for sign in (1, -1)]
+        part.run()
+        self.unit.functions.append(part.f)
 
-    def call(self, part: "Parts", args: list[Value]) -> None:
-        text = f"a parallel part uses more than {MOST_PARAMETERS} variables"
-        self.build.place.refuse(len(args) > MOST_PARAMETERS, text, "make a function of it")
+    def call(self, part: "Parts", *args: Value) -> Value:
+        """Calls it, which comes to nothing."""
         self.build.put("call", *args, callee=part.f.name)
+        return 0
 
     def outline(self, body: Node) -> None:
         part, args = self.part("child", body, body)
-        self.require(part, args)
-        part.run()
-        self.unit.functions.append(part.f)
-        self.call(part, args)
+        self.make(part, args)
+        self.call(part, *args)
 
     def halve(self, counter: Node, high: Node, body: Node) -> None:
         """Calls a function that halves a range, gives the left half to a child, and runs the body over what is left at
@@ -58,16 +60,9 @@ class Parts(Statements):
         size, (lo, hi, depth) = self.f.most(last - first), map(Form.of, own)
         deepest = HALVINGS if size is None else max(1, min(HALVINGS, size.bit_length() - 3))
         part.f.requires += [Claim(form, part.f.place) for form in (hi - lo, depth, -depth + deepest)]
-        self.require(part, args, {"lo": lo, "hi": hi}, [Form.of("lo") - first, last - Form.of("hi")])
         part.f.notes["measure"] = f"{depth} max {deepest}"
-        part.run()
-        self.unit.functions.append(part.f)
-        inside, out = self.build.block("halves"), self.build.block("end")
-        self.build.branch("slt", *ends, inside, out)
-        self.build.start(inside)
-        self.call(part, [*args, *ends, deepest])
-        self.build.jump(out)
-        self.build.start(out)
+        self.make(part, args, {"lo": lo, "hi": hi}, [Form.of("lo") - first, last - Form.of("hi")])
+        self.chosen(partial(self.build.branch, "slt", *ends), partial(self.call, part, *args, *ends, deepest))
 
     def halving(self, counter: Node, body: Node) -> Node:
         """The header's function, whose loop has this counter and this body."""

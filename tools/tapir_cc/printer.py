@@ -6,7 +6,7 @@ from .ir import BINARY, Block, Choice, Claim, Function, Instruction, Place, Zone
 
 FORMATS = {
     **dict.fromkeys(BINARY, "{x.op}{nsw} i64 {0}, {1}"),
-    **dict.fromkeys(("detach", "reattach", "sync"), "{x.op} within {x.region}, {labels}"),
+    **dict.fromkeys(("detach", "reattach", "sync"), "{x.op} within {0}, {labels}"),
     "alloca": "alloca [{cells} x i64]",
     "atomic": "atomicrmw add ptr {at}, i64 {0} seq_cst",
     "br": "br {labels}",
@@ -36,18 +36,11 @@ class Line(NamedTuple):
     choice: Optional[Choice] = None
 
 
-class Printed(list):
-    """The lines, which are numbered from 1 on."""
-
-    def line(self, number: int) -> Line:
-        return self[number - 1] if 0 < number <= len(self) else Line("")
-
-
-def print_module(unit) -> Printed:
-    sizes = [(g, unit.extents[g], place) for g, place in unit.globals.items()]
-    lines = [Line(f"{g} = global [{cells} x i64] zeroinitializer", place) for g, cells, place in sizes]
+def print_module(unit) -> list[Line]:
+    """The lines, which are numbered from 1 on: the first of all is none."""
+    lines = [Line(""), *[Line(f"{g} = global [{n} x i64] zeroinitializer") for g, n in unit.extents.items()]]
     lines += [line for f in unit.functions for line in function(f)]
-    return Printed(line._replace(text=line.text.replace(f"@{unit.entry}(", "@main(")) for line in lines)
+    return [line._replace(text=line.text.replace(f"@{unit.entry}(", "@main(")) for line in lines]
 
 
 def claims(word: str, f: Function, claims: list[Claim], of: Optional[Instruction] = None) -> Iterator[Line]:
@@ -102,7 +95,7 @@ def instruction(f: Function, x: Instruction, at: Optional[str]) -> str:
         type="i64" if x.result else "void",
         labels=", ".join(labels),
         incoming=", ".join(f"[ {value}, %{label} ]" for value, label in x.incoming),
-        cases=" ".join(f"i64 {number}, {label}" for number, label in zip(x.numbers, labels[1:])),
+        cases=" ".join(f"i64 {number}, {label}" for number, label in zip(x.args[1:], labels[1:])),
         passed=", ".join(f"{'ptr' if value in f.extents else 'i64'} {value}" for value in x.args),
     )
     return f"{x.result} = {text}" if x.result else text

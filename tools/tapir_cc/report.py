@@ -13,14 +13,12 @@ MOST_FACTS = 6  # that are shown of one goal
 SHOWN = r"\s*(known:|nearest:|to show:|touched:|still pending)(?!.*put `shows`)"
 DOES = {"detach": "this SPAWN", "ret": "this return", "reattach": "the end of this SPAWN"}
 VERBS = {"reads": "read", "writes": "write", "adds": "add to"}
-UNBOUND = "no bound is found for the rounds of a loop, or a round costs over 1,000,000"
 OUTSIDE = "{what} is outside the zones that are said or found"
-IN_ZONES = "name the cells in READS, WRITES or ADDS of the function"
+UNBOUND = "no bound is found for the rounds of a loop, or a round costs over 1,000,000"
 OWN_CELLS = "let each SPAWN touch cells of its own, by its counter, or use ADD"
 RULES = {  # what one means, and what to change. {what} is refused, {goal} to be shown, {may} is what may be instead
     206: (UNBOUND, "let a round do less, or make a function of a part of it with a BUDGET"),
-    301: ("", "write SYNC before"),
-    303: ("", "write SYNC before"),
+    **dict.fromkeys((301, 303), ("", "write SYNC before")),
     402: ("", "give it a value where it is declared"),
     501: ("{what} may be outside the array: {may}", ""),
     **dict.fromkeys((502, 503, 504), ("{what} may not be defined: {may}", "")),
@@ -28,10 +26,9 @@ RULES = {  # what one means, and what to change. {what} is refused, {goal} to be
     506: ("{what} does not meet its REQUIRES: {may}", ""),
     507: ("this return does not meet ENSURES: {may}", ""),
     508: ("KEEPS is not shown: {may}", ""),
-    601: (OUTSIDE, IN_ZONES),
     602: ("race: {race}", "write SYNC before it, or let both touch cells of their own"),
     603: ("race: {race}", OWN_CELLS),
-    604: (OUTSIDE, IN_ZONES),
+    **dict.fromkeys((601, 604), (OUTSIDE, "name the cells in READS, WRITES or ADDS of the function")),
     702: (UNBOUND, "write `for (k = 0; k < N && ..; k++)` or WHILE_AT_MOST(N, ..); or make a function of the round"),
     703: ("", "write MEASURE(depth, 20) for a parameter that falls with each call"),
     704: ("", "write REQUIRES(depth <= 20) for what falls with each call"),
@@ -85,7 +82,7 @@ def told(path: str, place: Place, text: str, change: str = "") -> str:
 class Report:
     def __init__(self, path: str, judge: Judge, verdict: Verdict):
         self.path, self.printed, self.rule = path, judge.printed, verdict.rule
-        self.line = self.printed.line(verdict.at)
+        self.line = self.printed[verdict.at]
         self.f, self.x = self.line.function, self.line.of
         self.names = Names(self.f or judge.unit.functions[-1])
         self.told = judge.explained().split("\nalso ")[0].split("\n", 1)[-1]
@@ -103,7 +100,7 @@ class Report:
 
     def place(self) -> Place:
         """Where it is refused; of an edge that does not keep an INVARIANT the place of that."""
-        asked = [self.printed.line(int(number)) for number in re.findall(r"asked by line (\d+)", self.told)]
+        asked = [self.printed[int(number)] for number in re.findall(r"asked by line (\d+)", self.told)]
         places = [line.place for line in asked if self.rule == 505 and not line.of] + [self.line.place]
         places += [self.f.place] if self.f else []
         return next((place for place in places if place.line), Place(1, 1))
@@ -178,6 +175,6 @@ class Report:
             if re.match(SHOWN, line) and known <= MOST_FACTS:
                 line = re.sub(r"(reads|writes|adds) (\S+) (\S+) (\S+)$", r"\1 \2 from \3 to before \4", line[2:])
                 line = re.sub(r"\(line (\d+)[^)]*\)", r"(line \1)", self.names.in_text(line))
-                c_line = lambda m: f"line {self.printed.line(int(m[1])).place.line}"
+                c_line = lambda m: f"line {self.printed[int(m[1])].place.line}"
                 out.append("  " + re.sub(r"\bline (\d+)", c_line, line))
         return list(dict.fromkeys(out))

@@ -2,6 +2,7 @@
 `detach` whose child ends with `reattach`, SYNC a `sync`; a variable that a SPAWN sets and others use lies in memory;
 claims go to the blocks, and to the function. Each task syncs its region before it ends, where a child may still run.
 Where the rounds of a loop are not counted by its step, a test before its own one may bound them."""
+from collections import ChainMap
 from dataclasses import dataclass, field
 from functools import partial
 from typing import Callable, NamedTuple, Optional
@@ -45,7 +46,7 @@ def counted(step: Node, body: Node) -> dict[str, str]:
 class Statements(Expressions):
     def __init__(self, unit, f: Function, body: Node):
         self.unit, self.f, self.body, self.is_thorough = unit, f, body, unit.is_thorough
-        self.build, self.objects = Builder(f, unit.refused), dict(unit.objects)
+        self.build, self.objects = Builder(f, unit.refused), ChainMap({}, unit.objects)
         pointed = [x.inner[0].bare.declared.id for x in body.walk() if x.kind == "UnaryOperator" and x.opcode == "&"]
         self.in_memory = set(pointed).union(*(spawn.ways().keys() - spawn.own() for spawn in body.spawns()))
         self.loops = self.build.loops
@@ -56,7 +57,7 @@ class Statements(Expressions):
         self.switch: Optional[tuple[Instruction, list[Edge], Block]] = None  # its end, the ways out of it, its default
         self.tasks: list[Task] = []
         self.new_task()
-        f.extents = dict(unit.extents)
+        f.extents = ChainMap({}, unit.extents)
 
     @property
     def task(self) -> Task:
@@ -85,7 +86,7 @@ class Statements(Expressions):
     def sync(self) -> None:
         if self.build.read(self.task.is_open) != 0:
             after = self.build.block("synced")
-            self.build.close("sync", to=[after], region=self.task.region)
+            self.build.close("sync", self.task.region, to=[after])
             self.build.start(after)
             self.build.write(self.task.is_open, 0, "open")
 
@@ -106,7 +107,7 @@ class Statements(Expressions):
         self.f.unset[object] = Choice(self.f.name, "unset", place, len(self.f.extents))
         zero = Instruction("zero", None, [object], place, object=object)
         zeros = [zero] if self.f.unset[object] in self.unit.refused else []
-        self.f.entry.body[:0] = [Instruction("alloca", object, place=place), *zeros]
+        self.tasks[0].first.body[:0] = [Instruction("alloca", object, place=place), *zeros]
         self.f.extents[object], self.objects[id] = cells, Cell(object, 0)
         return self.objects[id]
 
@@ -132,8 +133,6 @@ class Statements(Expressions):
         type.check(place)
         if node.data.get("storageClass") == "static":
             self.unit.add_global(node, f"{self.f.name[1:]}.{node.name}")
-            self.objects.update(self.unit.objects)
-            self.f.extents.update(self.unit.extents)
         elif type.is_pointer:
             moves = first is None or node.id in self.body.ways()
             place.refuse(moves, f"{node.name} is a pointer that moves", "keep the index, not the pointer")
@@ -185,14 +184,14 @@ class Statements(Expressions):
         build.start(head, set(build.values))
         self.loops.append(loop)
         made = dict(build.made)
+        risen = {id: build.form(build.read(id)) - start for id, start in starts.items()}
         for id in [id for id in own if self.is_thorough and id not in counters]:
-            risen = build.form(build.read(id)) - starts[id]
-            self.guess(head, risen, -risen)
+            self.guess(head, risen[id], -risen[id])
         if bound:
             self.test_bound(bound, loop)
         self.condition(test, inside, out)
         build.start(inside)
-        known = self.known_inside(test, counters, body, starts)
+        known = self.known_inside(test, counters, body, risen)
         self.facts, self.reaches, loop.inside = self.facts + known, self.reaches + known, build.now
         self.value(body)
         build.jump(latch)
@@ -205,7 +204,7 @@ class Statements(Expressions):
         if again:
             self.condition(again, head, out)
         else:
-            self.go_on(loop)
+            build.jump(head)
         build.skip(loop.above, head)
         build.start(out)
 
@@ -248,9 +247,8 @@ class Statements(Expressions):
             return self.build.form(self.value(test)) - 1
         return gaps(test.opcode, *[self.build.form(self.value(x)) for x in test.inner])[0]
 
-    def known_inside(self, test: Node, counters: dict[str, str], body: Node, starts: dict[str, Form]) -> list[Form]:
+    def known_inside(self, test: Node, counters: dict[str, str], body: Node, risen: dict[str, Form]) -> list[Form]:
         """What is 0 or more in a round: a counter has not passed its start, and a test without effects holds."""
-        risen = {id: self.build.form(self.build.read(id)) - start for id, start in starts.items()}
         facts = [risen[id] if way == "++" else -risen[id] for id, way in counters.items()]
         for id in [id for id in risen if body.ways().get(id) == {"++"}]:  # (what is only raised now and then)
             self.reaches += [risen[id], *[risen[i] - risen[id] for i, way in counters.items() if way == "++"]]
@@ -260,18 +258,6 @@ class Statements(Expressions):
             if len(facts[-1].terms) > 2:
                 self.guess(self.build.now, facts[-1])
         return facts
-
-    def go_on(self, loop: Loop) -> None:
-        """Goes on to the head. What is to hold there is tried where a round ends, too."""
-        build = self.build
-        ends = {value: build.form(build.read(variable)) for variable, value, *_ in build.heads.get(loop.head.name, [])}
-        for claim in loop.head.keeps:
-            form = claim.form.replaced(lambda r: ends.get(r, Form.of(r)))
-            if {x.result for x in build.now.body} & form.terms.keys():
-                self.shown("round", form)
-            else:
-                self.guess(build.now, form)
-        build.jump(loop.head)
 
     def leave(self, task: Optional[Task]) -> None:
         is_out = task is not self.task
@@ -323,7 +309,7 @@ class Statements(Expressions):
         node.place.refuse(is_range, "a range of cases is not taken", "write a case for each")
         if node.kind == "CaseStmt":
             block = self.build.block("case")
-            end.numbers.append(self.value(node.inner[0]))
+            end.args.append(self.value(node.inner[0]))
             end.targets.append(block.name)
         self.build.edges[block.name] = edges[:]
         self.build.jump(block)
@@ -334,15 +320,15 @@ class Statements(Expressions):
 
     def spawn(self, body: Callable[[], None]) -> None:
         """A child that does this, and what follows it."""
-        build, outer, within = self.build, self.build.tasks, {"region": self.task.region}
+        build, outer, region = self.build, self.build.tasks, self.task.region
         child, after = build.block("child"), build.block("continuation")
-        build.close("detach", to=[child, after], **within)
+        build.close("detach", region, to=[child, after])
         build.start(child)
         self.new_task()
         body()
         self.sync()
         build.tasks = outer
-        build.close("reattach", to=[after], **within)
+        build.close("reattach", region, to=[after])
         build.start(after)
         build.write(self.task.is_open, 1, "open")
 
@@ -366,7 +352,7 @@ class Statements(Expressions):
             self.reaches += [form - int(is_end) for form, is_end in zip(forms, ends)]
         else:
             about, result = ("parameters and RESULT", ["%.ret"]) if kind == "ensures" else ("parameters", [])
-            is_first = block is f.entry and registers <= {*f.parameters, *result}
+            is_first = block is self.tasks[0].first and registers <= {*f.parameters, *result}
             text = f"{kind.upper()} stands first in a function, and is about {about}"
             place.refuse(not is_first, text, "write one claim for each compare, before any if")
             (f.requires if kind == "requires" else f.ensures).extend(claims)
@@ -394,5 +380,5 @@ class Statements(Expressions):
         elif word == "budget":
             f.notes[word] = " ".join(str(self.build.form(self.value(x))) for x in args)
         elif word == "halved":
-            self.call(self, [*f.parameters[:-3], *map(self.value, args)])
+            self.call(self, *f.parameters[:-3], *map(self.value, args))
         return 0

@@ -1,6 +1,6 @@
 """From the tree of a C file to functions of our language. In: the tree, the function where the run begins, and the ways
 that are not to be tried. Out: the functions that it needs, callees first, and the globals."""
-from .expressions import Cell
+from .expressions import NO_BYTES, NO_POINTER, Cell
 from .ir import PURE, Choice, Form, Function, Place
 from .parts import Parts
 from .tree import Node, Tree, Type
@@ -14,9 +14,8 @@ class Unit:
 
     def __init__(self, tree: Tree, entry: str, refused: set[Choice], is_thorough: bool):
         self.entry, self.refused, self.is_thorough = entry, refused, is_thorough
-        self.globals: dict[str, Place] = {}
         self.objects: dict[str, Cell] = {}  # a global's id -> what it names
-        self.extents: dict[str, int] = {}
+        self.extents: dict[str, int] = {}  # a global -> its cells
         self.functions: list[Function] = []
         named = [x for x in tree.declarations if x.kind == "FunctionDecl"]
         self.bodies = {x.name: x for x in named if x.inner and x.inner[-1].kind == "CompoundStmt"}
@@ -27,14 +26,14 @@ class Unit:
         type, place = node.type, node.place
         plain = node.tree.type_of(node.data["type"]["qualType"].replace("volatile ", ""))
         (plain if plain.is_number or plain.lengths else type).check(place)
-        is_kept, kind = plain.bytes >= 4 and not type.is_pointer, "a pointer" if type.is_pointer else plain.base
-        place.refuse(not is_kept, f"{name} is of {kind}, which memory does not hold", "write int64_t or int")
+        place.refuse(type.is_pointer, *NO_POINTER)
+        place.refuse(plain.bytes < 4, *NO_BYTES)
         place.refuse(node.data.get("storageClass") == "extern", f"{name} is not in this file", "define it here")
         is_set = "init" in node.data and not all(map(self.is_zero, node.inner))
         change = "fill it in a function, or from the host (--set, --load)"
         place.refuse(is_set, f"{name} has an initial value", change)
         object = "@" + name
-        self.globals[object], self.extents[object], self.objects[node.id] = place, plain.cells, Cell(object, 0)
+        self.extents[object], self.objects[node.id] = plain.cells, Cell(object, 0)
         cells = sum(self.extents.values())
         text = f"with {name} the globals have {cells} cells"
         place.refuse(cells > MOST_CELLS, text, f"a module has at most {MOST_CELLS}")
