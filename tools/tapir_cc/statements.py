@@ -204,7 +204,7 @@ class Statements(Expressions):
         if again:
             self.condition(again, head, out)
         else:
-            build.jump(head)
+            self.go_on(loop)
         build.skip(loop.above, head)
         build.start(out)
 
@@ -258,6 +258,14 @@ class Statements(Expressions):
             if len(facts[-1].terms) > 2:
                 self.guess(self.build.now, facts[-1])
         return facts
+
+    def go_on(self, loop: Loop) -> None:
+        """Goes on to the head. What is to hold there is tried where the last block of a round begins, too."""
+        build, made_here = self.build, {x.result for x in self.build.now.body}
+        ends = {value: build.form(build.read(variable)) for variable, value, *_ in build.heads[loop.head.name]}
+        forms = [claim.form.replaced(lambda r: ends.get(r, Form.of(r))) for claim in loop.head.keeps]
+        self.guess(build.now, *[form for form in forms if not made_here & form.terms.keys()])
+        build.jump(loop.head)
 
     def leave(self, task: Optional[Task]) -> None:
         is_out = task is not self.task

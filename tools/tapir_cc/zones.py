@@ -66,12 +66,11 @@ def merged(zones: list[Zone]) -> list[Zone]:
     plain = {zone.object for zone in zones if zone.mode != "adds"}
     zones = [zone._replace(mode="writes") if zone.mode == "adds" and zone.object in plain else zone for zone in zones]
     out: list[Zone] = []
-    for zone in sorted(zones, key=attrgetter("mode"), reverse=True):  # (what is written comes first)
-        ways = [(k, joined(old, zone)) for k, old in enumerate(out)]
-        ways = [(k, new) for k, new in ways if new and (new == out[k] or zone.mode == out[k].mode)]
-        k, new = ways[0] if ways else (len(out), zone)
-        out[k : k + 1] = [new]
-    return out
+    for zone in sorted(zones, key=lambda zone: zone.mode):
+        k = next((k for k, old in enumerate(out) if old.mode == zone.mode and joined(old, zone)), len(out))
+        out[k : k + 1] = [joined(out[k], zone) if k < len(out) else zone]
+    written = [zone for zone in out if zone.mode == "writes"]
+    return written + [x for x in out if x not in written and not any(joined(old, x) == old for old in written)]
 
 
 def joined(old: Zone, new: Zone) -> Optional[Zone]:
