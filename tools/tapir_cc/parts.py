@@ -25,7 +25,8 @@ class Parts(Statements):
         return part, args
 
     def make(self, part: "Parts", args: list[Value], own: dict[Value, Form] = {}, forms: list[Form] = []) -> None:
-        """Makes the function. It requires what is known here, and what forms that name its own say of what is passed."""
+        """Makes the function. Of what is known here, and of forms that name its own, it requires what is about what is
+        passed."""
         text = f"a parallel part uses more than {MOST_PARAMETERS} variables"
         self.build.place.refuse(len(part.f.parameters) > MOST_PARAMETERS, text, "make a function of it")
         passed = dict(zip(args, map(Form.of, part.f.parameters))) | own

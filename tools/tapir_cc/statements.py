@@ -227,8 +227,8 @@ class Statements(Expressions):
         return Bound(first, most + 1, counter) if most is not None and 0 <= most < MOST_ROUNDS else None
 
     def test_bound(self, bound: Bound, loop: Loop) -> None:
-        """Tests that the value is below the end, if it is shown that else the test itself does not hold: that the gap is
-        then -1, and no less."""
+        """Tests that the value is below the end, if it is shown that else the test itself does not hold: that the gap
+        is then -1, and no less."""
         value = self.build.read(bound.counter) if bound.counter else self.value(bound.test.inner[0])
         gap, risen = self.gap(bound.test), self.build.form(value)
         room = -gap - risen + bound.end - 1
@@ -261,10 +261,10 @@ class Statements(Expressions):
 
     def go_on(self, loop: Loop) -> None:
         """Goes on to the head. What is to hold there is tried where the last block of a round begins, too."""
-        build, made_here = self.build, {x.result for x in self.build.now.body}
+        build, made = self.build, {x.result for x in self.build.now.body}
         ends = {value: build.form(build.read(variable)) for variable, value, *_ in build.heads[loop.head.name]}
         forms = [claim.form.replaced(lambda r: ends.get(r, Form.of(r))) for claim in loop.head.keeps]
-        self.guess(build.now, *[form for form in forms if not made_here & form.terms.keys()])
+        self.guess(build.now, *[form for form in forms if not made & form.terms.keys()])
         build.jump(loop.head)
 
     def leave(self, task: Optional[Task]) -> None:

@@ -19,12 +19,12 @@ TYPE = re.compile(r"(\w[\w ]*?) ?(\*|\(\*\))? ?((?:\[\d+\])*)")
 WORDS = {"long": "long", "long long": "long", "unsigned long": "ulong", "unsigned long long": "ulong", "int": "int"}
 WORDS |= {"unsigned int": "uint", "_Bool": "bool", "bool": "bool", "void": "void"}
 NOT_TAKEN = [  # where a type has it: what is told, and what to write
+    (r"struct|union", "a struct is not taken", "make an array for each field"),
     (r"\(", "a call through a pointer is not taken", "name the function"),
     (r"volatile|_Atomic", "volatile and atomic memory is not taken, but for ADD",
      "write ADD(&x, v), or leave volatile out"),
     (r"\*", "a pointer in memory or to a pointer is not taken", "keep an index in place of a pointer"),
     (r"double|float", "{} is not taken", "compute in whole numbers, scaled (x * 4096)"),
-    (r"struct|union", "a struct is not taken", "make an array for each field"),
     ("", "{} is not taken", "write int64_t, int or bool"),
 ]  # fmt: skip
 
