@@ -262,7 +262,7 @@ class Statements(Expressions):
     def go_on(self, loop: Loop) -> None:
         """Goes on to the head. What is to hold there is tried where the last block of a round begins, too."""
         build, made = self.build, {x.result for x in self.build.now.body}
-        ends = {value: build.form(build.read(variable)) for variable, value, *_ in build.heads[loop.head.name]}
+        ends = {value: build.form(build.read(variable)) for variable, value, *_ in build.heads.get(loop.head.name, ())}
         forms = [claim.form.replaced(lambda r: ends.get(r, Form.of(r))) for claim in loop.head.keeps]
         self.guess(build.now, *[form for form in forms if not made & form.terms.keys()])
         build.jump(loop.head)
