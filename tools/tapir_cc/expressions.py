@@ -21,12 +21,6 @@ NO_POINTER = (POINTER, "keep the index in a variable, not the pointer")
 NO_BYTES = ("char and bool are not taken in memory", "write int64_t or int")
 
 
-def gaps(opcode: str, left: Form, right: Form) -> list[Form]:
-    """What is 0 or more where a compare holds."""
-    up = right - left
-    return {"<": [up - 1], "<=": [up], ">": [-up - 1], ">=": [-up], "==": [up, -up], "!=": [-up - 1]}[opcode]
-
-
 class Cell(NamedTuple):
     object: str
     index: Value
@@ -112,7 +106,6 @@ class Expressions:
     def operation(self, opcode: str, a: Value, b: Value, type: Type) -> Value:
         """Products and quotients in place of shifts, and quotients and rests of which more is known: there are rules
         for them. Where the two differ, what they rest on is shown first."""
-        type.check(self.build.place)
         op, build = OPERATIONS[opcode], self.build
         if "u" in type.base:
             op = OF_UNSIGNED.get(op, op)
@@ -237,10 +230,8 @@ class Expressions:
         left, right = node.inner
         is_of_pointers = left.type.is_pointer or right.type.is_pointer
         node.place.refuse(is_of_pointers, "pointers are not compared", "compare the indices")
-        predicate, a, b = COMPARES[node.opcode], self.value(left), self.value(right)
-        if left.type.base == "ulong" and predicate[0] == "s":
-            predicate = "u" + predicate[1:]
-        self.test(predicate, a, b, yes, no)
+        predicate = COMPARES[node.opcode].replace("s", "u" if left.type.base == "ulong" else "s")
+        self.test(predicate, self.value(left), self.value(right), yes, no)
 
     def test(self, predicate: str, a: Value, b: Value, yes: Block, no: Block) -> None:
         """Branches on a compare. Of <= and >= both outcomes are facts, so they are tried for == and !=."""
@@ -258,19 +249,14 @@ class Expressions:
             return self.clear(node)
         node.place.refuse(not name, "a call through a pointer is not taken", "name the function")
         args = [self.whole(x) if x.type.is_pointer else self.value(x) for x in node.inner[1:]]
-        if "@" + name == self.f.name:
-            for k, (value, own) in enumerate(zip(args, self.f.parameters)):
-                self.f.falls.setdefault(k, []).append(self.build.form(value) - Form.of(own))
-        return self.build.put("call", *args, callee="@" + name, hint=name if node.type.base != "void" else "") or 0
+        return self.build.put("call", *args, callee="@" + name, hint=name if node.type.base != "void" else "")
 
     def clear(self, node: Node) -> Value:
         at, value, size = [x.unconverted for x in node.inner[1:]]
         is_whole = self.value(value) == 0 and self.value(size) == at.type.cells * at.type.bytes
         node.place.refuse(not is_whole, "memset clears a whole array at once, and sets to nothing else", "write a loop")
-        return self.zero(self.address(at).object)
-
-    def zero(self, object: str) -> Value:
-        return self.build.put("zero", object, object=object) or 0
+        object = self.address(at).object
+        return self.build.put("zero", object, object=object)
 
     def target(self, node: Node) -> Union[Cell, str]:
         """What is read or set: a cell, or a variable that is none."""
@@ -317,6 +303,14 @@ class Expressions:
         node.place.refuse(index != 0, "a part of an array is passed", "pass the array, and the index where it begins")
         return object
 
+    def gaps(self, node: Node) -> list[Form]:
+        """What is 0 or more where a compare holds, or a number that falls to 0 is not there yet."""
+        if node.opcode not in COMPARES:
+            return [self.build.form(self.value(node)) - 1]
+        left, right = [self.build.form(self.value(x)) for x in node.inner]
+        up = right - left
+        return {"<": [up - 1], "<=": [up], ">": [-up - 1], ">=": [-up], "==": [up, -up], "!=": [-up - 1]}[node.opcode]
+
     def claim(self, node: Node) -> list[tuple[Form, bool]]:
         """A claim as forms that are 0 or more, and whether they come from <= or >=."""
         node = node.bare
@@ -326,6 +320,6 @@ class Expressions:
         change = "write one for each; ||, != and ! are not taken"
         node.place.refuse(not is_compare, "a claim is compares joined by &&", change)
         node.place.refuse(node.inner[0].type.base == "ulong", "a claim is a signed compare", "write int64_t or int")
-        forms = gaps(node.opcode, *[self.build.form(self.value(x)) for x in node.inner])
+        forms = self.gaps(node)
         node.place.refuse(any(not form.terms and form.constant < 0 for form in forms), "this claim never holds")
         return [(form, node.opcode in ("<=", ">=")) for form in forms]

@@ -146,7 +146,6 @@ class Function:
     ensures: list[Claim] = field(default_factory=list)
     zones: list[Zone] = field(default_factory=list)  # the author's
     notes: dict[str, str] = field(default_factory=dict)  # measure and budget
-    falls: dict[int, list[Form]] = field(default_factory=dict)  # a parameter -> what self calls add to it
     unset: dict[str, Choice] = field(default_factory=dict)  # a local -> that it is set before it is read
     tried: dict[str, Choice] = field(default_factory=dict)  # an object -> that its zones are less than the whole
 

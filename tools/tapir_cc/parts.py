@@ -41,15 +41,10 @@ class Parts(Statements):
         part.run()
         self.unit.functions.append(part.f)
 
-    def call(self, part: "Parts", *args: Value) -> Value:
-        """Calls it, which comes to nothing."""
-        self.build.put("call", *args, callee=part.f.name)
-        return 0
-
     def outline(self, body: Node) -> None:
         part, args = self.part("child", body, body)
         self.make(part, args)
-        self.call(part, *args)
+        self.build.put("call", *args, callee=part.f.name)
 
     def halve(self, counter: Node, high: Node, body: Node) -> None:
         """Calls a function that halves a range, gives the left half to a child, and runs the body over what is left at
@@ -63,7 +58,8 @@ class Parts(Statements):
         part.f.requires += [Claim(form, part.f.place) for form in (hi - lo, depth, -depth + deepest)]
         part.f.notes["measure"] = f"{depth} max {deepest}"
         self.make(part, args, {"lo": lo, "hi": hi}, [Form.of("lo") - first, last - Form.of("hi")])
-        self.chosen(partial(self.build.branch, "slt", *ends), partial(self.call, part, *args, *ends, deepest))
+        call = partial(self.build.put, "call", *args, *ends, deepest, callee=part.f.name)
+        self.chosen(partial(self.build.branch, "slt", *ends), call)
 
     def halving(self, counter: Node, body: Node) -> Node:
         """The header's function, whose loop has this counter and this body."""

@@ -7,7 +7,7 @@ from dataclasses import dataclass, field
 from functools import partial
 from typing import Callable, NamedTuple, Optional
 
-from .expressions import COMPARES, NO_BYTES, Cell, Expressions, gaps
+from .expressions import COMPARES, NO_BYTES, Cell, Expressions
 from .ir import Block, Choice, Claim, Form, Function, Instruction, Value, Zone
 from .ssa import Builder, Edge, Loop
 from .tree import Node, Type
@@ -16,7 +16,7 @@ from .zones import Zones
 CLAIMS = ("requires", "ensures", "keeps", "invariant")
 SIMPLE = {"DeclRefExpr", "IntegerLiteral", "ImplicitCastExpr", "ParenExpr", "BinaryOperator"}
 MOST_ROUNDS = 1 << 40
-OUT = "set a variable in the SPAWN, and test it after SYNC"
+OUT = ("return, break, continue or goto leads out of a SPAWN", "set a variable in the SPAWN, and test it after SYNC")
 
 
 @dataclass(eq=False)
@@ -36,11 +36,6 @@ class Bound(NamedTuple):
     test: Node
     end: int
     counter: str  # a variable that counts the rounds; none where the test's left side rises
-
-
-def counted(step: Node, body: Node) -> dict[str, str]:
-    """The counters of a loop, which its step alone sets, by one: whether it counts up or down."""
-    return {id: way for id, (way, *_) in step.ways().items() if way in ("++", "--") and id not in body.ways()}
 
 
 class Statements(Expressions):
@@ -72,16 +67,13 @@ class Statements(Expressions):
 
     def run(self) -> None:
         self.value(self.body)
-        self.leave_function(*[0] * self.f.returns)
+        self.sync()
+        self.build.close("ret", *[0] * self.f.returns)
         zones = Zones(self.f, self.unit, self.build.linear, self.reaches)
         self.f.zones = zones.of(self.tasks[0], set(self.f.parameters) - self.f.extents.keys(), False)
         for task in self.tasks[1:]:
             task.first.foot = zones.of(task, task.known, True)
         self.build.seal()
-
-    def leave_function(self, *values: Value) -> None:
-        self.sync()
-        self.build.close("ret", *values)
 
     def sync(self) -> None:
         if self.build.read(self.task.is_open) != 0:
@@ -143,7 +135,7 @@ class Statements(Expressions):
             if first is not None:
                 is_set = not self.unit.is_zero(first)
                 first.place.refuse(is_set, "initial values of local arrays are not taken", "write a loop")
-                self.zero(object)
+                self.build.put("zero", object, object=object)
         else:
             target = self.local(node.id, node.name, 1) if node.id in self.in_memory else node.id
             value = self.value(first) if first is not None else 0
@@ -153,7 +145,7 @@ class Statements(Expressions):
     def of_IfStmt(self, node: Node) -> None:
         """What a SPAWN in a loop does is a function of its own if it has SPAWNs, which so are told apart."""
         test, *arms = node.inner
-        if node.is_spawn():
+        if test.callee() == "__tapir_detach":
             self.spawn(partial(self.outline if self.loops and arms[0].spawns() else self.value, arms[0]))
         else:
             self.chosen(partial(self.condition, test), *[partial(self.statement, arm) for arm in arms])
@@ -175,7 +167,8 @@ class Statements(Expressions):
 
     def loop(self, test: Node, body: Node, step: Node, again: Optional[Node] = None) -> None:
         """A loop, which may be tested where a round begins, and where it ends."""
-        build, counters, facts = self.build, counted(step, body), self.facts
+        build, facts, ways = self.build, self.facts, step.ways()  # (a counter is set by the step alone, by one)
+        counters = {id: way for id, (way, *_) in ways.items() if way in ("++", "--") and id not in body.ways()}
         own = [id for id in test.ways(body, step) if id in build.values and id not in body.own()]
         starts, bound = {id: build.form(build.read(id)) for id in own}, self.bound(test, body, step)
         head, inside, latch, out = [build.block(hint) for hint in ("head", "body", "next", "end")]
@@ -222,7 +215,7 @@ class Statements(Expressions):
             tests = [x for x in body.walk() if x.opcode == "<" and x.inner[0].named() == high and self.is_simple(x)]
             ends = [x.inner[1].bare for x in tests if not x.inner[1].named()]
             return Bound(first, self.value(ends[0]), "") if ends else None
-        most, counter = self.f.most(self.gap(first)), "rounds " + first.id
+        most, counter = self.f.most(self.gaps(first)[0]), "rounds " + first.id
         self.build.write(counter, 0, "rounds")
         return Bound(first, most + 1, counter) if most is not None and 0 <= most < MOST_ROUNDS else None
 
@@ -230,7 +223,7 @@ class Statements(Expressions):
         """Tests that the value is below the end, if it is shown that else the test itself does not hold: that the gap
         is then -1, and no less."""
         value = self.build.read(bound.counter) if bound.counter else self.value(bound.test.inner[0])
-        gap, risen = self.gap(bound.test), self.build.form(value)
+        gap, risen = self.gaps(bound.test)[0], self.build.form(value)
         room = -gap - risen + bound.end - 1
         if self.shown("rounds", room, gap + 1):
             inside = self.build.block("rounds")
@@ -241,12 +234,6 @@ class Statements(Expressions):
     def is_simple(self, test: Node) -> bool:
         return all(x.kind in SIMPLE and x.opcode in ("", "+", "-", "*", *COMPARES) for x in test.walk())
 
-    def gap(self, test: Node) -> Form:
-        """What is 0 or more where a round begins, and falls."""
-        if test.opcode not in COMPARES:
-            return self.build.form(self.value(test)) - 1
-        return gaps(test.opcode, *[self.build.form(self.value(x)) for x in test.inner])[0]
-
     def known_inside(self, test: Node, counters: dict[str, str], body: Node, risen: dict[str, Form]) -> list[Form]:
         """What is 0 or more in a round: a counter has not passed its start, and a test without effects holds."""
         facts = [risen[id] if way == "++" else -risen[id] for id, way in counters.items()]
@@ -254,7 +241,7 @@ class Statements(Expressions):
             self.reaches += [risen[id], *[risen[i] - risen[id] for i, way in counters.items() if way == "++"]]
         own = test.bare.inner[0].bare if test.bare.opcode == "||" and test.calls_of("__tapir_sync") else test.bare
         if own.opcode in ("<", "<=", ">", ">=") and self.is_simple(own):
-            facts.append(self.gap(own))
+            facts += self.gaps(own)
             if len(facts[-1].terms) > 2:
                 self.guess(self.build.now, facts[-1])
         return facts
@@ -268,8 +255,7 @@ class Statements(Expressions):
         build.jump(loop.head)
 
     def leave(self, task: Optional[Task]) -> None:
-        is_out = task is not self.task
-        self.build.place.refuse(is_out, "return, break, continue or goto leads out of a SPAWN", OUT)
+        self.build.place.refuse(task is not self.task, *OUT)
 
     def of_BreakStmt(self, node: Node) -> None:
         """Also `continue`, which is not of a switch."""
@@ -282,7 +268,8 @@ class Statements(Expressions):
     def of_ReturnStmt(self, node: Node) -> None:
         self.leave(None if self.is_child else self.tasks[0])
         values = [self.value(x) for x in node.inner]
-        self.leave_function(*values if self.f.returns else [])
+        self.sync()
+        self.build.close("ret", *values if self.f.returns else [])
 
     def of_GotoStmt(self, node: Node, word: str = "targetLabelDeclId") -> Block:
         block, task = self.labels.setdefault(node.data[word], (self.build.block("label"), self.task))
@@ -388,5 +375,5 @@ class Statements(Expressions):
         elif word == "budget":
             f.notes[word] = " ".join(str(self.build.form(self.value(x))) for x in args)
         elif word == "halved":
-            self.call(self, *f.parameters[:-3], *map(self.value, args))
+            self.build.put("call", *f.parameters[:-3], *map(self.value, args), callee=f.name)
         return 0

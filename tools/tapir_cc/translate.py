@@ -72,8 +72,8 @@ class Unit:
 
     def lower(self, node: Node) -> None:
         """A function's blocks."""
-        f, type = Function("@" + node.name, node.place), self.returns(node)
-        f.returns = type.is_number
+        type = self.returns(node)
+        f = Function("@" + node.name, node.place, type.is_number)
         is_taken, change = f.returns or type == Type("void"), "a result is int64_t, int, bool or void"
         f.place.refuse(not is_taken, f"what {node.name} returns is not taken", change)
         made = Parts(self, f, node.inner[-1])
@@ -84,6 +84,11 @@ class Unit:
             f.place.refuse(p.type.is_pointer and not rows, f"the size of {p.name} is not said", change)
             made.parameter(p.id, p.name, rows * p.type.cells)
         made.run()
+        calls = [x for x in f.instructions() if x.callee == f.name]
+        for k, own in enumerate(map(Form.of, f.parameters) if calls else ()):  # (one that falls in each call of itself)
+            most, changes = f.most(own), [made.build.form(x.args[k]) - own for x in calls]
+            if most is not None and all(not change.terms and change.constant < 0 for change in changes):
+                f.notes = {"measure": f"{own} max {most}"} | f.notes
         self.functions.append(f)
 
 
@@ -95,17 +100,7 @@ def translate(tree: Tree, entry: str, refused: set[Choice], is_thorough: bool) -
             unit.lower(node)
     for f in unit.functions:
         drop_unused(f)
-        f.notes = falling(f) | f.notes
     return unit
-
-
-def falling(f: Function) -> dict[str, str]:
-    """Of a parameter that falls in each self call, its bound."""
-    for k, changes in f.falls.items():
-        most = f.most(Form.of(f.parameters[k]))
-        if most is not None and all(not change.terms and change.constant < 0 for change in changes):
-            return {"measure": f"{f.parameters[k]} max {most}"}
-    return {}
 
 
 def drop_unused(f: Function) -> None:

@@ -6,7 +6,7 @@ import re
 import shutil
 import subprocess
 import sys
-from functools import cached_property
+from functools import cache, cached_property
 from typing import Iterator, NamedTuple
 
 from .ir import Place
@@ -109,11 +109,8 @@ class Node:
     def calls_of(self, name: str) -> list["Node"]:
         return [x for x in self.walk() if x.callee() == name]
 
-    def is_spawn(self) -> bool:
-        return self.kind == "IfStmt" and self.inner[0].callee() == "__tapir_detach"
-
     def spawns(self) -> list["Node"]:
-        return [x for x in self.walk() if x.is_spawn()]
+        return [x for x in self.walk() if x.kind == "IfStmt" and x.inner[0].callee() == "__tapir_detach"]
 
     def own(self) -> set[str]:
         """The variables that are declared in it."""
@@ -147,6 +144,7 @@ class Tree:
         for node in self.declarations:
             self.declare(node)
 
+    @cache
     def printed(self, word: str) -> str:
         done = subprocess.run([*self.command, word], capture_output=True, text=True)
         if done.returncode:
@@ -185,12 +183,8 @@ class Tree:
         named = self.type_of(self.types[base]) if self.types.get(base, base) != base else Type(base)
         return Type(text) if named.is_pointer else Type(named.base, lengths + named.lengths, bool(found[2]))
 
-    @cached_property
-    def text(self) -> str:
-        return self.printed("-ast-print")
-
     def length(self, function: str, parameter: str) -> int:
         """How many rows a function says that its array has; 0 where it does not say so. (The tree has pointers.)"""
-        head = re.search(rf"^\S.*?\b{function}\((.*)\)\s*\{{$", self.text, re.M)
+        head = re.search(rf"^\S.*?\b{function}\((.*)\)\s*\{{$", self.printed("-ast-print"), re.M)
         found = re.search(rf"\b{parameter}\[[^\]\d]*(\d+)\]", head[1] if head else "")
         return int(found[1]) if found else 0
