@@ -49,7 +49,7 @@ class Expressions:
         if not node.kind:
             return 0
         visit = getattr(self, "of_" + node.kind, None)
-        if not node.kind.endswith("Decl") and (node.type.base != "void" or node.type.is_pointer):
+        if not node.kind.endswith("Decl"):
             node.type.check(node.place)
         change = "if, for and while" if node.kind.endswith("Stmt") else "numbers, arrays, and calls"
         node.place.refuse(visit is None, f"{node.kind} is not taken", f"write it with {change}")
@@ -220,18 +220,14 @@ class Expressions:
                 self.build.start(more)
                 self.condition(node.inner[1], yes, no)
             elif node.opcode in COMPARES:
-                self.compare(node, yes, no)
+                pointers = [x for x in node.inner if x.type.is_pointer]
+                node.place.refuse(pointers, "pointers are not compared", "compare the indices")
+                predicate = COMPARES[node.opcode].replace("s", "u" if node.inner[0].type.base == "ulong" else "s")
+                self.test(predicate, *map(self.value, node.inner), yes, no)
             elif cast == "IntegralToBoolean" or (cast == "IntegralCast" and node.inner[0].bare.opcode in COMPARES):
                 self.condition(node.inner[0], yes, no)
             else:
                 self.test("ne", self.value(node), 0, yes, no)
-
-    def compare(self, node: Node, yes: Block, no: Block) -> None:
-        left, right = node.inner
-        is_of_pointers = left.type.is_pointer or right.type.is_pointer
-        node.place.refuse(is_of_pointers, "pointers are not compared", "compare the indices")
-        predicate = COMPARES[node.opcode].replace("s", "u" if left.type.base == "ulong" else "s")
-        self.test(predicate, self.value(left), self.value(right), yes, no)
 
     def test(self, predicate: str, a: Value, b: Value, yes: Block, no: Block) -> None:
         """Branches on a compare. Of <= and >= both outcomes are facts, so they are tried for == and !=."""
@@ -316,9 +312,8 @@ class Expressions:
         node = node.bare
         if node.opcode == "&&":
             return self.claim(node.inner[0]) + self.claim(node.inner[1])
-        is_compare = node.opcode in COMPARES and node.opcode != "!="
         change = "write one for each; ||, != and ! are not taken"
-        node.place.refuse(not is_compare, "a claim is compares joined by &&", change)
+        node.place.refuse(node.opcode not in COMPARES.keys() - {"!="}, "a claim is compares joined by &&", change)
         node.place.refuse(node.inner[0].type.base == "ulong", "a claim is a signed compare", "write int64_t or int")
         forms = self.gaps(node)
         node.place.refuse(any(not form.terms and form.constant < 0 for form in forms), "this claim never holds")

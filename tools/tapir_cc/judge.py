@@ -31,9 +31,6 @@ class Judge:
     def ask(self, *words: str) -> subprocess.CompletedProcess:
         return subprocess.run([self.program, *words, self.file], capture_output=True, text=True)
 
-    def explained(self) -> str:
-        return self.ask("explain", "--annotate").stdout
-
     def verdict(self) -> Verdict:
         self.unit = translate(self.tree, self.entry, self.refused, self.is_thorough)
         self.printed: list[Line] = print_module(self.unit)
@@ -42,8 +39,7 @@ class Judge:
             return Verdict("", 0, UNJUDGED)
         done = self.ask("verify", "--annotate")
         found = re.search(r"refused (\d+) line (\d+)", done.stdout)
-        told = done.stdout if found else done.stdout + done.stderr
-        return Verdict(told, done.returncode, *map(int, found.groups() if found else ()))
+        return Verdict(done.stdout + done.stderr, done.returncode, *map(int, found.groups() if found else ()))
 
     def judge(self) -> Verdict:
         for _ in range(MOST_TRIES):
@@ -65,6 +61,6 @@ class Judge:
         elif verdict.rule in (601, 604) and x:
             choices |= {f.tried.get(x.object)} if x.object else set(f.tried.values())
         elif verdict.rule == 505:
-            asked = re.findall(r"asked by line (\d+)", self.explained())
+            asked = re.findall(r"asked by line (\d+)", self.ask("explain", "--annotate").stdout)
             choices |= {self.printed[int(number)].choice for number in asked}
         return choices - {None}

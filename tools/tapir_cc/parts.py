@@ -34,8 +34,7 @@ class Parts(Statements):
             strange = Form({r: factor for r, factor in form.terms.items() if r not in passed})
             most = self.f.most(strange)
             if most is not None and strange.terms != form.terms:
-                known = Form({r: factor for r, factor in form.terms.items() if r in passed}, form.constant + most)
-                part.f.requires.append(Claim(known.replaced(passed.get), part.f.place))
+                part.f.requires.append(Claim((form - strange + most).replaced(passed.get), part.f.place))
         same = [Form.of(p) - value for value, p in zip(args, part.f.parameters) if isinstance(value, int)]
         part.f.requires += [Claim(form * sign, part.f.place) for form in same for sign in (1, -1)]
         part.run()

@@ -79,8 +79,7 @@ def block(f: Function, block: Block) -> Iterator[Line]:
         at = addresses.get((x.object, x.index), x.object)
         if at == x.object and x.index not in (None, 0):
             at = addresses[x.object, x.index] = f.fresh("p")
-            address = f"getelementptr inbounds i64, ptr {x.object}, i64 {x.index}"
-            yield Line(f"  {at} = {address}", x.place, f, x)
+            yield Line(f"  {at} = getelementptr inbounds i64, ptr {x.object}, i64 {x.index}", x.place, f, x)
         yield Line("  " + instruction(f, x, at), x.place, f, x)
 
 

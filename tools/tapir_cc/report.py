@@ -85,7 +85,7 @@ class Report:
         self.line = self.printed[verdict.at]
         self.f, self.x = self.line.function, self.line.of
         self.names = Names(self.f or judge.unit.functions[-1])
-        self.told = judge.explained().split("\nalso ")[0].split("\n", 1)[-1]
+        self.told = judge.ask("explain", "--annotate").stdout.split("\nalso ")[0].split("\n", 1)[-1]
         self.goals = re.findall(r"to show: (\S+ (?:<=|>=) \S+)", self.told)
         self.goal = self.names.in_text("".join(self.goals[:1]))
         self.nearest = "".join(re.findall(r"nearest: (.*)", self.told)[:1])
@@ -138,7 +138,7 @@ class Report:
         required = self.requires_by_nearest() or (self.goal if registers <= parameters else "")
         if required:
             return f"add REQUIRES({required}) to {function}"
-        made = [names.definitions[r] for r in registers if r in names.definitions]
+        made = [names.definitions[r] for r in sorted(registers & names.definitions.keys())]
         for x in made:
             if x.op in ("add", "sub", "mul") and not x.nsw and isinstance(x.args[0], str):
                 word = "REQUIRES" if x.args[0] in parameters else "INVARIANT or a test"

@@ -5,15 +5,16 @@ Where the rounds of a loop are not counted by its step, a test before its own on
 from collections import ChainMap
 from dataclasses import dataclass, field
 from functools import partial
-from typing import Callable, NamedTuple, Optional
+from typing import Callable, Optional
 
 from .expressions import COMPARES, NO_BYTES, Cell, Expressions
 from .ir import Block, Choice, Claim, Form, Function, Instruction, Value, Zone
-from .ssa import Builder, Edge, Loop
+from .ssa import Builder, Loop
 from .tree import Node, Type
 from .zones import Zones
 
 CLAIMS = ("requires", "ensures", "keeps", "invariant")
+TYPES = {"RecordDecl", "EnumDecl", "TypedefDecl"}  # what is told where it is used
 SIMPLE = {"DeclRefExpr", "IntegerLiteral", "ImplicitCastExpr", "ParenExpr", "BinaryOperator"}
 MOST_ROUNDS = 1 << 40
 OUT = ("return, break, continue or goto leads out of a SPAWN", "set a variable in the SPAWN, and test it after SYNC")
@@ -30,14 +31,6 @@ class Task:
     given: list[Zone] = field(default_factory=list)  # the author's
 
 
-class Bound(NamedTuple):
-    """A test's gap falls at least as fast as a value rises, which so is below an end wherever the test holds."""
-
-    test: Node
-    end: int
-    counter: str  # a variable that counts the rounds; none where the test's left side rises
-
-
 class Statements(Expressions):
     def __init__(self, unit, f: Function, body: Node):
         self.unit, self.f, self.body, self.is_thorough = unit, f, body, unit.is_thorough
@@ -49,7 +42,6 @@ class Statements(Expressions):
         self.reaches: list[Form] = []  # what probably is 0 or more, of what loops change
         self.is_child = False  # whether it is the body of a SPAWN
         self.labels: dict[str, tuple[Block, Task]] = {}
-        self.switch: Optional[tuple[Instruction, list[Edge], Block]] = None  # its end, the ways out of it, its default
         self.tasks: list[Task] = []
         self.new_task()
         f.extents = ChainMap({}, unit.extents)
@@ -109,15 +101,10 @@ class Statements(Expressions):
         return 0
 
     def of_CompoundStmt(self, node: Node) -> None:
-        for x in node.inner:
+        for x in [x for x in node.inner if x.kind not in TYPES]:
             self.value(x)
 
-    of_DeclStmt = of_CompoundStmt
-
-    def of_NullStmt(self, node: Node) -> None:
-        pass  # (a type is told where it is used)
-
-    of_RecordDecl = of_EnumDecl = of_TypedefDecl = of_NullStmt
+    of_DeclStmt = of_NullStmt = of_CompoundStmt
 
     def of_VarDecl(self, node: Node) -> None:
         first = next((x for x in node.inner if "init" in node.data and not x.kind.endswith("Attr")), None)
@@ -170,9 +157,9 @@ class Statements(Expressions):
         build, facts, ways = self.build, self.facts, step.ways()  # (a counter is set by the step alone, by one)
         counters = {id: way for id, (way, *_) in ways.items() if way in ("++", "--") and id not in body.ways()}
         own = [id for id in test.ways(body, step) if id in build.values and id not in body.own()]
-        starts, bound = {id: build.form(build.read(id)) for id in own}, self.bound(test, body, step)
+        starts, (first, end, counter) = {id: build.form(build.read(id)) for id in own}, self.bound(test, body, step)
         head, inside, latch, out = [build.block(hint) for hint in ("head", "body", "next", "end")]
-        loop = Loop(out, latch, self.task, build.now, head, inside, set(self.f.names))
+        loop = Loop(out, latch, self.task, above=build.now, head=head, inside=inside, known=set(self.f.names))
         build.close("br", to=[head])
         build.start(head, set(build.values))
         self.loops.append(loop)
@@ -180,8 +167,8 @@ class Statements(Expressions):
         risen = {id: build.form(build.read(id)) - start for id, start in starts.items()}
         for id in [id for id in own if self.is_thorough and id not in counters]:
             self.guess(head, risen[id], -risen[id])
-        if bound:
-            self.test_bound(bound, loop)
+        if first:
+            self.test_bound(first, end, counter, loop)
         self.condition(test, inside, out)
         build.start(inside)
         known = self.known_inside(test, counters, body, risen)
@@ -191,8 +178,8 @@ class Statements(Expressions):
         build.start(latch)
         build.made, self.facts = made, facts  # (so a counter's next value is a register of its own, with few facts)
         self.loops.remove(loop)
-        if bound and bound.counter:
-            build.write(bound.counter, build.binary("add", build.read(bound.counter), 1, True), "rounds")
+        if counter:
+            build.write(counter, build.binary("add", build.read(counter), 1, True), "rounds")
         self.value(step)
         if again:
             self.condition(again, head, out)
@@ -201,33 +188,34 @@ class Statements(Expressions):
         build.skip(loop.above, head)
         build.start(out)
 
-    def bound(self, test: Node, body: Node, step: Node) -> Optional[Bound]:
-        """There are at most as many rounds as the gap begins with. Of `head < tail`, where tail grows up to 32, head is
-        below 32."""
+    def bound(self, test: Node, body: Node, step: Node) -> tuple[Optional[Node], int, str]:
+        """A part of a test, the gap of which falls at least as fast as a value rises, so that this is below an end
+        wherever it holds; the end; and the value, a variable that counts the rounds: there are at most as many as the
+        gap begins with. Of `head < tail`, where tail grows up to 32, head is below 32, and there is no counter."""
         first, ways = test.bare, body.ways(step)
         while first.opcode == "&&":
             first = first.inner[0].bare
         changed = [ways[id] for id, _ in first.named() if id in ways] if self.is_simple(first) else []
         if not self.is_thorough or not changed or changed in ([{"++"}], [{"--"}]):
-            return None
+            return None, 0, ""
         if first.opcode == "<" and changed == [{"++"}, {"++"}]:
             high = first.inner[1].named()
             tests = [x for x in body.walk() if x.opcode == "<" and x.inner[0].named() == high and self.is_simple(x)]
             ends = [x.inner[1].bare for x in tests if not x.inner[1].named()]
-            return Bound(first, self.value(ends[0]), "") if ends else None
+            return (first, self.value(ends[0]), "") if ends else (None, 0, "")
         most, counter = self.f.most(self.gaps(first)[0]), "rounds " + first.id
         self.build.write(counter, 0, "rounds")
-        return Bound(first, most + 1, counter) if most is not None and 0 <= most < MOST_ROUNDS else None
+        return (first, most + 1, counter) if most is not None and 0 <= most < MOST_ROUNDS else (None, 0, "")
 
-    def test_bound(self, bound: Bound, loop: Loop) -> None:
+    def test_bound(self, test: Node, end: int, counter: str, loop: Loop) -> None:
         """Tests that the value is below the end, if it is shown that else the test itself does not hold: that the gap
         is then -1, and no less."""
-        value = self.build.read(bound.counter) if bound.counter else self.value(bound.test.inner[0])
-        gap, risen = self.gaps(bound.test)[0], self.build.form(value)
-        room = -gap - risen + bound.end - 1
+        value = self.build.read(counter) if counter else self.value(test.inner[0])
+        gap, risen = self.gaps(test)[0], self.build.form(value)
+        room = -gap - risen + end - 1
         if self.shown("rounds", room, gap + 1):
             inside = self.build.block("rounds")
-            self.build.branch("slt", value, bound.end, inside, loop.out)
+            self.build.branch("slt", value, end, inside, loop.out)
             self.build.start(inside)
             self.guess(loop.head, gap + 1, room, risen)
 
@@ -286,22 +274,19 @@ class Statements(Expressions):
         value, build = self.value(node.inner[0]), self.build
         out, other = build.block("end"), build.block("default")
         end = build.close("switch", value, to=[other])
-        before, self.switch = self.switch, (end, build.edges[other.name][:], other)
-        self.loops.append(Loop(out, None, self.task))
+        self.loops.append(Loop(out, None, self.task, (end, build.edges[other.name][:], other)))
         self.value(node.inner[-1])
         self.loops.pop()
         build.jump(out)
         if other.name not in self.f.blocks:  # (there is no `default:`)
             build.start(other)
             build.jump(out)
-        self.switch = before
         build.start(out)
 
     def of_CaseStmt(self, node: Node) -> None:
         """A case is reached from the switch and from what stands before it."""
-        end, edges, block = self.switch
-        is_range = bool(node.data.get("isGNURange"))
-        node.place.refuse(is_range, "a range of cases is not taken", "write a case for each")
+        end, edges, block = next(loop.switch for loop in reversed(self.loops) if loop.switch)
+        node.place.refuse(node.data.get("isGNURange"), "a range of cases is not taken", "write a case for each")
         if node.kind == "CaseStmt":
             block = self.build.block("case")
             end.args.append(self.value(node.inner[0]))

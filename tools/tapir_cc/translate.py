@@ -29,9 +29,8 @@ class Unit:
         place.refuse(type.is_pointer, *NO_POINTER)
         place.refuse(plain.bytes < 4, *NO_BYTES)
         place.refuse(node.data.get("storageClass") == "extern", f"{name} is not in this file", "define it here")
-        is_set = "init" in node.data and not all(map(self.is_zero, node.inner))
         change = "fill it in a function, or from the host (--set, --load)"
-        place.refuse(is_set, f"{name} has an initial value", change)
+        place.refuse("init" in node.data and not self.is_zero(node), f"{name} has an initial value", change)
         object = "@" + name
         self.extents[object], self.objects[node.id] = plain.cells, Cell(object, 0)
         cells = sum(self.extents.values())
