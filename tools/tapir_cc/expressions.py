@@ -76,7 +76,7 @@ class Expressions:
         if kind == "LValueToRValue":
             return self.load(self.target(inner), inner)
         if kind == "IntegralToBoolean":
-            return self.bit(inner)
+            return self.chosen(partial(self.condition, inner))
         inner.type.check(inner.place)
         is_number = kind in ("IntegralCast", "NoOp", "ToVoid")
         node.place.refuse(not is_number, "a pointer is no number", "keep the index, not the pointer")
@@ -99,8 +99,8 @@ class Expressions:
         if node.opcode == ",":
             self.value(left)
             return self.value(right)
-        if node.opcode in ("&&", "||") or node.opcode in COMPARES:
-            return self.bit(node)
+        if node.opcode in ("&&", "||", *COMPARES):
+            return self.chosen(partial(self.condition, node))
         return self.operation(node.opcode, self.value(left), self.value(right), node.type)
 
     def operation(self, opcode: str, a: Value, b: Value, type: Type) -> Value:
@@ -176,7 +176,7 @@ class Expressions:
         if node.opcode in ("++", "--"):
             return self.of_CompoundAssignOperator(node)
         if node.opcode == "!":
-            return self.bit(node)
+            return self.chosen(partial(self.condition, node))
         if node.opcode == "-":
             return self.operation("-", 0, self.value(inner), type)
         if node.opcode == "~":
@@ -188,14 +188,8 @@ class Expressions:
         test, *arms = node.inner
         return self.chosen(partial(self.condition, test), *[partial(self.value, arm) for arm in arms])
 
-    def bit(self, node: Node) -> Value:
-        """A condition as a number."""
-        if node.type.base == "bool" and node.bare.kind != "BinaryOperator":
-            return self.value(node)
-        return self.chosen(partial(self.condition, node))
-
     def chosen(self, condition: Callable, one: Callable = lambda: 1, other: Callable = lambda: 0) -> Value:
-        """A value where a condition holds, and another one where it does not."""
+        """A value where a condition holds, and another one where it does not: as a number 1 and 0."""
         yes, no, out = [self.build.block(hint) for hint in ("one", "none", "chosen")]
         condition(yes, no)
         for block, value in ((yes, one), (no, other)):

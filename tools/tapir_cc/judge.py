@@ -57,7 +57,7 @@ class Judge:
         if verdict.rule == UNJUDGED:
             choices = {line.choice for line in self.printed} | {line.of.nsw for line in self.printed if line.of}
         elif verdict.rule in (402, 503) and x:
-            choices |= {x.nsw, *[f.unset.get(object) for object in [x.object, *x.args] if verdict.rule == 402]}
+            choices |= {x.nsw, *map(f.unset.get, [x.object, *x.args])}
         elif verdict.rule in (601, 604) and x:
             choices |= {f.tried.get(x.object)} if x.object else set(f.tried.values())
         elif verdict.rule == 505:

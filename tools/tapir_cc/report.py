@@ -73,9 +73,8 @@ def told(path: str, place: Place, text: str, change: str = "") -> str:
     file = pathlib.Path(place.file or path)
     lines = file.read_text(errors="replace").split("\n") if place.line and file.is_file() else []
     line = "".join(lines[place.line - 1 : place.line])
-    column = place.column or len(line) - len(line.lstrip()) + 1
-    head = f"{place.file or path}:{place.line or 1}:{column}: error: {text}{'; ' if change else ''}{change}"
-    caret = re.sub(r"\S", " ", line[: column - 1]) + "^"
+    head = f"{place.file or path}:{place.line or 1}:{place.column or 1}: error: {text}{'; ' if change else ''}{change}"
+    caret = re.sub(r"\S", " ", line[: place.column - 1]) + "^"
     return head + (f"\n{place.line:5} | {line}\n      | {caret}" if line else "")
 
 

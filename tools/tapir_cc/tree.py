@@ -165,7 +165,7 @@ class Tree:
             for constant in [x for x in node.inner if x.kind == "EnumConstantDecl"]:
                 given = [int(x.data["value"]) for x in constant.inner if "value" in x.data]
                 self.constants[constant.id] = value = given[0] if given else value + 1
-            is_signed = min(self.constants.get(x.id, 0) for x in node.inner) < 0 if node.inner else False
+            is_signed = any(self.constants.get(x.id, 0) < 0 for x in node.inner)
             self.types[f"enum {node.name}"] = self.types[node.id] = "int" if is_signed else "unsigned int"
         elif node.kind == "TypedefDecl":
             owned = [x["ownedTagDecl"]["id"] for x in node.data.get("inner", []) if "ownedTagDecl" in x]
