@@ -75,6 +75,24 @@ static void stop_runs(const char *path) {
     tapirvm_close(&kernel);
 }
 
+/* Serial runs of the case whose fuel is spent among its first or its last instructions: in the middle of blocks, between two that are one code, at borders. */
+static void cut_short(struct host_case *it) {
+    struct tapirvm_stop nobody = TAPIRVM_NOTHING;
+    struct tapirvm_outcome outcome = {0};
+    int64_t *cells = new_cells(it->cell_count);
+    uint64_t all = it->serial.instructions;
+    memcpy(cells, it->begin, it->cell_count * sizeof *cells);
+    for (uint64_t k = 0; k < 96 && k < all; k++) {
+        uint64_t fuel = k < 48 ? k : all - (k - 47);
+        tapirvm_run(&it->kernel, fuel, &nobody, it->arguments, it->argument_count, cells, it->cell_count, &outcome);
+        want("with less fuel than it does there is no answer", outcome.status == TAPIRVM_OUT_OF_FUEL);
+        want("and cells are kept", memcmp(cells, it->begin, it->cell_count * sizeof *cells) == 0);
+    }
+    tapirvm_run(&it->kernel, all, &nobody, it->arguments, it->argument_count, cells, it->cell_count, &outcome);
+    want("with as much as it does there is one", is_serial(it, &outcome, cells));
+    free(cells);
+}
+
 /* A run of the case that gets its fuel in parts. */
 static void go_on_with_fuel(struct host_case *it, size_t workers) {
     struct tapirvm_stop nobody = TAPIRVM_NOTHING;
@@ -149,6 +167,7 @@ int main(int count, char **words) {
     if (list == NULL || !next_case(list, &it)) return 2;
     fclose(list);
     stop_runs(words[1]);
+    cut_short(&it);
     for (size_t workers = 1; workers <= 8; workers *= 2) {
         go_on_with_fuel(&it, workers);
         go_on_after_stops(&it, workers);
