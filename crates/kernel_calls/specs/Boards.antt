@@ -149,3 +149,7 @@ IsSpelledStatus n = (n ≡ done) ⊎ ((n ≡ closed) ⊎ ((n ≡ long_schedule) 
 -- the schedule of its events is written, as far as there is room
 abbrev pub IsSpelled : List ℕ → List ℕ → ℕ → Run → Type 0
 IsSpelled before after needed run = (text : List ℕ) × IsSchedule text run.events × words.StandsIn before text after needed
+
+-- no text is the schedule of its events: they are too many, or their text is too long
+abbrev pub HasNoSchedule : Run → Type 0
+HasNoSchedule run = (text : List ℕ) → IsSchedule text run.events → ⊥

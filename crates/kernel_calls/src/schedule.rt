@@ -1,9 +1,9 @@
 //! The call that writes what a run on threads has done.
 
-ghost use Rattle.std.specs.Prelude.{◌≡◌, ◌≢◌, ◌⊎◌, IfErr, IfOk, IfSome, List, None, Some, string_bytes};
+ghost use Rattle.std.specs.Prelude.{◌≡◌, ◌≢◌, ◌⊎◌, ◌<◌, IfErr, IfNone, IfOk, IfSome, List, None, Some, length, string_bytes, ℕ};
 ghost use Rattle.frame.specs.declared.event.Event as event_value;
-ghost use Rattle.schedule_text.specs.ScheduleText.{IsSchedule};
-ghost use Rattle.kernel_calls.specs.Boards.{IsSpelled, IsSpelledStatus, OfRun};
+ghost use Rattle.schedule_text.specs.ScheduleText.{IsSchedule, most};
+ghost use Rattle.kernel_calls.specs.Boards.{HasNoSchedule, IsSpelled, IsSpelledStatus, OfRun};
 ghost use Rattle.kernel_calls.specs.Held.{closed};
 ghost use Rattle.kernel_calls.specs.Replayed.{long_schedule};
 ghost use Rattle.kernel_calls.specs.Told.{done, out_of_memory};
@@ -24,9 +24,12 @@ use std::mem::replace;
 const MOST_EVENTS: u64 = 1_048_576;
 
 /// The text that spells these events; or the status: memory was refused, or there is none within the limits of a schedule.
+#[tactic(auto, using(crate::proofs::Spelling::none_of, crate::proofs::Spelling::too_many))]
 fn spelled(alloc: Global, events: Result<Option<Vec<Event>>, OutOfMemory>) -> Result<String, u32>
     ensures spelled { IfOk result (λ text. (all : List event_value.Event) → IfOk events (λ found. IfSome found (λ own. own.items ≡ all)) →
         IsSchedule (string_bytes text) all) }
+    ensures long { IfErr result (λ status. status ≡ long_schedule → (all : List event_value.Event) → IfOk events (λ found. IfSome found (λ own. own.items ≡ all)) →
+        IfOk events (λ found. IfNone found (most < length all)) → (text : List ℕ) → IsSchedule text all → ⊥) }
     ensures statuses { IfErr result (λ status. (status ≡ long_schedule) ⊎ (status ≡ out_of_memory)) }
 {
     match events {
@@ -49,6 +52,7 @@ pub fn write_schedule(
 ) -> u32
     ensures spelled { result ≡ done → OfRun board.old.run.state (IsSpelled out.old out.new needed.new) }
     ensures none { result ≢ done → HasNone out.old out.new needed.new }
+    ensures long { result ≡ long_schedule → OfRun board.old.run.state HasNoSchedule }
     ensures closed { result ≡ closed → board.old.run.state ≡ None }
     ensures same { board.new.run.state ≡ board.old.run.state }
     ensures statuses { IsSpelledStatus result }
