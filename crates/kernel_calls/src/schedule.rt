@@ -24,7 +24,7 @@ use std::mem::replace;
 const MOST_EVENTS: u64 = 1_048_576;
 
 /// The text that spells these events; or the status: memory was refused, or there is none within the limits of a schedule.
-#[tactic(auto, using(crate::proofs::Spelling::none_of, crate::proofs::Spelling::too_many))]
+#[tactic(auto, using(crate::proofs::Spelling::too_many))]
 fn spelled(alloc: Global, events: Result<Option<Vec<Event>>, OutOfMemory>) -> Result<String, u32>
     ensures spelled { IfOk result (λ text. (all : List event_value.Event) → IfOk events (λ found. IfSome found (λ own. own.items ≡ all)) →
         IsSchedule (string_bytes text) all) }
