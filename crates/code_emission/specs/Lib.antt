@@ -1,0 +1,3 @@
+pub mod Emitted
+pub mod Segments
+pub mod Endings

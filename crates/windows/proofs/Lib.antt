@@ -1,0 +1,13 @@
+pub mod Cases
+pub mod Words
+pub mod Rows
+pub mod Kept
+pub mod Calling
+pub mod Leaving
+pub mod Forking
+pub mod Starting
+pub mod Resolving
+pub mod Cells
+pub mod Going
+pub mod Walking
+pub mod Slots
