@@ -1,0 +1,8 @@
+//! Codes of one frame, from segment to segment of its function: along edges, to a border or to what the text says. No crate goes by it yet.
+//!
+//! - `frames`: the loop over segments (`run_frame`).
+#![tactic(auto)]
+
+mod frames;
+
+pub use frames::{At, Way, run_frame};
