@@ -86,16 +86,16 @@ use Rattle.slot_codes.proofs.Leading.{truth_set}
 use Rattle.slot_codes.proofs.executing.execute.Goals as goal
 
 """
-open('/work/e/crates/slot_codes/proofs/executing/execute/Answers.antt','w').write(head+"\n".join(out))
+open('/work/w/tree/crates/slot_codes/proofs/executing/execute/Answers.antt','w').write(head+"\n".join(out))
 # rare
 out=[]
 K="(code.Rare c.args.rare.now)"
 def eqr(arm): return f"(ap code.Rare c.in-{arm}.is)"
-ans("returns-in-CompareRegisters-clause-leads", f"meant {C} {C} {R} c.test_registers-_holds.new.regs {H} {K} _ {eqr('CompareRegisters')} (\n    leads_compare {C} {R} c.test_registers-_holds.new.regs {H} {fields('CompareRegisters',['predicate','to','left','right'])} c.test_registers-_holds.ensures.does)")
+ans("returns-in-CompareRegisters-clause-leads", f"meant {C} {C} {R} c.test_registers-holds.new.regs {H} {K} _ {eqr('CompareRegisters')} (\n    leads_compare {C} {R} c.test_registers-holds.new.regs {H} {fields('CompareRegisters',['predicate','to','left','right'])} c.test_registers-holds.ensures.does)")
 ans("returns-in-CompareNumber-clause-leads", f"""
     let fit : FitsSigned w64 c.in-CompareNumber.number = search rules in
-    meant {C} {C} {R} c.test_number-_holds.new.regs {H} {K} _ {eqr('CompareNumber')} (
-    leads_compare_number {C} {R} c.test_number-_holds.new.regs {H} {fields('CompareNumber',['predicate','to','left','number'])} (subst (λ (z : ℤ). ComparesNumber {C} c.in-CompareNumber.predicate c.in-CompareNumber.to c.in-CompareNumber.left z {R} c.test_number-_holds.new.regs) (written c.in-CompareNumber.number fit.sfits) c.test_number-_holds.ensures.does))""")
+    meant {C} {C} {R} c.test_number-holds.new.regs {H} {K} _ {eqr('CompareNumber')} (
+    leads_compare_number {C} {R} c.test_number-holds.new.regs {H} {fields('CompareNumber',['predicate','to','left','number'])} (subst (λ (z : ℤ). ComparesNumber {C} c.in-CompareNumber.predicate c.in-CompareNumber.to c.in-CompareNumber.left z {R} c.test_number-holds.new.regs) (written c.in-CompareNumber.number fit.sfits) c.test_number-holds.ensures.does))""")
 ans("returns-in-AllocaStart-clause-leads", f"""
     let home_fit : FitsSigned w64 {H} = search rules in
     let fit : FitsSigned w64 c.in-AllocaStart.offset = search rules in
@@ -118,4 +118,4 @@ use Rattle.slot_codes.proofs.Doing.{leads_alloca, leads_compare, leads_compare_n
 use Rattle.slot_codes.proofs.executing.execute_rare.Goals as goal
 
 """
-open('/work/e/crates/slot_codes/proofs/executing/execute_rare/Answers.antt','w').write(head+"\n".join(out))
+open('/work/w/tree/crates/slot_codes/proofs/executing/execute_rare/Answers.antt','w').write(head+"\n".join(out))

@@ -45,4 +45,4 @@ use Rattle.code_segments.proofs.Going.{begun, border_there, branch_there, inside
 use Rattle.code_segments.proofs.running.run_codes.Goals as goal
 
 """
-open('/work/e/crates/code_segments/proofs/running/run_codes/Answers.antt','w').write(head+"\n".join(out))
+open('/work/w/tree/crates/code_segments/proofs/running/run_codes/Answers.antt','w').write(head+"\n".join(out))
