@@ -1,10 +1,10 @@
 //! Codes of one frame, from segment to segment of its function: along edges, to a border or to what the text says. No crate goes by it yet.
 //!
-//! - `segments`: one segment, to an edge or to where the frame's codes stop (`run_segment`).
+//! - `segment`: one segment, to an edge or to where the frame's codes stop (`run_segment`).
 //! - `frames`: the loop over segments (`run_frame`).
 #![tactic(auto)]
 
 mod frames;
-mod segments;
+mod segment;
 
 pub use frames::{At, Way, run_frame};
