@@ -12,11 +12,11 @@ use Rattle.semantics.specs.SerialMeaning.{Gave, Outcome, IsSerialMeaning, cleare
 use Rattle.semantics.specs.State.{override}
 use Rattle.program.specs.declared.function.Program.{Program}
 use Rattle.frame_engine.specs.declared.activation.Places.{Places}
-use Rattle.frame_engine.specs.Flat.{cell_in}
+use Rattle.frame_engine.specs.Flat.{cell_in, is_cell}
 use Rattle.frame_engine.specs.declared.flat.Flat.{Flat}
-use Rattle.frame_engine.specs.Shows.{IsIn, Layout, address}
+use Rattle.frame_engine.specs.Shows.{IsIn, Layout, ShowsCells, address}
 use Rattle.laws_schedule.proofs.laws_phases.defined.Written.{plain_keeps}
-use Rattle.serial_stack.specs.Steps.{Placed, Run, Goes, plain, sync, detach, call, reattach, ret, Walk, begins, goes_on, starting}
+use Rattle.serial_stack.specs.Steps.{Placed, Run, Goes, plain, sync, detach, call, reattach, ret, EndsWith, Walk, begins, goes_on, starting}
 use Rattle.serial_stack.proofs.Walks.{steps_mean}
 use Rattle.serial_stack.specs.Layouts.{size_in, start_in, alloca_sizes, end_of, for_body, with_allocas, of_globals, layout_of, frames_of}
 use Rattle.serial_stack.specs.Runs.{HasEnded}
@@ -62,17 +62,24 @@ some_of : (o : Option ℤ) → is_some o ≡ true → (z : ℤ) × (o ≡ Some z
 some_of None h = absurd (cc)
 some_of (Some z) h = (z, refl)
 
-module _ (prog : Program) (places : Places) (globals : List ℕ) (arguments row : List ℤ) (long : length row ≡ sum globals) (small : sum globals < 9223372036854775808) (done peak : ℕ) (k : Stack) (result : ℤ)
-    (h : HasEnded globals prog places (starting prog arguments (row_memory globals row)) done peak k result)
+-- the root returns the number after so many steps, where the row shows what memory holds
+pub record EndsInRow (globals : List ℕ) (prog : Program) (start : Run) (done peak : ℕ) (items : List ℤ) (result : ℤ) : Type 0 where
+  pub run : Run
+  pub before : ℕ
+  pub walk : Walk prog start before peak run
+  pub last : done ≡ suc before
+  pub ends : EndsWith prog run result
+  pub tall : length run.path ≡ length run.below
+  pub shown : ShowsCells (layout_of globals prog (frames_of run)) (is_cell items) (λ a z. cell_in items a ≡ Some z) run.memory
+
+module _ (prog : Program) (globals : List ℕ) (arguments row : List ℤ) (long : length row ≡ sum globals) (small : sum globals < 9223372036854775808) (done peak : ℕ) (items : List ℤ) (result : ℤ)
+    (h : EndsInRow globals prog (starting prog arguments (row_memory globals row)) done peak items result)
   where
     abbrev s : Run
     s = h.run
 
     abbrev l : Layout
     l = layout_of globals prog (frames_of s)
-
-    abbrev items : List ℤ
-    items = h.stack.cells.cells.items
 
     shared_size : (role : Role) (p : Path) (sizes : List ℕ) (home g : ℕ) → (for_body role (with_allocas p sizes home (of_globals globals)) (of_globals globals)).cells (Shared g) ≡ size_in globals g
     shared_size Body p sizes home g = refl
@@ -86,7 +93,7 @@ module _ (prog : Program) (places : Places) (globals : List ℕ) (arguments row 
     size_is g = ap (λ (x : Layout). x.cells (Shared g)) alone ∙ shared_size s.frame.role s.path (alloca_sizes prog s.frame.function) (end_of globals prog []) g
 
     root_path : s.path ≡ []
-    root_path = empty s.path (h.shown.top.tall ∙ ap (λ (below : List Placed). length below) h.ends.root)
+    root_path = empty s.path (h.tall ∙ ap (λ (below : List Placed). length below) h.ends.root)
       where
         empty : (p : Path) → length p ≡ 0 → p ≡ []
         empty [] e = refl
@@ -116,7 +123,7 @@ module _ (prog : Program) (places : Places) (globals : List ℕ) (arguments row 
         let is = lies.is in
         let place : lies.place ≡ start_in globals g + i = omega (arith, ints, is) in
         let same : address l c ≡ pos lies.place = ap (λ (a : ℤ). wrapped Bits64 (a +ℤ pos i)) (at_is g) ∙ address_is (of_globals globals) (sum globals) c all small within in
-        let at : cell_in items (pos lies.place) ≡ Some z = ap (λ (a : ℤ). cell_in items a) (sym same) ∙ h.shown.cells.values c z e in
+        let at : cell_in items (pos lies.place) ≡ Some z = ap (λ (a : ℤ). cell_in items a) (sym same) ∙ h.shown.values c z e in
         subst (λ (x : ℕ). slice_get items x ≡ Some z) place at
 
     global_at_end : (g i : ℕ) → s.memory (global_cell g i) ≡ in_row globals items (Shared g) i
@@ -128,14 +135,14 @@ module _ (prog : Program) (places : Places) (globals : List ℕ) (arguments row 
             let some = some_of (s.memory (global_cell g i)) (walk_keeps prog (starting prog arguments (row_memory globals row)) h.before peak s h.walk g i (full globals row long g i low)) in
             some.1 ∙ sym (number_there g i some.0 low some.1)
         by false e = none_of (s.memory (global_cell g i)) (λ z some.
-            let within : i < size_in globals g = subst (λ (x : ℕ). i < x) (size_is g) (h.shown.cells.inside (global_cell g i) z some) in
+            let within : i < size_in globals g = subst (λ (x : ℕ). i < x) (size_is g) (h.shown.inside (global_cell g i) z some) in
             absurd (let t : true ≡ false = sym (lt-ltb i (size_in globals g) within) ∙ e in cc))
 
     -- each cell of the globals is there
-    pub covered : (g i : ℕ) → i < size_in globals g → IsSome (slice_get k.cells.cells.items (start_in globals g + i))
+    pub covered : (g i : ℕ) → i < size_in globals g → IsSome (slice_get items (start_in globals g + i))
     covered g i low =
         let some = some_of (s.memory (global_cell g i)) (walk_keeps prog (starting prog arguments (row_memory globals row)) h.before peak s h.walk g i (full globals row long g i low)) in
-        let at : slice_get k.cells.cells.items (start_in globals g + i) ≡ Some some.0 = ap (λ (x : Flat). slice_get x.cells.items (start_in globals g + i)) h.cells ∙ number_there g i some.0 low some.1 in
+        let at : slice_get items (start_in globals g + i) ≡ Some some.0 = number_there g i some.0 low some.1 in
         subst (λ (o : Option ℤ). IsSome o) (sym at) refl
 
     local_at_end : (owner : Path) (n i : ℕ) → cleared s.path s.memory (record { object = Local owner n; index = i }) ≡ None
@@ -147,7 +154,7 @@ module _ (prog : Program) (places : Places) (globals : List ℕ) (arguments row 
         by : (b : Bool) → same_path s.path owner ≡ b → override (cond b (Some None) None) (s.memory c) ≡ None
         by true e = refl
         by false e = none_of (s.memory c) (λ z some.
-            let within : i < l.cells (Local owner n) = h.shown.cells.inside c z some in
+            let within : i < l.cells (Local owner n) = h.shown.inside c z some in
             let none = no_other owner n e in
             absurd (omega (arith, within, none)))
 
@@ -155,18 +162,29 @@ module _ (prog : Program) (places : Places) (globals : List ℕ) (arguments row 
     all_at_end (Shared g) i = global_at_end g i
     all_at_end (Local owner n) i = local_at_end owner n i
 
-    memory_at_end : cleared s.path s.memory ≡ row_memory globals k.cells.cells.items
-    memory_at_end =
-        let one : cleared s.path s.memory ≡ row_memory globals items = λ i c. all_at_end c.object c.index i in
-        one ∙ ap (row_memory globals) (ap (λ (x : Flat). x.cells.items) (sym h.cells))
+    memory_at_end : cleared s.path s.memory ≡ row_memory globals items
+    memory_at_end = λ i c. all_at_end c.object c.index i
 
-    pub means : IsSerialMeaning prog arguments (row_memory globals row) (record { ending = Gave (Some result); memory = row_memory globals k.cells.cells.items; count = done; depth = peak })
-    means =
+    pub row_means : IsSerialMeaning prog arguments (row_memory globals row) (record { ending = Gave (Some result); memory = row_memory globals items; count = done; depth = peak })
+    row_means =
         let m = steps_mean prog arguments (row_memory globals row) h.before peak s (Some result) h.walk h.ends.root h.ends.returns in
         let same : ◌≡◌ {A = Outcome} (record { ending = Gave (Some result); memory = cleared s.path s.memory; count = suc h.before; depth = peak })
-        (record { ending = Gave (Some result); memory = row_memory globals k.cells.cells.items; count = done; depth = peak }) =
+        (record { ending = Gave (Some result); memory = row_memory globals items; count = done; depth = peak }) =
         λ i. record { ending = Gave (Some result); memory = memory_at_end i; count = sym h.last i; depth = peak } in
         subst (IsSerialMeaning prog arguments (row_memory globals row)) same m
 
+-- on the engine's stack of boxes
+in_row_of : (prog : Program) (places : Places) (globals : List ℕ) (start : Run) (done peak : ℕ) (k : Stack) (result : ℤ) → HasEnded globals prog places start done peak k result → EndsInRow globals prog start done peak k.cells.cells.items result
+in_row_of prog places globals start done peak k result h = record {
+  run = h.run;
+  before = h.before;
+  walk = h.walk;
+  last = h.last;
+  ends = h.ends;
+  tall = h.shown.top.tall;
+  shown = subst (λ (f : Flat). ShowsCells (layout_of globals prog (frames_of h.run)) (is_cell f.cells.items) (λ a z. cell_in f.cells.items a ≡ Some z) h.run.memory) (sym h.cells) h.shown.cells;
+}
+
 pub rows_mean : RowsMean
-rows_mean prog places globals arguments row long small done peak k result h = means prog places globals arguments row long small done peak k result h
+rows_mean prog places globals arguments row long small done peak k result h =
+    row_means prog globals arguments row long small done peak k.cells.cells.items result (in_row_of prog places globals (starting prog arguments (row_memory globals row)) done peak k result h)

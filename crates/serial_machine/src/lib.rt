@@ -1,6 +1,6 @@
 //! The serial run of a program that the verifier took never stops: it ends with the serial meaning, or memory is refused.
 //!
-//! `serial_run` is the serial run with that promise, which `specs/Promise.antt` says: on the engine's stack, over a row of the globals' numbers.
+//! `serial_run` is the serial run with that promise, which `specs/Promise.antt` says: on the engine's windows (`window_runs`), over a row of the globals' numbers.
 //! `serial_run_within` is the same within some fuel. Both decode the module for each run; `serial_run_by` and `serial_run_within_by` go by what was
 //! [`Decoded`] once for all its runs.
 //! The proof puts the schedule theorem together with what the engine asks for:

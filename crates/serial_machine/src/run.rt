@@ -7,17 +7,19 @@ ghost use Rattle.store.specs.Made.{HasGlobalCells};
 ghost use Rattle.store.specs.Rows.{sizes_of};
 ghost use Rattle.store.specs.verifier.Accepted.{IsAccepted};
 ghost use Rattle.store.specs.verifier.Budgets.{budget_of};
+ghost use Rattle.code_tables.specs.Coded.{AreTables};
 ghost use Rattle.serial_machine.specs.Decoding.{IsCodeOf};
 ghost use Rattle.serial_machine.specs.Promise.{EndsOrLacksMemory, EndsWithinBudget, EndsWithinFuel, TakesMore};
 
 use crate::decoded::Decoded;
 use crate::places::{places_from, starts};
+use code_tables::{Tables, decode};
 use frame_engine::{Places, most_moves};
 use lists::OutOfMemory;
 use program::Program;
-use serial_stack::Stack;
 use std::alloc::Global;
 use store::{Finished, Memory, RunFault, Verified, unmet_requirement};
+use window_runs::{begin, run};
 
 /// Why a run within some fuel has no answer.
 #[derive(Drop)]
@@ -34,6 +36,7 @@ fn run_in_places(
     alloc: Global,
     program: &Program,
     places: &Places,
+    tables: &Tables,
     arguments: &[i64],
     memory: &mut Memory,
     budget: u64,
@@ -43,6 +46,7 @@ fn run_in_places(
     requires globals { places.now.globals ≡ starts_from 0 (sizes_of memory.old) }
     requires codes { places.now.codes ≡ program_codes program.now }
     requires allocas { places.now.allocas ≡ map (λ (f : Function). alloca_starts f.allocas) program.now.functions }
+    requires tables { AreTables program.now places.now tables.now }
     requires taken { unmet_in program.now arguments.now ≡ None }
     requires cells { HasGlobalCells program.now memory.old }
     requires budget { budget ≡ budget_of program.now }
@@ -52,8 +56,17 @@ fn run_in_places(
     ensures kept { IfOk result (λ end. IfNone end (memory.new ≡ memory.old)) }
 {
     let row = memory.row()?;
-    let mut stack = Stack::begin(alloc, program, arguments, row, most_moves(program))?;
-    let ended = stack.run(program, places, budget, fuel)?;
+    let (mut stack, start) = begin(alloc, program, tables, arguments, row)?;
+    let mut moves = vec![in alloc; 0; most_moves(program)]?;
+    let ended = run(
+        program,
+        places,
+        tables,
+        &mut stack,
+        moves.as_mut_slice(),
+        start,
+        fuel.min(budget),
+    )?;
     let Some(ended) = ended else {
         return Ok(None);
     };
@@ -66,7 +79,7 @@ fn run_in_places(
     }))
 }
 
-/// The same by the program's code. Memory with other cells than the program declares, which has them all, takes places of its own.
+/// The same by the program's code. Memory with other cells than the program declares, which has them all, takes places and codes of its own.
 fn run_by(
     alloc: Global,
     program: &Program,
@@ -93,6 +106,7 @@ fn run_by(
             alloc,
             program,
             &code.places,
+            &code.tables,
             arguments,
             memory,
             budget,
@@ -100,7 +114,10 @@ fn run_by(
         );
     }
     let places = places_from(alloc, program, globals)?;
-    run_in_places(alloc, program, &places, arguments, memory, budget, fuel)
+    let tables = decode(alloc, program, &places)?;
+    run_in_places(
+        alloc, program, &places, &tables, arguments, memory, budget, fuel,
+    )
 }
 
 /// The same as [`serial_run_within`], by the module's code.
