@@ -1,2 +1,4 @@
 pub mod Frames
 pub mod Segments
+pub mod Phis
+pub mod Entering
