@@ -1,6 +1,7 @@
 //! Codes of the text with names resolved: of an instruction, of two that are done at once, of a block's ending and of an edge. No crate goes by them yet.
 //!
 //! - `plain`: the code of an instruction alone (`instruction_code`).
+//! - `cells`: those of loads and stores.
 //! - `pairs`: the code of two (`joined`).
 //! - `phis`: the moves of an edge (`moves_from`).
 //! - `edges`: an edge (`edge_to`).
@@ -8,6 +9,7 @@
 //! - `counting`: the steps of a segment (`segment_steps`).
 #![tactic(auto)]
 
+mod cells;
 mod counting;
 mod edges;
 mod endings;
