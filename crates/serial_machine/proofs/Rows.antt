@@ -174,17 +174,22 @@ module _ (prog : Program) (globals : List ℕ) (arguments row : List ℤ) (long 
         subst (IsSerialMeaning prog arguments (row_memory globals row)) same m
 
 -- on the engine's stack of boxes
-in_row_of : (prog : Program) (places : Places) (globals : List ℕ) (start : Run) (done peak : ℕ) (k : Stack) (result : ℤ) → HasEnded globals prog places start done peak k result → EndsInRow globals prog start done peak k.cells.cells.items result
-in_row_of prog places globals start done peak k result h = record {
+pub ends_in_row : (prog : Program) (places : Places) (globals : List ℕ) (start : Run) (done peak : ℕ) (k : Stack) (result : ℤ) →
+    HasEnded globals prog places start done peak k result → EndsInRow globals prog start done peak k.cells.cells.items result
+ends_in_row prog places globals start done peak k result h = record {
   run = h.run;
   before = h.before;
   walk = h.walk;
   last = h.last;
   ends = h.ends;
   tall = h.shown.top.tall;
-  shown = subst (λ (f : Flat). ShowsCells (layout_of globals prog (frames_of h.run)) (is_cell f.cells.items) (λ a z. cell_in f.cells.items a ≡ Some z) h.run.memory) (sym h.cells) h.shown.cells;
+  shown = subst
+      (λ (f : Flat).
+      ShowsCells (layout_of globals prog (frames_of h.run)) (is_cell f.cells.items) (λ a z. cell_in f.cells.items a ≡ Some z)
+      h.run.memory)
+      (sym h.cells) h.shown.cells;
 }
 
 pub rows_mean : RowsMean
 rows_mean prog places globals arguments row long small done peak k result h =
-    row_means prog globals arguments row long small done peak k.cells.cells.items result (in_row_of prog places globals (starting prog arguments (row_memory globals row)) done peak k result h)
+    row_means prog globals arguments row long small done peak k.cells.cells.items result (ends_in_row prog places globals (starting prog arguments (row_memory globals row)) done peak k result h)
