@@ -8,18 +8,26 @@ use Rattle.store.specs.Rows.{refilled}
 use Rattle.store.specs.verifier.Budgets.{budget_of}
 use Rattle.frame_engine.specs.Activation.{FrameFits}
 use Rattle.frame_engine.specs.declared.activation.Places.{Places}
-use Rattle.serial_stack.specs.Runs.{HasWalked, RunsTo}
+use Rattle.serial_stack.specs.Runs.{HasWalked}
 use Rattle.serial_stack.specs.Shown.{Advances, HasNumbers, Returns, RunsSafely, StandsSafely, StaysSafely, TextFits}
 use Rattle.serial_stack.specs.Steps.{Run}
-use Rattle.serial_stack.specs.declared.run.Ended.{Ended}
 use Rattle.serial_stack.specs.declared.stack.Stack.{Stack}
 use Rattle.serial_stack.proofs.Turning.{fits_prop, goes_on_here, may_go_on, numbers_here, no_less, numbers_prop, stands_here, stays_here, turned, walked_on, within_here}
 use Rattle.serial_machine.specs.Promise.{EndsWithinBudget, TakesMore}
-use Rattle.serial_machine.proofs.Engine.{ends, takes_more}
+use Rattle.serial_machine.proofs.Engine.{ends, globals, safe, start, takes_more, walked}
 use Rattle.deque_pool.specs.lone.UnderWay.{IsOnWay}
 
 module _ (program : Program) (arguments : List ℤ) (memory : List NamedCells) (places : Places) (k : Stack) (n peak : ℕ) (w : IsOnWay program arguments memory places k n peak) where
   -- ---- where it stands
+
+  from_start : RunsSafely (globals program w.may.accepted arguments memory w.may.taken w.may.cells) program (budget_of program)
+      (start program w.may.accepted arguments memory w.may.taken w.may.cells)
+  from_start = safe program w.may.accepted arguments memory w.may.taken w.may.cells
+
+  has_walked : HasWalked (globals program w.may.accepted arguments memory w.may.taken w.may.cells) program places
+      (start program w.may.accepted arguments memory w.may.taken w.may.cells) n peak k
+  has_walked = w.walked _ _ from_start
+      (walked program w.may.accepted arguments memory w.may.taken w.may.cells places w.globals w.allocas w.codes w.first w.begun)
 
   pub fits : FrameFits program k.top.value
   fits = ∥∥₁_elim w.safe (fits_prop _ _) (λ m. m.walked.shown.top.fits)
@@ -80,13 +88,10 @@ module _ (program : Program) (arguments : List ℤ) (memory : List NamedCells) (
   pub over : (j : Stack) (m : ℕ) (z : ℤ) → m ≡ n + 1 → Returns program places k j (Some z) →
       EndsWithinBudget program arguments memory (record { result = z; memory = refilled memory j.cells.cells.items; instructions = m; peak = peak })
   over j m z one returns =
-      let e : Ended = record { result = z; instructions = m; peak = peak } in
-      let runs : RunsTo program places (budget_of program) w.first j e =
-      λ globals start safe h. turned globals program places (budget_of program) n m peak start k j (Some z) safe (w.walked globals start safe h) one returns in
-      ends program w.may.accepted arguments memory w.may.taken w.may.cells places w.globals w.allocas w.codes w.first w.begun w.small j e runs
+      ends program w.may.accepted arguments memory w.may.taken w.may.cells places m peak j w.small z
+      (turned _ program places (budget_of program) n m peak _ k j (Some z) from_start has_walked one returns)
 
   -- ---- what is left
 
   pub takes : TakesMore program arguments memory n
-  takes = takes_more program w.may.accepted arguments memory w.may.taken w.may.cells places w.globals w.allocas w.codes w.first w.begun n (λ globals start safe h.
-      let a = w.walked globals start safe h in record { peak = peak; run = a.run; walk = a.walk })
+  takes = takes_more program w.may.accepted arguments memory w.may.taken w.may.cells places n peak k has_walked

@@ -1,9 +1,8 @@
-ghost use Rattle.std.specs.Prelude.{◌≡◌, ◌<◌, ◌≤◌, IfNone, IfOk, IfSome, IsTrue, OnOk, Some, false, length};
+ghost use Rattle.std.specs.Prelude.{◌≡◌, ◌≤◌, IfOk, OnOk, Some, length};
 ghost use Rattle.semantics.specs.Frames.{Does, Ends};
 ghost use Rattle.frame_engine.specs.Activation.{FrameFits};
 ghost use Rattle.frame_engine.specs.Border.{IsBorder, IsBorderEnding, IsBorderItem};
 ghost use Rattle.frame_engine.specs.Pause.{IfBorder, IfLimit};
-ghost use Rattle.serial_stack.specs.Runs.{GoesSafely, RunsBeyond, RunsTo};
 ghost use Rattle.serial_stack.specs.Shown.{Advances, GoesOn, HasNumbers, Returns, StandsSafely, StaysSafely, TextFits, item_here};
 
 use crate::stack::Stack;
@@ -115,20 +114,7 @@ impl Stack {
             _ => unreachable!(),
         }
     }
-}
 
-/// What a run that has ended comes to.
-#[derive(Drop)]
-pub struct Ended {
-    /// What the root returned.
-    pub result: i64,
-    /// The instructions that were done, phis not counted.
-    pub instructions: u64,
-    /// The most frames that lived at a time.
-    pub peak: u64,
-}
-
-impl Stack {
     /// Does what stands at its place, which is no plain step; the run's result where it has ended.
     #[inline(always)]
     pub fn border(&mut self, program: &Program, places: &Places) -> Result<Option<i64>, OutOfMemory>
@@ -146,70 +132,6 @@ impl Stack {
                 Ok(None)
             }
             Item::Ends(terminator) => self.end_block(program, places, terminator),
-        }
-    }
-
-    /// Goes on to a border, or to the limit of instructions done: whether it came to a border before that.
-    #[inline(always)]
-    fn comes_to_border(
-        &mut self,
-        program: &Program,
-        places: &Places,
-        done: &mut u64,
-        limit: u64,
-    ) -> bool
-        requires stands { FrameFits program.now self.old.top.value }
-        requires text { TextFits program.now places.now (length self.old.moves.items) }
-        requires room { done.old ≤ limit }
-        requires safe { StaysSafely program.now places.now self.old }
-        ensures stands { FrameFits program.now self.new.top.value }
-        ensures moves { length self.new.moves.items ≡ length self.old.moves.items }
-        ensures led { Advances program.now places.now self.old self.new done.old done.new }
-        ensures border { IsTrue result → IsBorderItem (item_here program.now self.new.top.value) }
-        ensures room { IsTrue result → done.new < limit }
-        ensures limit { result ≡ false → done.new ≡ limit }
-    {
-        match self.advance(program, places, done, limit) {
-            Pause::Border => *done < limit,
-            Pause::Limit => false,
-            Pause::Stopped(never) => match never {},
-        }
-    }
-
-    /// Runs to the root's return, where that takes no more instructions than the fuel allows. The budget bounds them in any case.
-    ///
-    /// # Errors
-    ///
-    /// Memory was refused.
-    pub fn run(
-        &mut self,
-        program: &Program,
-        places: &Places,
-        budget: u64,
-        fuel: u64,
-    ) -> Result<Option<Ended>, OutOfMemory>
-        requires text { TextFits program.now places.now (length self.old.moves.items) }
-        requires safe { GoesSafely program.now places.now budget 0 self.old }
-        ensures ends { IfOk result (λ end. IfSome end (λ e. RunsTo program.now places.now budget self.old self.new e)) }
-        ensures within { IfOk result (λ end. IfSome end (λ e. e.instructions ≤ fuel)) }
-        ensures beyond { IfOk result (λ end. IfNone end (RunsBeyond program.now places.now budget fuel self.old)) }
-    {
-        let limit = fuel.min(budget);
-        let mut done = 0;
-        let mut peak = 1;
-        loop {
-            if !self.comes_to_border(program, places, &mut done, limit) {
-                return Ok(None);
-            }
-            done += 1;
-            if let Some(result) = self.border(program, places)? {
-                return Ok(Some(Ended {
-                    result,
-                    instructions: done,
-                    peak,
-                }));
-            }
-            peak = peak.max(self.below.len() as u64 + 1);
         }
     }
 }
