@@ -176,32 +176,44 @@ impl<'a> Means<'a> {
         }
     }
 
-    /// A sum, and a form with the moves put in.
-    pub fn plus(&self, sum: Sum, moves: &[Move], form: &Form) -> Sum {
+    /// A sum, and a form so many times with the moves put in.
+    fn add(&self, sum: Sum, factor: i64, moves: &[Move], form: &Form) -> Sum {
         let Sum { constant, parts } = sum;
         let side = side_of(form);
         let mut parts = parts.into_vec();
-        if push_parts(&mut parts, moves, 1, side.terms).is_err() {
+        if push_parts(&mut parts, moves, factor, side.terms).is_err() {
             self.note(Unanswered::OutOfMemory);
         }
+        let more = side.constant.saturating_mul(i128::from(factor));
         Sum {
-            constant: constant.saturating_add(side.constant),
+            constant: constant.saturating_add(more),
             parts: Seq::from_vec(parts),
         }
     }
 
+    /// A sum, and a form with the moves put in.
+    pub fn plus(&self, sum: Sum, moves: &[Move], form: &Form) -> Sum {
+        self.add(sum, 1, moves, form)
+    }
+
     /// A sum, less a form with the moves put in.
     pub fn less(&self, sum: Sum, moves: &[Move], form: &Form) -> Sum {
-        let Sum { constant, parts } = sum;
-        let side = side_of(form);
-        let mut parts = parts.into_vec();
-        if push_parts(&mut parts, moves, -1, side.terms).is_err() {
-            self.note(Unanswered::OutOfMemory);
-        }
-        Sum {
-            constant: constant.saturating_sub(side.constant),
-            parts: Seq::from_vec(parts),
-        }
+        self.add(sum, -1, moves, form)
+    }
+
+    /// A form with the moves put in.
+    pub fn placed(&self, moves: &[Move], form: &Form) -> Sum {
+        self.plus(self.sum(0), moves, form)
+    }
+
+    /// A number, less a form.
+    pub(crate) fn room(&self, number: u64, form: &Form) -> Sum {
+        self.less(self.sum(i128::from(number)), &[], form)
+    }
+
+    /// high - low, each with what stands for its registers put in.
+    pub fn between(&self, for_high: &[Move], high: &Form, for_low: &[Move], low: &Form) -> Sum {
+        self.less(self.placed(for_high, high), for_low, low)
     }
 
     /// The form of a sum, unless it would pass the bounds of a form.

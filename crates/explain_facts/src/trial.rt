@@ -1,5 +1,7 @@
 //! A text as the phases before those of numbers, zones and costs take it.
 
+use crate::finding::Source;
+use crate::means::Means;
 use cfg::{BlockEdges, Graph, graph};
 use definedness::defined;
 use ir_reader::read;
@@ -39,15 +41,20 @@ impl Matched {
     }
 }
 
+fn paired(alloc: Global, state: RandomState, text: &[u8]) -> Result<(Graph, Regions), Refused> {
+    let typed = check_types(alloc, state, read(alloc, state, text)?)?;
+    let graph = graph(alloc, typed.program)?;
+    let regions = regions(alloc, &graph)?;
+    Ok((graph, regions))
+}
+
 fn judged(
     alloc: Global,
     state: RandomState,
     text: &[u8],
     is_defined: bool,
 ) -> Result<Matched, Refused> {
-    let typed = check_types(alloc, state, read(alloc, state, text)?)?;
-    let graph = graph(alloc, typed.program)?;
-    let regions = regions(alloc, &graph)?;
+    let (graph, regions) = paired(alloc, state, text)?;
     if is_defined {
         defined(alloc, &graph, &regions)?;
     }
@@ -70,4 +77,13 @@ pub fn match_text(
         Err(Refused::Fault { .. }) => Ok(None),
         Err(Refused::Memory) => Err(OutOfMemory),
     }
+}
+
+/// The module of a text that the phases up to that of uses take, where its judgement counts so many steps; none where one of them refuses it, or memory or
+/// effort did not reach till now.
+pub fn taken(means: &Means<'_>, source: Source<'_>, steps: usize) -> Option<Matched> {
+    if !means.spend(steps) {
+        return None;
+    }
+    means.found(match_text(means.alloc, source.state, source.text.as_bytes(), true))
 }

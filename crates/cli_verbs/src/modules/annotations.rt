@@ -9,7 +9,7 @@ use crate::modules::faults::utf8_of;
 use crate::modules::limits::note_limits;
 use annotate::{NewLines, annotated, pruned};
 use cli_words::{Beside, Question, Request, Status};
-use explain_findings::line_at;
+use explain::line_at;
 use std::alloc::{AllocError, Global};
 use std::hash::RandomState;
 use std::mem;

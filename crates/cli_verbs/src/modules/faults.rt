@@ -1,7 +1,7 @@
 //! Faults of a file, told on standard error so that editors find the line.
 
 use cli_words::{Beside, Question};
-use explain_findings::line_at;
+use explain::line_at;
 use lists::OutOfMemory;
 use refusal::push_heads;
 

@@ -2,8 +2,7 @@
 
 use crate::modules::json::fault::push_broken;
 use crate::modules::json::list::{push_member, push_separator, push_text};
-use explain::Finding;
-use explain_findings::line_at;
+use explain::{Finding, line_at};
 use lists::{OutOfMemory, TextBuffer};
 use refusal::push_mends;
 use std::alloc::{AllocError, Global};

@@ -2,7 +2,7 @@
 
 use crate::modules::faults::utf8_of;
 use crate::modules::json::list::push_member;
-use explain_findings::line_at;
+use explain::line_at;
 use lists::{OutOfMemory, TextBuffer};
 use refusal::push_heads;
 use std::alloc::Global;

@@ -1,7 +1,6 @@
 //! How zones are spelled where they are judged, and why one covers another not.
 
-use explain_facts::{Known, Means, Trying, is_against, lack_of, plural, push_form};
-use explain_findings::line_at;
+use explain_facts::{Known, Means, Trying, is_against, lack_of, line_at, plural, push_form};
 use footprints::{PlacedZone, mode_covers, same_object};
 use linear::Form;
 use lists::TextBuffer;
@@ -32,7 +31,7 @@ pub fn as_written(zone: &Zone) -> PlacedZone<'_> {
 
 /// A form with what phis or arguments put in for its registers.
 pub fn placed_form(means: &Means<'_>, moves: &[Move], form: &Form) -> Option<Form> {
-    means.form(&means.plus(means.sum(0), moves, form))
+    means.form(&means.placed(moves, form))
 }
 
 fn push_placed_form(known: Known<'_>, moves: &[Move], form: &Form, out: &mut TextBuffer) {
@@ -50,17 +49,6 @@ pub fn push_zone(known: Known<'_>, y: &PlacedZone<'_>, out: &mut TextBuffer) {
     write!(out, "{mode} {sigil}{name}");
     push_placed_form(known, y.moves, &y.zone.low, out);
     push_placed_form(known, y.moves, &y.zone.high, out);
-}
-
-/// high - low, each with what stands for its registers put in.
-pub fn between(
-    means: &Means<'_>,
-    for_high: &[Move],
-    high: &Form,
-    for_low: &[Move],
-    low: &Form,
-) -> Sum {
-    means.less(means.plus(means.sum(0), for_high, high), for_low, low)
 }
 
 /// The annotation's line as the text has it.
@@ -117,9 +105,9 @@ pub fn push_why_not(
         );
     }
     let means = trying.known.means;
-    let low = between(means, y.moves, &y.zone.low, z.moves, &z.zone.low);
+    let low = means.between(y.moves, &y.zone.low, z.moves, &z.zone.low);
     push_end(trying, "it begins", "too late", "begin", &low, out);
-    let high = between(means, z.moves, &z.zone.high, y.moves, &y.zone.high);
+    let high = means.between(z.moves, &z.zone.high, y.moves, &y.zone.high);
     push_end(trying, "it ends", "too early", "end", &high, out);
     true
 }
@@ -145,8 +133,12 @@ pub fn push_why_beside(
 ) {
     let known = trying.known;
     push_candidate(trying.text(), z.zone.line, out);
-    let before = between(known.means, z.moves, &z.zone.low, y.moves, &y.zone.high);
-    let after = between(known.means, y.moves, &y.zone.low, z.moves, &z.zone.high);
+    let before = known
+        .means
+        .between(z.moves, &z.zone.low, y.moves, &y.zone.high);
+    let after = known
+        .means
+        .between(y.moves, &y.zone.low, z.moves, &z.zone.high);
     let place = "behind where it begins";
     push_lack(known, "what is touched ends", &before, place, out);
     let place = "before where it ends";

@@ -1,16 +1,20 @@
 //! Faults of costs, each with both sides and the difference.
 
+use crate::finding::{Finding, Source, push_found};
+use crate::gap::facts_with;
+use crate::known::{Known, fact_lines, lack_of};
+use crate::means::Means;
 use crate::missing_budget::missing_budget;
+use crate::scene::Scene;
+use crate::spelling::{plural, push_form};
 use crate::sums::{Counted, Share, amount};
+use crate::trial::Matched;
+use crate::tries::Trying;
 use cfg::BlockEdges;
 use cost_table::{Table, Work, make_table, work_of};
-use explain_facts::{
-    Known, Matched, Means, Scene, Trying, edge_known, fact_lines, lack_of, plural, push_form,
-};
-use explain_findings::{Finding, Source, push_found};
 use linear::{Fact, Form};
 use lists::TextBuffer;
-use program::{Block, BlockId, Instruction, Left, Step, Terminator};
+use program::{Argument, Block, BlockId, Instruction, Left, Step, Terminator};
 use ranges::{
     BlockFacts, EdgeFacts, Effort, Move, Sum, Unanswered, argument_moves, block_facts, start_facts,
 };
@@ -46,37 +50,41 @@ fn trying_where<'s, 'a>(
 }
 
 impl Doing<'_, '_> {
-    /// What is left of the block behind what it does and what is left at all of these places; and says all of these, as the sides of that.
-    fn rest(&self, counted: Counted, shares: &[Share<'_>], sides: &mut TextBuffer) -> Sum {
-        let known = self.trying.known;
-        let means = known.means;
-        let unit = counted.unit();
-        let left = counted.of_left(&self.block.left);
-        let done = counted.of_work(self.work);
-        write!(sides, "  {unit}s: left ");
-        push_form(known.scene, left, sides);
-        write!(sides, ", the block does {done}");
-        let start = means.sum(0i128.saturating_sub(amount(done)));
-        let mut rest = means.plus(start, &[], left);
+    /// What is left of the block behind what it does and what is left at all of these places.
+    fn rest(&self, counted: Counted, shares: &[Share<'_>]) -> Sum {
+        let means = self.trying.known.means;
+        let done = amount(counted.of_work(self.work));
+        let start = means.sum(0i128.saturating_sub(done));
+        let mut rest = means.plus(start, &[], counted.of_left(&self.block.left));
         for share in shares {
-            let label = known.scene.label(share.to);
-            let left = counted.of_left(share.left);
-            write!(sides, ", left at %{label} ");
-            push_form(known.scene, left, sides);
-            rest = means.less(rest, share.moves, left);
+            rest = means.less(rest, share.moves, counted.of_left(share.left));
         }
         rest
+    }
+
+    /// The sides of that: what is left of the block, what it does, and what is left at these places.
+    fn push_sides(&self, counted: Counted, shares: &[Share<'_>], out: &mut TextBuffer) {
+        let scene = self.trying.known.scene;
+        let unit = counted.unit();
+        let done = counted.of_work(self.work);
+        write!(out, "  {unit}s: left ");
+        push_form(scene, counted.of_left(&self.block.left), out);
+        write!(out, ", the block does {done}");
+        for share in shares {
+            let label = scene.label(share.to);
+            write!(out, ", left at %{label} ");
+            push_form(scene, counted.of_left(share.left), out);
+        }
     }
 
     /// How much too little is left, if it is: a number, or what is to be shown.
     fn push_counted(&self, counted: Counted, shares: &[Share<'_>], out: &mut TextBuffer) {
         let known = self.trying.known;
-        let mut sides = TextBuffer::new(known.means.alloc);
-        let rest = self.rest(counted, shares, &mut sides);
+        let rest = self.rest(counted, shares);
         if known.shows(&rest) {
             return;
         }
-        out.push_str(known.means.text(sides).as_str());
+        self.push_sides(counted, shares, out);
         let lack = lack_of(known.means, &rest);
         match lack {
             Some(lack) => {
@@ -130,7 +138,11 @@ impl Doing<'_, '_> {
         let mut shares: Vec<Share<'_>> = Vec::new(means.alloc);
         for edge in edges {
             if let Some(share) = share_of(blocks, edge.to, edge.moves.as_slice()) {
-                let facts = means.items(edge_known(means.alloc, known.facts, edge));
+                let facts = means.items(facts_with(
+                    means.alloc,
+                    known.facts,
+                    edge.facts.as_slice(),
+                ));
                 let facts = facts.as_slice();
                 let there = Doing {
                     trying: trying_where(self.trying, facts, known.stated, known.line),
@@ -229,62 +241,42 @@ fn push_sum(trying: Trying<'_, '_>, what: &str, sum: &Sum, notes: &mut TextBuffe
     }
 }
 
-/// A form with the moves put in that is to be at least 0, where it is not shown to be.
-fn push_low(
-    trying: Trying<'_, '_>,
-    what: &str,
-    moves: &[Move],
-    form: &Form,
-    notes: &mut TextBuffer,
-) {
-    let means = trying.known.means;
-    push_sum(trying, what, &means.plus(means.sum(0), moves, form), notes);
-}
-
-/// A form that is to be at most a number, where it is not shown to be.
-fn push_high(trying: Trying<'_, '_>, what: &str, number: u64, form: &Form, notes: &mut TextBuffer) {
-    let means = trying.known.means;
-    let most = means.sum(i128::from(number));
-    push_sum(trying, what, &means.less(most, &[], form), notes);
+/// What is not shown of two sums that are to be at least 0, each behind what that says.
+fn unshown(trying: Trying<'_, '_>, first: (&str, &Sum), second: (&str, &Sum)) -> TextBuffer {
+    let mut notes = TextBuffer::new(trying.known.means.alloc);
+    push_sum(trying, first.0, first.1, &mut notes);
+    push_sum(trying, second.0, second.1, &mut notes);
+    notes
 }
 
 /// 701 of a block.
 fn push_start(trying: Trying<'_, '_>, left: &Left, findings: &mut Vec<Finding>) {
     let means = trying.known.means;
-    let mut notes = TextBuffer::new(means.alloc);
-    let what = "the self calls left are at least 0";
-    push_low(trying, what, &[], &left.self_calls, &mut notes);
-    let what = "the instructions left are at least 0";
-    push_low(trying, what, &[], &left.instructions, &mut notes);
+    let calls = means.placed(&[], &left.self_calls);
+    let instructions = means.placed(&[], &left.instructions);
+    let notes = unshown(
+        trying,
+        ("the self calls left are at least 0", &calls),
+        ("the instructions left are at least 0", &instructions),
+    );
     push_finding(means, findings, 701, left.line, notes, false);
 }
 
-/// 703 of a self call: what is not shown of the measure that it has, by itself and beside the one here; of a function without a `measure` line that it has
-/// none, where the measure stands on the function's own.
-fn push_call(trying: Trying<'_, '_>, step: &Step, findings: &mut Vec<Finding>) {
-    let Instruction::Call {
-        callee,
-        arguments,
-        ..
-    } = &step.instruction
-    else {
-        return;
-    };
+/// What is not shown of the measure that a self call has, by itself and beside the one here; of a function without a `measure` line that it has none, where
+/// the measure stands on the function's own.
+fn call_notes(trying: Trying<'_, '_>, arguments: &[Argument]) -> TextBuffer {
     let scene = trying.known.scene;
-    if callee.0 != scene.index {
-        return;
-    }
     let means = trying.known.means;
     let measure = &scene.function.measure;
     let form = &measure.form;
-    let moves = means.items(argument_moves(means.alloc, arguments.as_slice()));
-    let moves = moves.as_slice();
-    let mut notes = TextBuffer::new(means.alloc);
-    let what = "the call's measure is at least 0";
-    push_low(trying, what, moves, form, &mut notes);
-    let falls = means.less(means.plus(means.sum(-1), &[], form), moves, form);
-    let what = "the call's measure is below the one here";
-    push_sum(trying, what, &falls, &mut notes);
+    let moves = means.items(argument_moves(means.alloc, arguments));
+    let there = means.placed(moves.as_slice(), form);
+    let falls = means.less(means.plus(means.sum(-1), &[], form), moves.as_slice(), form);
+    let mut notes = unshown(
+        trying,
+        ("the call's measure is at least 0", &there),
+        ("the call's measure is below the one here", &falls),
+    );
     let after = scene.function.line;
     if !notes.is_empty() && measure.line == after {
         let name = scene.written.name.as_str();
@@ -295,18 +287,35 @@ fn push_call(trying: Trying<'_, '_>, step: &Step, findings: &mut Vec<Finding>) {
 write ;! measure F max N, after line {after}: F is a form of the parameters that each self call makes less, N the most that it may be"
         );
     }
-    push_finding(means, findings, 703, step.line, notes, false);
+    notes
+}
+
+/// 703 of a self call.
+fn push_call(trying: Trying<'_, '_>, step: &Step, findings: &mut Vec<Finding>) {
+    match &step.instruction {
+        Instruction::Call {
+            callee,
+            arguments,
+            ..
+        } if callee.0 == trying.known.scene.index => {
+            let notes = call_notes(trying, arguments.as_slice());
+            push_finding(trying.known.means, findings, 703, step.line, notes, false);
+        }
+        _ => {}
+    }
 }
 
 /// 703 at a function's head.
 fn push_measure(trying: Trying<'_, '_>, findings: &mut Vec<Finding>) {
     let means = trying.known.means;
     let measure = &trying.known.scene.function.measure;
-    let mut notes = TextBuffer::new(means.alloc);
-    let what = "the measure is at least 0";
-    push_low(trying, what, &[], &measure.form, &mut notes);
-    let what = "the measure is at most its bound";
-    push_high(trying, what, measure.bound, &measure.form, &mut notes);
+    let least = means.placed(&[], &measure.form);
+    let most = means.room(measure.bound, &measure.form);
+    let notes = unshown(
+        trying,
+        ("the measure is at least 0", &least),
+        ("the measure is at most its bound", &most),
+    );
     push_finding(means, findings, 703, measure.line, notes, false);
 }
 
@@ -315,13 +324,19 @@ fn push_budget(trying: Trying<'_, '_>, left: &Left, findings: &mut Vec<Finding>)
     let means = trying.known.means;
     let function = trying.known.scene.function;
     let budget = &function.budget;
-    let mut notes = TextBuffer::new(means.alloc);
-    let what = "the self calls left at the entry are within the budget";
-    let calls = budget.self_calls;
-    push_high(trying, what, calls, &left.self_calls, &mut notes);
-    let what = "the instructions left at the entry are within the budget";
-    let instructions = budget.instructions;
-    push_high(trying, what, instructions, &left.instructions, &mut notes);
+    let calls = means.room(budget.self_calls, &left.self_calls);
+    let instructions = means.room(budget.instructions, &left.instructions);
+    let mut notes = unshown(
+        trying,
+        (
+            "the self calls left at the entry are within the budget",
+            &calls,
+        ),
+        (
+            "the instructions left at the entry are within the budget",
+            &instructions,
+        ),
+    );
     let has_line = budget.line != function.line;
     if !notes.is_empty() && !has_line && trying.source.is_some() {
         notes = missing_budget(trying, left, means.text(notes).as_str());
@@ -406,7 +421,17 @@ fn push_blocks(
     }
 }
 
-fn findings_of(
+/// All faults of costs of a program whose numbers and zones are right, as far as the effort reaches: where they are, and what is not so.
+pub fn cost_findings(
+    alloc: Global,
+    matched: &Matched,
+    effort: &Effort,
+) -> Result<Vec<Finding>, Unanswered> {
+    told_cost_findings(alloc, None, matched, effort)
+}
+
+/// The same, each with what is known of it and lines to try, where there is a text for those.
+pub fn told_cost_findings(
     alloc: Global,
     source: Option<Source<'_>>,
     matched: &Matched,
@@ -425,23 +450,4 @@ fn findings_of(
     }
     means.finish()?;
     Ok(findings)
-}
-
-/// All faults of costs of a program whose numbers and zones are right, as far as the effort reaches: where they are, and what is not so.
-pub fn cost_findings(
-    alloc: Global,
-    matched: &Matched,
-    effort: &Effort,
-) -> Result<Vec<Finding>, Unanswered> {
-    findings_of(alloc, None, matched, effort)
-}
-
-/// The same of a text, each with what is known of it, and lines to try.
-pub fn told_cost_findings(
-    alloc: Global,
-    source: Source<'_>,
-    matched: &Matched,
-    effort: &Effort,
-) -> Result<Vec<Finding>, Unanswered> {
-    findings_of(alloc, Some(source), matched, effort)
 }

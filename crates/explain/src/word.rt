@@ -1,11 +1,11 @@
 //! Faults of the text: the word that was found, and what could stand there. What could is tried, by reading the line with it.
 
-use crate::finding::{Finding, Source, push_finding};
 use crate::left_out::push_left_out;
 use crate::row::{Row, row_of};
 use crate::table::looked_up;
+use explain_facts::{Finding, Source};
 use ir_reader::{judge_line, read};
-use lists::{OutOfMemory, TextBuffer};
+use lists::{ListBuffer, OutOfMemory, TextBuffer};
 use refusal::Refused;
 use std::alloc::Global;
 
@@ -50,7 +50,7 @@ const MOST_TOLD: usize = 20;
 const TYPED_POINTERS: &str = "i64* i32* i16* i8* i1* i64]*";
 
 /// A line of the text that begins at this byte of it, and what is told of it. Where memory is refused for what is told, or for what is tried to know it,
-/// [`Told::finish`] says so.
+/// [`Told::finding`] says so.
 #[derive(Drop)]
 struct Told<'a> {
     alloc: Global,
@@ -274,9 +274,21 @@ impl<'a> Told<'a> {
         }
     }
 
-    /// What is told.
-    fn finish(self) -> Result<String, OutOfMemory> {
+    /// The fault of the line, which is the one that the reader `named` or the one that it has by itself; with what there is to say of it where that `is_told`.
+    fn finding(
+        mut self,
+        named: Option<u16>,
+        is_told: bool,
+    ) -> Result<Option<Finding>, OutOfMemory> {
+        let fault = match named {
+            Some(_) => named,
+            None => self.fault_of(self.line),
+        };
+        if let (Some(rule), true) = (fault, is_told) {
+            self.push_notes(rule);
+        }
         let Told {
+            number: line,
             notes,
             is_refused,
             ..
@@ -284,7 +296,17 @@ impl<'a> Told<'a> {
         if is_refused {
             return Err(OutOfMemory);
         }
-        Ok(notes.finish()?)
+        let notes = notes.finish()?;
+        match fault {
+            Some(number) => Ok(Some(Finding {
+                number,
+                line,
+                cause: None,
+                follows: false,
+                notes,
+            })),
+            None => Ok(None),
+        }
     }
 }
 
@@ -295,13 +317,13 @@ pub fn word_findings(
     number: u16,
     line: u32,
 ) -> Result<Vec<Finding>, OutOfMemory> {
-    let mut findings: Vec<Finding> = Vec::new(alloc);
+    let mut findings: ListBuffer<Finding> = ListBuffer::new(alloc);
     let mut at: u32 = 0;
     let mut begin: usize = 0;
     for text in source.text.split('\n') {
         at = at.saturating_add(1);
         if at >= line {
-            let mut told = Told {
+            let told = Told {
                 alloc,
                 source,
                 begin,
@@ -310,21 +332,13 @@ pub fn word_findings(
                 notes: TextBuffer::new(alloc),
                 is_refused: false,
             };
-            let fault = if at == line {
-                Some(number)
-            } else {
-                told.fault_of(text)
-            };
-            if let Some(rule) = fault {
-                if findings.len() < MOST_TOLD {
-                    told.push_notes(rule);
-                }
-                push_finding(&mut findings, rule, at, told.finish()?)?;
-            } else {
-                told.finish()?;
+            let named = if at == line { Some(number) } else { None };
+            let is_told = findings.as_slice().len() < MOST_TOLD;
+            if let Some(found) = told.finding(named, is_told)? {
+                findings.push(found);
             }
         }
         begin = begin.saturating_add(text.len()).saturating_add(1);
     }
-    Ok(findings)
+    Ok(findings.finish()?)
 }

@@ -1,7 +1,7 @@
 //! Zones that have what others have: the ends of a line to put in.
 
-use crate::zone_text::{between, placed_form};
-use explain_facts::{Known, Means, raised, shortfall};
+use crate::zone_text::placed_form;
+use explain_facts::{Known, Means, coefficient, raised, shortfall};
 use footprints::{PlacedZone, mode_covers};
 use linear::Form;
 use lists::ListBuffer;
@@ -34,14 +34,9 @@ pub fn lowest(known: Known<'_>, form: &Form) -> Option<Form> {
     }
 }
 
-/// Whether one form is known to be at least another.
-fn is_at_least(known: Known<'_>, high: &Form, low: &Form) -> bool {
-    known.shows(&between(known.means, &[], high, &[], low))
-}
-
 /// An old end where one form is known to be at least another, else a new one.
 fn kept(known: Known<'_>, high: &Form, low: &Form, old: &Form, new: &Form) -> Form {
-    let end = if is_at_least(known, high, low) {
+    let end = if known.is_at_least(high, low) {
         old
     } else {
         new
@@ -99,9 +94,9 @@ pub fn touched_zone(means: &Means<'_>, y: &PlacedZone<'_>) -> Option<Zone> {
 
 /// The one of two ends that reaches further: ours where one form is known to be at least another, the other one where it is known to be at most that.
 fn further(known: Known<'_>, high: &Form, low: &Form, ours: &Form, other: &Form) -> Option<Form> {
-    if is_at_least(known, high, low) {
+    if known.is_at_least(high, low) {
         Some(known.means.copy(ours))
-    } else if is_at_least(known, low, high) {
+    } else if known.is_at_least(low, high) {
         Some(known.means.copy(other))
     } else {
         None
@@ -124,16 +119,6 @@ pub fn in_numbers(known: Known<'_>, zone: &Zone) -> Option<Zone> {
     };
     let high = means.form(&means.sum(0i128.saturating_sub(below)));
     with_ends(zone, zone.object, lowest(known, &zone.low), high)
-}
-
-/// The coefficient that a register has in a form.
-pub fn coefficient(form: &Form, register: RegisterId) -> i64 {
-    for term in form.terms.as_slice() {
-        if term.register == register {
-            return term.coefficient;
-        }
-    }
-    0
 }
 
 /// By how much what a phi takes is more than the phi, where that is known to be one number.
@@ -178,7 +163,10 @@ fn at_target(known: Known<'_>, moves: &[Move], back: &[Move], form: &Form) -> Op
             None => return None,
         }
     }
-    placed_form(known.means, back, &raised(known.means, form, shift)?)
+    match raised(known.means, form, shift) {
+        Some(form) => placed_form(known.means, back, &form),
+        None => None,
+    }
 }
 
 /// Of each phi that takes a register along an edge, the phi in place of that.

@@ -2,9 +2,9 @@
 
 use crate::found::Found;
 use crate::spot::{Spot, spot_where};
-use crate::widen::{both, coefficient, lowest, touched_zone, with_ends, zone_at_target};
+use crate::widen::{both, lowest, touched_zone, with_ends, zone_at_target};
 use crate::zone_text::{as_written, placed, push_why_not, push_zone};
-use explain_facts::Means;
+use explain_facts::{Means, coefficient};
 use footprints::{covers, is_empty, passes_on, same_object};
 use linear::Form;
 use linear_shown::FactBranches;
@@ -45,13 +45,6 @@ fn goes_on(way: Way, region: RegisterId) -> bool {
         Way::Branch | Way::Continued => true,
         Way::Detached => false,
         Way::Synced(synced) => synced.0 != region.0,
-    }
-}
-
-fn pending_at<'a>(function: &'a Function, edge: &EdgeFacts) -> &'a [Pending] {
-    match function.blocks.as_slice().get(edge.to.0) {
-        Some(block) => block.pending.as_slice(),
-        None => &[],
     }
 }
 
@@ -261,9 +254,8 @@ impl Spot<'_, '_> {
     ) {
         let known = self.trying.known;
         let means = known.means;
-        let function = known.scene.function;
         let pending = self.place.pending;
-        let blocks = function.blocks.as_slice();
+        let blocks = known.scene.function.blocks.as_slice();
         if means.is_so(passes_on(means.alloc, blocks, facts, pending, terminator, edge)) {
             return;
         }
@@ -273,7 +265,10 @@ impl Spot<'_, '_> {
             spot: spot_where(*self, &there, known.stated, known.line),
             edge,
             owed: owed.as_slice(),
-            pending: pending_at(function, edge),
+            pending: match blocks.get(edge.to.0) {
+                Some(block) => block.pending.as_slice(),
+                None => &[],
+            },
         };
         passing.push_notes(found);
     }

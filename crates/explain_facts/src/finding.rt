@@ -23,27 +23,8 @@ pub struct Source<'a> {
     pub state: RandomState,
 }
 
-/// Adds a fault that stands for itself, or what there is to say of it to the last one, if that is the same.
-pub fn push_finding(
-    findings: &mut Vec<Finding>,
-    number: u16,
-    line: u32,
-    notes: String,
-) -> Result<(), OutOfMemory> {
-    push_found(
-        findings,
-        Finding {
-            number,
-            line,
-            cause: None,
-            follows: false,
-            notes,
-        },
-    )
-}
-
 /// Adds a fault, or what there is to say of it to the last one, if that is the same. Both together follow from an earlier one only if each does.
-pub fn push_found(findings: &mut Vec<Finding>, found: Finding) -> Result<(), OutOfMemory> {
+pub(crate) fn push_found(findings: &mut Vec<Finding>, found: Finding) -> Result<(), OutOfMemory> {
     if let Some(last) = findings.last_mut() {
         if last.number == found.number && last.line == found.line {
             last.notes.push_str(found.notes.as_str())?;

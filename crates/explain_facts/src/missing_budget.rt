@@ -1,6 +1,8 @@
 //! What is said of a function without a `budget` line, and the line that would do.
 
-use explain_facts::{Known, Trying, shortfall};
+use crate::gap::shortfall;
+use crate::known::Known;
+use crate::tries::Trying;
 use linear::Form;
 use lists::TextBuffer;
 use program::Left;

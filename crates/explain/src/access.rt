@@ -6,8 +6,7 @@ use crate::spot::{Spot, spot_where};
 use crate::widen::touched_zone;
 use crate::zone_text::{as_written, push_why_beside, push_why_not, push_zone};
 use cfg::BlockEdges;
-use explain_facts::{Known, Matched, Means, Scene, Trying, fact_lines};
-use explain_findings::{Finding, Source};
+use explain_facts::{Finding, Known, Matched, Means, Scene, Source, Trying, fact_lines};
 use footprints::{
     Place, PlacedZone, address_cell, cells_zone, conflict, end_use, is_allowed, is_clear,
     pointers_of, put_object, step_use,

@@ -3,8 +3,7 @@
 use crate::found::{Found, Touched};
 use crate::widen::{touched_zone, widened};
 use crate::zone_text::{as_written, placed, push_zone};
-use explain_facts::{Known, Trying, match_text};
-use explain_findings::{Source, with_line_at, with_line_before};
+use explain_facts::{Known, Put, Source, Trying, taken, with_line};
 use footprints::Place;
 use linear_shown::Known as KnownFacts;
 use lists::TextBuffer;
@@ -67,12 +66,12 @@ impl Spot<'_, '_> {
 
     /// Whether another text is right up to what is known of numbers.
     fn is_right(&self, changed: &str) -> bool {
-        let means = self.trying.known.means;
-        if !means.spend(self.source.text.len().saturating_mul(STEPS_A_BYTE)) {
-            return false;
-        }
-        let matched = match_text(means.alloc, self.source.state, changed.as_bytes(), true);
-        means.found(matched).is_some()
+        let source = Source {
+            text: changed,
+            state: self.source.state,
+        };
+        let steps = self.source.text.len().saturating_mul(STEPS_A_BYTE);
+        taken(self.trying.known.means, source, steps).is_some()
     }
 
     /// Adds the line of a zone that is touched, behind what it begins with, if the text with it is right up to what is known of numbers; false where it is
@@ -91,23 +90,20 @@ impl Spot<'_, '_> {
         let means = known.means;
         let text = self.source.text;
         let mut line = begun;
-        let (place, number) = match old {
+        let (put, place, number) = match old {
             Some(old) => {
                 let here = touched_zone(means, &placed(old, moves));
                 let wide = widened(known, old, here.as_ref().unwrap_or(new), touched, new);
                 push_zone(known, &as_written(&wide), &mut line);
-                ("in place of", old.line)
+                (Put::InPlaceOf(old.line), "in place of", old.line)
             }
             None => {
                 push_zone(known, &as_written(new), &mut line);
-                ("after", after)
+                (Put::Before(after.saturating_add(1)), "after", after)
             }
         };
         let line = means.text(line);
-        let changed = means.made(match old {
-            Some(_) => with_line_at(means.alloc, text, number, line.as_str()),
-            None => with_line_before(means.alloc, text, number.saturating_add(1), line.as_str()),
-        });
+        let changed = means.made(with_line(means.alloc, text, put, line.as_str()));
         let is_right = self.is_right(changed.as_str());
         if is_right {
             writeln!(out, "    try: {line}, {place} line {number}");

@@ -1,13 +1,17 @@
 //! What is said of a block without a `left` line, and the line that would do.
 
 use crate::cost::Doing;
+use crate::gap::coefficient;
+use crate::known::Known;
+use crate::means::Means;
 use crate::rounds::push_rounds;
+use crate::scene::Scene;
+use crate::spelling::{plural, push_form};
 use crate::sums::{Counted, Share, amount};
-use explain_facts::{Known, Means, Scene, plural, push_form};
 use linear::{Fact, Form, RegisterId};
 use lists::TextBuffer;
 use program::{Function, Instruction, Left, Step};
-use ranges::start_facts;
+use ranges::{Sum, start_facts};
 
 /// A number that no coefficient of a form reaches: 2^24.
 const FACTOR_LIMIT: u64 = 16_777_216;
@@ -27,16 +31,6 @@ fn defined(step: &Step) -> Option<RegisterId> {
         | Instruction::StoreZeros { .. }
         | Instruction::AtomicAdd { .. } => None,
     }
-}
-
-/// The coefficient that a register has in a form.
-fn coefficient(form: &Form, register: RegisterId) -> i64 {
-    for term in form.terms.as_slice() {
-        if term.register == register {
-            return term.coefficient;
-        }
-    }
-    0
 }
 
 /// A form that is at least this one and does not name the register, by a fact that takes it out of the form as it has the coefficient 1 or -1 there.
@@ -77,29 +71,29 @@ fn has_left(function: &Function, share: &Share<'_>) -> bool {
     }
 }
 
-/// Whether one form is known to be at least another.
-fn is_at_least(known: Known<'_>, high: &Form, low: &Form) -> bool {
-    let means = known.means;
-    known.shows(&means.less(means.plus(means.sum(0), &[], high), &[], low))
-}
-
 /// Whether what is left in one way is enough for another one.
 fn is_enough(known: Known<'_>, one: &Left, other: &Left) -> bool {
-    is_at_least(known, &one.self_calls, &other.self_calls)
-        && is_at_least(known, &one.instructions, &other.instructions)
+    known.is_at_least(&one.self_calls, &other.self_calls)
+        && known.is_at_least(&one.instructions, &other.instructions)
 }
 
 impl Doing<'_, '_> {
+    /// What the block does, and what is left at all of these places.
+    fn spent(&self, counted: Counted, shares: &[Share<'_>]) -> Sum {
+        let means = self.trying.known.means;
+        let mut sum = means.sum(amount(counted.of_work(self.work)));
+        for share in shares {
+            sum = means.plus(sum, share.moves, counted.of_left(share.left));
+        }
+        sum
+    }
+
     /// What is to be left at the block's start for what it does and for what comes next: a form that is at least that one at the block's end, and names no
     /// register that the block defines, as far as facts let it.
     fn needed(&self, counted: Counted, shares: &[Share<'_>]) -> Option<Form> {
         let known = self.trying.known;
         let means = known.means;
-        let mut sum = means.sum(amount(counted.of_work(self.work)));
-        for share in shares {
-            sum = means.plus(sum, share.moves, counted.of_left(share.left));
-        }
-        let Some(mut form) = means.form(&sum) else {
+        let Some(mut form) = means.form(&self.spent(counted, shares)) else {
             return None;
         };
         for step in self.block.steps.as_slice().iter().rev() {
@@ -161,7 +155,7 @@ impl Doing<'_, '_> {
             ..known
         };
         let zero = means.zero();
-        is_at_least(start, &left.self_calls, &zero) && is_at_least(start, &left.instructions, &zero)
+        start.is_at_least(&left.self_calls, &zero) && start.is_at_least(&left.instructions, &zero)
     }
 
     /// A `left` line of the block that is enough for all ways behind it, where one of them wants as much as each and the text can have the line.

@@ -1,8 +1,7 @@
 //! Faults of zones with what they touch: one that touches no more than an earlier one of its task does may follow from that.
 
 use crate::zone_text::as_written;
-use explain_facts::Means;
-use explain_findings::Finding;
+use explain_facts::{Finding, Means};
 use footprints::covers;
 use linear_shown::Known;
 use lists::TextBuffer;

@@ -25,19 +25,14 @@ impl Spot<'_, '_> {
         self.push_zone_line(line, old, &[], touched, new, self.task, out)
     }
 
-    /// Whether a zone between numbers lies in its object.
-    fn is_inside(&self, zone: &Zone) -> bool {
-        let cells = i128::from(self.trying.known.scene.cells(zone.object));
-        zone.low.constant >= 0 && zone.high.constant <= cells
-    }
-
-    /// A line that covers what is touched: with its own ends, or with numbers where the line cannot name its registers.
+    /// A line that covers what is touched: with its own ends, or with numbers, where the line cannot name its registers and those lie in the object.
     pub fn push_cover_line(&self, touched: &Zone, out: &mut TextBuffer) {
         if self.push_with_ends(touched, touched, out) {
             return;
         }
         if let Some(numbers) = in_numbers(self.trying.known, touched) {
-            if self.is_inside(&numbers) {
+            let cells = i128::from(self.trying.known.scene.cells(numbers.object));
+            if numbers.low.constant >= 0 && numbers.high.constant <= cells {
                 self.push_with_ends(touched, &numbers, out);
             }
         }

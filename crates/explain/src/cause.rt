@@ -54,18 +54,6 @@ fn has_global_of(row: &Row<'_>, call: &Row<'_>) -> bool {
     false
 }
 
-/// Whether a pointer of the line is a global.
-fn has_global(row: &Row<'_>) -> bool {
-    for index in 0..row.tokens.len() {
-        if let Some(name) = row.behind(index, "ptr") {
-            if name.starts_with('@') {
-                return true;
-            }
-        }
-    }
-    false
-}
-
 /// The line in which the function begins that a line calls.
 fn callee_line(rows: &[Row<'_>], call: &Row<'_>) -> Option<u32> {
     for row in rows {
@@ -97,7 +85,7 @@ fn call_cause(rows: &[Row<'_>], function: &[Row<'_>], row: &Row<'_>) -> &'static
         "one object is passed twice"
     } else if is_named_by_callee(rows, row) {
         "a global is passed to a function that names it"
-    } else if has_global(row) {
+    } else if has_global_of(row, row) {
         "an object is smaller than its parameter asks, or what the callee calls names a global that is passed"
     } else {
         "an object is smaller than its parameter asks"

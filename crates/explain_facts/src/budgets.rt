@@ -1,6 +1,8 @@
 //! What budgets have left over.
 
-use explain_facts::{Means, Scene, push_form};
+use crate::means::Means;
+use crate::scene::Scene;
+use crate::spelling::push_form;
 use linear::Form;
 use lists::TextBuffer;
 use program::Program;
@@ -8,7 +10,7 @@ use syntax::Module;
 
 /// What a number is more than a form.
 fn push_over(means: &Means<'_>, scene: &Scene<'_>, number: u64, form: &Form, out: &mut TextBuffer) {
-    match means.form(&means.less(means.sum(i128::from(number)), &[], form)) {
+    match means.form(&means.room(number, form)) {
         Some(form) => push_form(scene, &form, out),
         None => out.push_str("?"),
     }

@@ -1,10 +1,10 @@
 //! What there is to say of a line that breaks a rule of names, blocks or regions.
 
 use crate::cause::cause_of;
-use crate::finding::{Finding, Source};
 use crate::row::{Row, function_of, is_among, rows_of};
+use explain_facts::{Finding, Source};
 use lists::{OutOfMemory, TextBuffer};
-use std::alloc::Global;
+use std::alloc::{AllocError, Global};
 
 /// A line of the text, with the lines of its function.
 #[derive(Clone, Copy)]
@@ -69,17 +69,12 @@ fn push_definitions(out: &mut TextBuffer, site: Site<'_, '_>, name: &str) {
     }
 }
 
-/// Whether a line ends a block and goes on to others.
-fn is_ending(row: &Row<'_>) -> bool {
-    is_among(&["br", "switch", "detach", "sync"], row.word(0))
-}
-
 /// What leads to the block of the line.
 fn push_ways(out: &mut TextBuffer, site: Site<'_, '_>) {
     let label = label_at(site.function, site.line);
     let mut is_reached = false;
     for row in site.function {
-        if is_ending(row) && row.has(label) {
+        if is_among(&["br", "switch", "detach", "sync"], row.word(0)) && row.has(label) {
             is_reached = true;
             write!(out, "    to %{label} leads ");
             push_row(out, row, site.function);
@@ -101,16 +96,26 @@ fn push_regions(out: &mut TextBuffer, site: Site<'_, '_>) {
     }
 }
 
-/// What there is to say of a line that breaks this rule: from 201 to 206 and at 401 where its names are defined, of the graph what leads to its
-/// block, of the regions what the function does with them, and of a rule with several causes which one it is, if the line tells.
-pub fn name_finding(
+/// Where the names of the line are defined.
+fn push_all_definitions(
     alloc: Global,
-    source: Source<'_>,
+    out: &mut TextBuffer,
+    site: Site<'_, '_>,
+    row: &Row<'_>,
+) -> Result<(), AllocError> {
+    for name in &row.names(alloc)? {
+        push_definitions(out, site, name);
+    }
+    Ok(())
+}
+
+/// What there is to say of a line of these that breaks this rule.
+fn finding_among(
+    alloc: Global,
+    rows: &[Row<'_>],
     number: u16,
     line: u32,
 ) -> Result<Finding, OutOfMemory> {
-    let rows = rows_of(alloc, source.text)?;
-    let rows = rows.as_slice();
     let site = Site {
         rows,
         function: function_of(rows, line),
@@ -121,9 +126,7 @@ pub fn name_finding(
     if let Some(row) = row_at(rows, line) {
         cause = cause_of(rows, site.function, row, number);
         if matches!(number, 201..=206 | 401) {
-            for name in &row.names(alloc)? {
-                push_definitions(&mut notes, site, name);
-            }
+            push_all_definitions(alloc, &mut notes, site, row)?;
         }
     }
     if matches!(number, 211 | 212 | 306 | 307) {
@@ -139,4 +142,16 @@ pub fn name_finding(
         follows: false,
         notes: notes.finish()?,
     })
+}
+
+/// What there is to say of a line that breaks this rule: from 201 to 206 and at 401 where its names are defined, of the graph what leads to its
+/// block, of the regions what the function does with them, and of a rule with several causes which one it is, if the line tells.
+pub fn name_finding(
+    alloc: Global,
+    source: Source<'_>,
+    number: u16,
+    line: u32,
+) -> Result<Finding, OutOfMemory> {
+    let rows = rows_of(alloc, source.text)?;
+    finding_among(alloc, rows.as_slice(), number, line)
 }
