@@ -27,10 +27,10 @@ HasCellsOf program globals = (g : ℕ) → global_cells (slice_get program.globa
 abbrev pub RunsAreSafe : Type 0
 RunsAreSafe =
     (text : List ℕ) (program : Program) → IsProgramOf text program → (arguments : List ℤ) (memory : Memory) →
-        AreTaken program arguments →
+    AreTaken program arguments →
     HasGlobals program memory →
     (globals : List ℕ) → HasCellsOf program globals → RunsSafely globals program (budget_of program)
-        (starting program arguments memory)
+    (starting program arguments memory)
 
 -- numbers of i32 that an instruction reads are numbers of that type
 abbrev pub ItemsFit : Type 0
@@ -41,6 +41,6 @@ ItemsFit = (prog : Program) → HasKinds prog → (f : Frame) → HasKindedRegis
 abbrev pub TextsFit : Type 0
 TextsFit =
     (text : List ℕ) (program : Program) → IsProgramOf text program → (places : Places) (moves : ℕ) →
-        length program.globals ≤ length places.globals →
+    length program.globals ≤ length places.globals →
     places.allocas ≡ map (λ (f : Function). alloca_starts f.allocas) program.functions →
-        places.codes ≡ program_codes program → HasMoves program moves → TextFits program places moves
+    places.codes ≡ program_codes program → HasMoves program moves → TextFits program places moves

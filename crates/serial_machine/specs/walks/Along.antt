@@ -20,14 +20,14 @@ pub record GoesOnTo (prog : Program) (o : Outcome) (n : ℕ) (s : Run) : Type 0 
 abbrev pub WalksGoOn : Type 0
 WalksGoOn =
     (prog : Program) (arguments : List ℤ) (memory : Memory) (o : Outcome) (z : ℤ) →
-        IsSerialMeaning prog arguments memory o → o.ending ≡ Gave (Some z) →
+    IsSerialMeaning prog arguments memory o → o.ending ≡ Gave (Some z) →
     (n peak : ℕ) (s : Run) → Walk prog (starting prog arguments memory) n peak s → GoesOnTo prog o n s
 
 -- where a serial run keeps good, and it is so of the first frame, it is so of the frame on top of each stack
 abbrev pub KeepsAlong : Program → Says → Finds → Type 0
 KeepsAlong prog good post =
     KeptSerially prog Nothing good post → (arguments : List ℤ) (memory : Memory) →
-        good [] (root_frame prog arguments) (globals_of memory) →
+    good [] (root_frame prog arguments) (globals_of memory) →
     (n peak : ℕ) (s : Run) → Walk prog (starting prog arguments memory) n peak s → good s.path s.frame s.memory
 
 -- so it is whatever is kept: here of conditions that are given by tests
