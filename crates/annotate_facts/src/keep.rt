@@ -113,13 +113,14 @@ impl<'a> Known<'a> {
         let mut shown = self.heap.list();
         let mut last = None;
         for number in 0..self.edges.len() {
-            let edge = self.edges[number];
-            if last != Some(edge.from) {
-                last = Some(edge.from);
-                shown = self.shown_by(edge.from);
+            if let Some(edge) = self.edges.get(number).copied() {
+                if last != Some(edge.from) {
+                    last = Some(edge.from);
+                    shown = self.shown_by(edge.from);
+                }
+                self.add(edge, shown.as_slice());
+                extend(self.heap, &mut self.into, edge.to, &[number]);
             }
-            self.add(edge, shown.as_slice());
-            extend(self.heap, &mut self.into, edge.to, &[number]);
         }
     }
 
