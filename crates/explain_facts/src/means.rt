@@ -176,29 +176,32 @@ impl<'a> Means<'a> {
         }
     }
 
-    /// A sum, and a form so many times with the moves put in.
-    fn add(&self, sum: Sum, factor: i64, moves: &[Move], form: &Form) -> Sum {
+    /// A sum, and a form with the moves put in.
+    pub fn plus(&self, sum: Sum, moves: &[Move], form: &Form) -> Sum {
         let Sum { constant, parts } = sum;
         let side = side_of(form);
         let mut parts = parts.into_vec();
-        if push_parts(&mut parts, moves, factor, side.terms).is_err() {
+        if push_parts(&mut parts, moves, 1, side.terms).is_err() {
             self.note(Unanswered::OutOfMemory);
         }
-        let more = side.constant.saturating_mul(i128::from(factor));
         Sum {
-            constant: constant.saturating_add(more),
+            constant: constant.saturating_add(side.constant),
             parts: Seq::from_vec(parts),
         }
     }
 
-    /// A sum, and a form with the moves put in.
-    pub fn plus(&self, sum: Sum, moves: &[Move], form: &Form) -> Sum {
-        self.add(sum, 1, moves, form)
-    }
-
     /// A sum, less a form with the moves put in.
     pub fn less(&self, sum: Sum, moves: &[Move], form: &Form) -> Sum {
-        self.add(sum, -1, moves, form)
+        let Sum { constant, parts } = sum;
+        let side = side_of(form);
+        let mut parts = parts.into_vec();
+        if push_parts(&mut parts, moves, -1, side.terms).is_err() {
+            self.note(Unanswered::OutOfMemory);
+        }
+        Sum {
+            constant: constant.saturating_sub(side.constant),
+            parts: Seq::from_vec(parts),
+        }
     }
 
     /// A form with the moves put in.

@@ -41,20 +41,15 @@ impl Matched {
     }
 }
 
-fn paired(alloc: Global, state: RandomState, text: &[u8]) -> Result<(Graph, Regions), Refused> {
-    let typed = check_types(alloc, state, read(alloc, state, text)?)?;
-    let graph = graph(alloc, typed.program)?;
-    let regions = regions(alloc, &graph)?;
-    Ok((graph, regions))
-}
-
 fn judged(
     alloc: Global,
     state: RandomState,
     text: &[u8],
     is_defined: bool,
 ) -> Result<Matched, Refused> {
-    let (graph, regions) = paired(alloc, state, text)?;
+    let typed = check_types(alloc, state, read(alloc, state, text)?)?;
+    let graph = graph(alloc, typed.program)?;
+    let regions = regions(alloc, &graph)?;
     if is_defined {
         defined(alloc, &graph, &regions)?;
     }
