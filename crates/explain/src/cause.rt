@@ -43,7 +43,7 @@ fn has_element(function: &[Row<'_>], row: &Row<'_>) -> bool {
 }
 
 /// Whether a global among the pointers of a call stands in a line.
-fn has_global_of(row: &Row<'_>, call: &Row<'_>) -> bool {
+fn has_global_of<'t>(row: &Row<'t>, call: &Row<'t>) -> bool {
     for index in 0..call.tokens.len() {
         if let Some(name) = call.behind(index, "ptr") {
             if name.starts_with('@') && row.has(name) {

@@ -280,9 +280,10 @@ impl<'a> Told<'a> {
         named: Option<u16>,
         is_told: bool,
     ) -> Result<Option<Finding>, OutOfMemory> {
+        let line = self.line;
         let fault = match named {
             Some(_) => named,
-            None => self.fault_of(self.line),
+            None => self.fault_of(line),
         };
         if let (Some(rule), true) = (fault, is_told) {
             self.push_notes(rule);

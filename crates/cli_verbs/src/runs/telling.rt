@@ -118,15 +118,24 @@ fn tell_all<C: Course, W: Write>(
     Ok(())
 }
 
-/// A run that has begun, told.
+/// A run that has begun, told with these names and lines.
 fn tell_from<C: Course, W: Write>(
     job: &Job<'_>,
-    words: Words<'_>,
+    names: &Names<'_>,
+    lines: &[&str],
     watch: &mut Watch<'_>,
     course: &mut C,
+    crew: Crew<'_>,
+    whole: Option<Whole>,
     wanted: Wanted,
     output: &mut W,
 ) -> Result<Told, Halt> {
+    let words = Words {
+        names,
+        lines,
+        crew,
+        whole,
+    };
     let mut teller = teller_of(job, words, watch, wanted)?;
     tell_all(words, watch, &mut teller, course, output)?;
     let answer = answer_of(job.alloc, words, watch.machine())?;
@@ -148,13 +157,10 @@ fn tell_named<C: Course, W: Write>(
         && let Ok(names) = Names::of(job.alloc, job.verified.program(), &module)
         && let Ok(lines) = job.lines()
     {
-        let words = Words {
-            names: &names,
-            lines: lines.as_slice(),
-            crew,
-            whole,
-        };
-        return tell_from(job, words, watch, course, wanted, output);
+        let lines = lines.as_slice();
+        return tell_from(
+            job, &names, lines, watch, course, crew, whole, wanted, output,
+        );
     }
     Err(Halt::Memory)
 }
