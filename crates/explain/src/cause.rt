@@ -43,10 +43,22 @@ fn has_element(function: &[Row<'_>], row: &Row<'_>) -> bool {
 }
 
 /// Whether a global among the pointers of a call stands in a line.
-fn has_global_of<'t>(row: &Row<'t>, call: &Row<'t>) -> bool {
+fn has_global_of(row: &Row<'_>, call: &Row<'_>) -> bool {
     for index in 0..call.tokens.len() {
         if let Some(name) = call.behind(index, "ptr") {
             if name.starts_with('@') && row.has(name) {
+                return true;
+            }
+        }
+    }
+    false
+}
+
+/// Whether a pointer of the line is a global.
+fn has_global(row: &Row<'_>) -> bool {
+    for index in 0..row.tokens.len() {
+        if let Some(name) = row.behind(index, "ptr") {
+            if name.starts_with('@') {
                 return true;
             }
         }
@@ -85,7 +97,7 @@ fn call_cause(rows: &[Row<'_>], function: &[Row<'_>], row: &Row<'_>) -> &'static
         "one object is passed twice"
     } else if is_named_by_callee(rows, row) {
         "a global is passed to a function that names it"
-    } else if has_global_of(row, row) {
+    } else if has_global(row) {
         "an object is smaller than its parameter asks, or what the callee calls names a global that is passed"
     } else {
         "an object is smaller than its parameter asks"
