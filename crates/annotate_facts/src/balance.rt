@@ -114,6 +114,24 @@ fn parts_beside<'a>(
     parts
 }
 
+/// What one has risen by, less what another one and so many times a third have, where that stays 0 from round to round.
+fn balance_of<'a>(
+    heap: &'a Heap,
+    function: &'a Function,
+    whole: Riser<'a>,
+    one: Riser<'a>,
+    other: Riser<'a>,
+    sign: i128,
+) -> Option<Sum<'a>> {
+    if !is_balanced(heap, function, whole, one, other, sign) {
+        return None;
+    }
+    let mut balance = whole.risen(heap, 1);
+    balance.add(&one.risen(heap, 1), -1);
+    balance.add(&other.risen(heap, sign), -1);
+    Some(balance)
+}
+
 /// What a phi of a head has risen by, less what two others have together or apart, where that stays 0 from round to round.
 pub fn balances_of<'a>(
     heap: &'a Heap,
@@ -129,12 +147,10 @@ pub fn balances_of<'a>(
     for (number, one) in parts.iter().enumerate() {
         for (place, other) in parts.iter().enumerate() {
             for sign in &[1i128, -1] {
-                let is_new = place > number || *sign < 0 && place != number;
-                if is_new && is_balanced(heap, function, whole, *one, *other, *sign) {
-                    let mut balance = whole.risen(heap, 1);
-                    balance.add(&one.risen(heap, 1), -1);
-                    balance.add(&other.risen(heap, *sign), -1);
-                    heap.push(&mut balances, balance);
+                if place > number || *sign < 0 && place != number {
+                    if let Some(balance) = balance_of(heap, function, whole, *one, *other, *sign) {
+                        heap.push(&mut balances, balance);
+                    }
                 }
             }
         }

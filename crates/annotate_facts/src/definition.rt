@@ -4,7 +4,7 @@ use crate::edge::{definition_in, phi_value, register_of};
 use crate::heap::Heap;
 use crate::sum::Sum;
 use lists::Name;
-use syntax::{BinaryOperator, Function, Instruction, Operand, Phi, Step};
+use syntax::{BinaryOperator, Block, Function, Instruction, Operand, Phi, Step};
 
 /// How often an operator's left and right operand stand in the sum that it makes, but for what its width cannot hold; none where it makes
 /// no sum.
@@ -80,7 +80,7 @@ impl<'a> Equation<'a> {
 }
 
 /// Puts in what an instruction's register is made of, if the sum has it; whether the sum is still one.
-fn put_in<'a>(heap: &'a Heap, sum: &mut Sum<'a>, instruction: &'a Instruction) -> bool {
+pub fn put_in<'a>(heap: &'a Heap, sum: &mut Sum<'a>, instruction: &'a Instruction) -> bool {
     match register_of(instruction) {
         Some(name) if sum.has(name) => match definition_of(heap, instruction) {
             Some(value) => {
@@ -114,4 +114,18 @@ pub fn moved<'a>(heap: &'a Heap, sum: &Sum<'a>, label: &Name, phis: &'a [Phi]) -
         }
     }
     moved
+}
+
+/// What is to be so before the steps of a block, for a sum to be at a block with these phis to which an edge leads from there. None where that is no sum.
+pub fn moved_before<'a>(
+    heap: &'a Heap,
+    sum: &Sum<'a>,
+    from: &'a Block,
+    phis: &'a [Phi],
+) -> Option<Sum<'a>> {
+    sum_before(
+        heap,
+        &moved(heap, sum, &from.label, phis),
+        from.steps.as_slice(),
+    )
 }

@@ -1,6 +1,6 @@
 //! What inequalities, and the conditions of branches, say.
 
-use crate::definition::{definition_of, sum_before};
+use crate::definition::{put_in, sum_before};
 use crate::edge::{Edge, Way, block_at, is_used_beside, register_of};
 use crate::heap::Heap;
 use crate::learned::facts_of;
@@ -141,33 +141,34 @@ impl<'a> Facts<'a> {
     }
 
     /// A fact of a register, where others that the block makes of sums and that no other block takes are replaced by these.
-    fn travelling(&self, index: usize, steps: &'a [Step], name: &str, fact: Sum<'a>) -> Sum<'a> {
-        let mut sum = fact;
+    fn travelling(&self, index: usize, steps: &'a [Step], name: &str, fact: &Sum<'a>) -> Sum<'a> {
+        let mut sum = fact.copy();
         for step in steps.iter().rev() {
-            match register_of(&step.instruction) {
-                Some(own) if own != name && sum.has(own) => {
-                    if !is_used_beside(self.function, index, own) {
-                        if let Some(value) = definition_of(self.heap, &step.instruction) {
-                            sum.put(own, &value);
-                        }
-                    }
+            if let Some(own) = register_of(&step.instruction) {
+                if own != name && !is_used_beside(self.function, index, own) {
+                    put_in(self.heap, &mut sum, &step.instruction);
                 }
-                _ => {}
             }
         }
         sum
     }
 
+    /// States what an instruction of these steps makes of its register.
+    fn make(&mut self, index: usize, steps: &'a [Step], name: &'a str, made: &'a Instruction) {
+        for fact in &facts_of(self.heap, name, made) {
+            let fact = self.travelling(index, steps, name, fact);
+            self.add(fact);
+        }
+    }
+
     /// States what a block's own instructions make of registers that other blocks take.
     pub fn make_all(&mut self, index: usize, steps: &'a [Step]) {
         for step in steps {
-            if let Some(name) = register_of(&step.instruction) {
-                if is_used_beside(self.function, index, name) {
-                    for fact in facts_of(self.heap, name, &step.instruction) {
-                        let fact = self.travelling(index, steps, name, fact);
-                        self.add(fact);
-                    }
+            match register_of(&step.instruction) {
+                Some(name) if is_used_beside(self.function, index, name) => {
+                    self.make(index, steps, name, &step.instruction);
                 }
+                _ => {}
             }
         }
     }

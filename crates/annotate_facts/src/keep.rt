@@ -1,7 +1,7 @@
 //! What is known wherever a block begins, because all ways to it bring it along.
 
 use crate::bound::lesser_of;
-use crate::definition::{moved, sum_before};
+use crate::definition::moved_before;
 use crate::edge::{Edge, Way, block_at, edges_of};
 use crate::fact::{Facts, has_many_instructions};
 use crate::guess::{Place, dominators_of};
@@ -112,21 +112,33 @@ impl<'a> Known<'a> {
     fn add_all(&mut self) {
         let mut shown = self.heap.list();
         let mut last = None;
-        for (number, edge) in self.edges.iter().enumerate() {
-            if last != Some(edge.from) {
-                last = Some(edge.from);
-                if let Some(from) = block_at(self.function, edge.from) {
-                    self.facts.show_all(from);
+        for number in 0..self.edges.len() {
+            if let Some(edge) = self.edges.get(number).copied() {
+                if last != Some(edge.from) {
+                    last = Some(edge.from);
+                    shown = self.shown_by(edge.from);
                 }
-                shown = self.facts.take();
+                self.add(edge, shown.as_slice());
+                extend(self.heap, &mut self.into, edge.to, &[number]);
             }
-            self.facts.pass(*edge);
-            let mut added = self.facts.take();
-            self.heap.push(&mut self.taken, added.len());
-            self.heap.kept(added.extend_from_slice(shown.as_slice()));
-            self.heap.push(&mut self.added, added);
-            extend(self.heap, &mut self.into, edge.to, &[number]);
         }
+    }
+
+    /// The numbers of what the lines of a block show.
+    fn shown_by(&mut self, block: usize) -> Vec<usize> {
+        if let Some(block) = block_at(self.function, block) {
+            self.facts.show_all(block);
+        }
+        self.facts.take()
+    }
+
+    /// States what being taken says of an edge, beside what its source shows.
+    fn add(&mut self, edge: Edge<'a>, shown: &[usize]) {
+        self.facts.pass(edge);
+        let mut added = self.facts.take();
+        self.heap.push(&mut self.taken, added.len());
+        self.heap.kept(added.extend_from_slice(shown));
+        self.heap.push(&mut self.added, added);
     }
 
     /// States what the instructions of the blocks make, unless the function has many.
@@ -172,8 +184,7 @@ impl<'a> Known<'a> {
         ) else {
             return;
         };
-        let moved = moved(self.heap, sum, &from.label, to.phis.as_slice());
-        let Some(before) = sum_before(self.heap, &moved, from.steps.as_slice()) else {
+        let Some(before) = moved_before(self.heap, sum, from, to.phis.as_slice()) else {
             return;
         };
         if count_phis(from, &before) >= 2 {

@@ -1,6 +1,6 @@
 //! What instructions make known of the registers that they define.
 
-use crate::definition::{Equation, definition_of, is_exact};
+use crate::definition::{Equation, definition_of, is_exact, put_in};
 use crate::edge::register_of;
 use crate::heap::Heap;
 use crate::sum::Sum;
@@ -123,6 +123,31 @@ fn most_by<'a>(facts: &[Sum<'a>], sum: &Sum<'a>, name: &str, steps: &[Step]) -> 
     None
 }
 
+/// No less than a sum that has the register of the first of these steps, which makes no sum of it: by what that makes known, or by facts behind the steps.
+fn most_of_first<'a>(
+    heap: &'a Heap,
+    sum: &Sum<'a>,
+    steps: &'a [Step],
+    behind: &[Sum<'a>],
+) -> Option<Sum<'a>> {
+    let Some(first) = steps.first() else {
+        return None;
+    };
+    let Some(name) = register_of(&first.instruction) else {
+        return None;
+    };
+    let most = most_by(
+        facts_of(heap, name, &first.instruction).as_slice(),
+        sum,
+        name,
+        &[],
+    );
+    if most.is_some() {
+        return most;
+    }
+    most_by(behind, sum, name, steps)
+}
+
 /// No less than a sum, before these steps of a block, by what they make known and by facts behind them; none where nothing bounds what they define.
 pub fn most_before<'a>(
     heap: &'a Heap,
@@ -132,24 +157,11 @@ pub fn most_before<'a>(
 ) -> Option<Sum<'a>> {
     let mut most = sum.copy();
     for index in (0..steps.len()).rev() {
-        let instruction = &steps[index].instruction;
-        match register_of(instruction) {
-            Some(name) if most.has(name) => {
-                if let Some(value) = definition_of(heap, instruction) {
-                    most.put(name, &value);
-                } else {
-                    let facts = facts_of(heap, name, instruction);
-                    let mut rest = most_by(facts.as_slice(), &most, name, &[]);
-                    if rest.is_none() {
-                        rest = most_by(behind, &most, name, &steps[index..]);
-                    }
-                    match rest {
-                        Some(rest) => most = rest,
-                        None => return None,
-                    }
-                }
-            }
-            _ => {}
+        if !put_in(heap, &mut most, &steps[index].instruction) {
+            let Some(rest) = most_of_first(heap, &most, &steps[index..], behind) else {
+                return None;
+            };
+            most = rest;
         }
     }
     Some(most)

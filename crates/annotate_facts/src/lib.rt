@@ -19,10 +19,10 @@ mod search;
 mod sum;
 
 pub use bound::{greatest, greatest_apart, greatest_number, greatest_shown};
-pub use definition::{Equation, definition_of, is_exact, moved, sum_before, value_of};
+pub use definition::{Equation, definition_of, moved, moved_before, sum_before, value_of};
 pub use edge::{
     Edge, Way, block_at, block_numbered, defines, definition_in, edges_of, is_phi, is_used_beside,
-    last_of, phi_value, register_of,
+    last_of, phi_value, register_of, value_from,
 };
 pub use fact::{Facts, has_many_instructions};
 pub use guess::{Place, Rise, dominators_of, is_above, rise_of};

@@ -121,8 +121,8 @@ impl<'a> Lives<'a> {
         is_live && !defines(to, name) || phi_takes(to.phis.as_slice(), name, &from.label)
     }
 
-    /// Where the register is used later on: round after round along the edges, the last one first, until nothing is new.
-    fn find(&self, edges: &[Edge<'a>], name: &str) -> Vec<bool> {
+    /// For each block whether it uses the register itself.
+    fn uses_of(&self, name: &str) -> Vec<bool> {
         let is_asked = is_asked(self.function, name);
         let mut at = self.heap.list();
         for block in self.function.blocks.as_slice() {
@@ -132,18 +132,29 @@ impl<'a> Lives<'a> {
                 || head_names(block, name);
             self.heap.push(&mut at, is_used);
         }
-        for _round in 0..self.function.blocks.len() {
-            let mut is_new = false;
-            for edge in edges.iter().rev() {
-                if edge.from < at.len()
-                    && !at[edge.from]
-                    && self.is_used_behind(*edge, at.as_slice(), name)
-                {
-                    at[edge.from] = true;
-                    is_new = true;
-                }
+        at
+    }
+
+    /// Goes along the edges, the last one first, to the blocks from which the register is used; whether one is new.
+    fn spread(&self, edges: &[Edge<'a>], at: &mut Vec<bool>, name: &str) -> bool {
+        let mut is_new = false;
+        for edge in edges.iter().rev() {
+            if edge.from < at.len()
+                && !at[edge.from]
+                && self.is_used_behind(*edge, at.as_slice(), name)
+            {
+                at[edge.from] = true;
+                is_new = true;
             }
-            if !is_new {
+        }
+        is_new
+    }
+
+    /// Where the register is used later on: round after round until nothing is new.
+    fn find(&self, edges: &[Edge<'a>], name: &str) -> Vec<bool> {
+        let mut at = self.uses_of(name);
+        for _round in 0..self.function.blocks.len() {
+            if !self.spread(edges, &mut at, name) {
                 break;
             }
         }

@@ -8,21 +8,21 @@ const MOST_RESTS: usize = 128;
 
 /// What is left to be shown once a fact is taken out of another rest.
 #[derive(Drop)]
-struct Rest<'a> {
+struct Rest<'w, 'a> {
     sum: Sum<'a>,
     /// How many facts were taken out until then, and how many show the whole at least: one more for each register that is left.
     steps: usize,
     facts: usize,
     /// The number of that rest; of the first one its own.
     of: usize,
-    fact: usize,
+    fact: &'w Sum<'a>,
     times: i128,
     /// Whether facts were taken out of it.
     is_followed: bool,
 }
 
-impl<'a> Rest<'a> {
-    fn new(sum: Sum<'a>, steps: usize, of: usize, fact: usize, times: i128) -> Rest<'a> {
+impl<'w, 'a> Rest<'w, 'a> {
+    fn new(sum: Sum<'a>, steps: usize, of: usize, fact: &'w Sum<'a>, times: i128) -> Rest<'w, 'a> {
         let facts = steps.saturating_add(sum.terms.len());
         Rest {
             sum,
@@ -36,7 +36,7 @@ impl<'a> Rest<'a> {
     }
 
     /// Whether it is to be followed before another one: fewer facts may do, or as many and it has a greater number, of which they may take more.
-    fn promises_more(&self, other: &Rest<'a>) -> bool {
+    fn promises_more(&self, other: &Rest<'_, 'a>) -> bool {
         self.facts < other.facts
             || self.facts == other.facts && self.sum.constant > other.sum.constant
     }
@@ -48,9 +48,10 @@ impl<'a> Rest<'a> {
 struct Search<'w, 'a> {
     heap: &'a Heap,
     facts: &'w [Sum<'a>],
+    sum: &'w Sum<'a>,
     /// What the first rest is to show beside one more fact, if that is asked.
     beside: Option<&'w Sum<'a>>,
-    rests: Vec<Rest<'a>>,
+    rests: Vec<Rest<'w, 'a>>,
     /// How many rests were compared with others since that was last counted.
     compared: usize,
 }
@@ -73,7 +74,7 @@ pub fn is_factor(sum: &Sum<'_>, times: i128) -> bool {
     times == 1
 }
 
-impl<'a> Search<'_, 'a> {
+impl<'w, 'a> Search<'w, 'a> {
     /// The register of a rest that the fewest facts have with the sign of its coefficient, and that; none where one of them is in no fact.
     fn register_of(&self, rest: &Sum<'a>) -> Option<(&'a str, i128)> {
         let mut found = None;
@@ -95,8 +96,11 @@ impl<'a> Search<'_, 'a> {
     }
 
     /// Where a rest is to stand: in place of one with the same registers and a lesser number that is not followed yet, else behind all. None where one with the
-    /// same registers has no less a number.
-    fn place_for(&self, next: &Rest<'a>) -> Option<usize> {
+    /// same registers has no less a number, or the rest may not stand in a line.
+    fn place_for(&self, next: &Rest<'w, 'a>) -> Option<usize> {
+        if !next.sum.has_form_terms() {
+            return None;
+        }
         let mut place = self.rests.len();
         for (number, rest) in self.rests.iter().enumerate() {
             if let Some(over) = rest.sum.apart_from(&next.sum) {
@@ -112,25 +116,20 @@ impl<'a> Search<'_, 'a> {
     }
 
     /// Keeps a rest, if it may stand in a line and says more than those that are there, and there is room.
-    fn keep(&mut self, rest: Rest<'a>) {
-        if !rest.sum.has_form_terms() {
-            return;
-        }
-        if let Some(place) = self.place_for(&rest) {
-            if place < self.rests.len() {
-                self.rests[place] = rest;
-            } else if place < MOST_RESTS {
-                self.heap.push(&mut self.rests, rest);
-            }
+    fn keep(&mut self, rest: Rest<'w, 'a>) {
+        match self.place_for(&rest) {
+            Some(place) if place < self.rests.len() => self.rests[place] = rest,
+            Some(place) if place < MOST_RESTS => self.heap.push(&mut self.rests, rest),
+            _ => {}
         }
     }
 
     /// Adds what is left of a rest without so many times a fact. Its number, where that shows the rest: it is a number, and not below 0.
-    fn push(&mut self, of: usize, fact: usize, times: i128) -> Option<usize> {
-        let (Some(rest), Some(taken)) = (self.rests.get(of), self.facts.get(fact)) else {
+    fn push(&mut self, of: usize, fact: &'w Sum<'a>, times: i128) -> Option<usize> {
+        let Some(rest) = self.rests.get(of) else {
             return None;
         };
-        let sum = rest.sum.with(taken, times.saturating_neg());
+        let sum = rest.sum.with(fact, times.saturating_neg());
         let next = Rest::new(sum, rest.steps.saturating_add(1), of, fact, times);
         let number = self.rests.len();
         self.compared = self.compared.saturating_add(number);
@@ -150,9 +149,9 @@ impl<'a> Search<'_, 'a> {
     /// Takes each fact out of a rest that has a register as the rest has it. The lines that show a rest, as soon as there are some.
     fn take_out(&mut self, of: usize, name: &'a str, coefficient: i128) -> Option<Vec<Sum<'a>>> {
         let facts = self.facts;
-        for (number, fact) in facts.iter().enumerate() {
+        for fact in facts {
             if let Some(times) = times_for(coefficient, fact.coefficient(name)) {
-                if let Some(last) = self.push(of, number, times) {
+                if let Some(last) = self.push(of, fact, times) {
                     let lines = self.lines_to(last);
                     if lines.is_some() {
                         return lines;
@@ -183,7 +182,7 @@ impl<'a> Search<'_, 'a> {
 
     /// The rest that promises most of those that are not followed yet; the first one of several.
     fn next(&self) -> Option<usize> {
-        let mut best: Option<(usize, &Rest<'a>)> = None;
+        let mut best: Option<(usize, &Rest<'w, 'a>)> = None;
         for (number, rest) in self.rests.iter().enumerate() {
             let is_better = match best {
                 Some((_number, other)) => rest.promises_more(other),
@@ -216,51 +215,75 @@ impl<'a> Search<'_, 'a> {
         None
     }
 
-    /// Adds the lines with which the facts show what the rest of this number was made of, on the way to the last one, which is shown. The number of what it was
-    /// made of, if all of them may stand in lines.
-    fn push_between(&self, number: usize, last: usize, lines: &mut Vec<Sum<'a>>) -> Option<usize> {
-        let rests = self.rests.as_slice();
-        let (Some(rest), Some(end)) = (rests.get(number), rests.get(last)) else {
-            return None;
-        };
-        let (Some(whole), Some(fact)) = (rests.get(rest.of), self.facts.get(rest.fact)) else {
-            return None;
-        };
-        let is_last = number == last;
-        let counted = match (self.beside, rests.get(whole.of)) {
-            (Some(beside), _) if is_last && rest.of == 0 => beside,
-            (_, Some(before)) if is_last => &before.sum,
-            _ => &whole.sum,
-        };
-        if !is_factor(counted, rest.times) {
-            let multiple = fact.times(rest.times);
-            if !multiple.is_form() || !is_factor(&multiple, rest.times) {
-                return None;
-            }
-            self.heap.push(lines, multiple);
+    /// The sum of the rest of this number.
+    fn sum_of(&self, number: usize) -> &Sum<'a> {
+        if number < self.rests.len() {
+            return &self.rests[number].sum;
         }
-        if !is_last && (rest.of != 0 || self.beside.is_some()) {
-            let line = whole.sum.raised(end.sum.constant.saturating_neg());
-            if !line.is_form() {
-                return None;
-            }
-            self.heap.push(lines, line);
-        }
-        Some(rest.of)
+        self.sum
     }
 
-    /// The lines with which the facts show the first rest, by the one that is shown.
+    /// The sum that says how often the last fact may count, which was taken out of the rest of this number: what that was made of, or what the first rest is to
+    /// show.
+    fn counted_last(&self, number: usize) -> &Sum<'a> {
+        if number == 0 {
+            return self.beside.unwrap_or(self.sum);
+        }
+        let of = match self.rests.get(number) {
+            Some(whole) => whole.of,
+            None => 0,
+        };
+        self.sum_of(of)
+    }
+
+    /// Adds a line, if it may be one; whether it may.
+    fn push_line(&self, lines: &mut Vec<Sum<'a>>, line: Sum<'a>) -> bool {
+        let is_form = line.is_form();
+        if is_form {
+            self.heap.push(lines, line);
+        }
+        is_form
+    }
+
+    /// Adds so many times the fact of a rest, where the fact may not count as often in what the rest was made of; whether it is a line or may count.
+    fn push_fact(&self, lines: &mut Vec<Sum<'a>>, rest: &Rest<'_, 'a>, counted: &Sum<'a>) -> bool {
+        if is_factor(counted, rest.times) {
+            return true;
+        }
+        let multiple = rest.fact.times(rest.times);
+        is_factor(&multiple, rest.times) && self.push_line(lines, multiple)
+    }
+
+    /// Adds what the rest of this number says once so much of it is shown, unless that is what is to be shown; whether it is a line.
+    fn push_whole(&self, lines: &mut Vec<Sum<'a>>, number: usize, over: i128) -> bool {
+        if number == 0 && self.beside.is_none() {
+            return true;
+        }
+        self.push_line(lines, self.sum_of(number).raised(over.saturating_neg()))
+    }
+
+    /// The lines with which the facts show the first rest, by the one that is shown: on the way to that what each rest was made of, if all of them may stand in
+    /// lines.
     fn lines_to(&self, last: usize) -> Option<Vec<Sum<'a>>> {
         let mut lines = self.heap.list();
+        let over = self.sum_of(last).constant;
         let mut number = last;
         for _step in 0..self.rests.len() {
-            if number == 0 {
-                return Some(lines);
-            }
-            let Some(of) = self.push_between(number, last, &mut lines) else {
+            let Some(rest) = self.rests.get(number) else {
                 return None;
             };
-            number = of;
+            let is_told = if number == 0 {
+                return Some(lines);
+            } else if number == last {
+                self.push_fact(&mut lines, rest, self.counted_last(rest.of))
+            } else {
+                self.push_fact(&mut lines, rest, self.sum_of(rest.of))
+                    && self.push_whole(&mut lines, rest.of, over)
+            };
+            if !is_told {
+                return None;
+            }
+            number = rest.of;
         }
         None
     }
@@ -272,17 +295,18 @@ impl<'a> Search<'_, 'a> {
 pub fn lines_between<'w, 'a>(
     heap: &'a Heap,
     facts: &'w [Sum<'a>],
-    sum: &Sum<'a>,
+    sum: &'w Sum<'a>,
     beside: Option<&'w Sum<'a>>,
     effort: &mut usize,
 ) -> Option<Vec<Sum<'a>>> {
     let mut search = Search {
         heap,
         facts,
+        sum,
         beside,
         rests: heap.list(),
         compared: 0,
     };
-    heap.push(&mut search.rests, Rest::new(sum.copy(), 0, 0, 0, 0));
+    heap.push(&mut search.rests, Rest::new(sum.copy(), 0, 0, sum, 0));
     search.run(effort)
 }

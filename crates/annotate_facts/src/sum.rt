@@ -279,8 +279,8 @@ impl<'a> Sum<'a> {
     /// Adds the form's canonical spelling.
     pub fn spell(&self, out: &mut TextBuffer) {
         let mut is_first = true;
-        for (name, coefficient) in self.sorted() {
-            spell_number(out, is_first, coefficient, "*");
+        for (name, coefficient) in &self.sorted() {
+            spell_number(out, is_first, *coefficient, "*");
             out.push_str("%");
             out.push_str(name);
             is_first = false;
@@ -290,24 +290,31 @@ impl<'a> Sum<'a> {
         }
     }
 
+    /// So many times what stands in the sum with the sign of that number.
+    fn side(&self, sign: i128) -> Sum<'a> {
+        let mut side = Sum::number(self.heap, self.constant.saturating_mul(sign).max(0));
+        for (name, coefficient) in &self.terms {
+            side.add_term(name, coefficient.saturating_mul(sign).max(0));
+        }
+        side
+    }
+
     /// Adds that the sum is at least 0: what has a minus on the lesser side, the rest on the other; what has registers stands first.
     pub fn spell_inequality(&self, out: &mut TextBuffer) {
-        let mut greater = Sum::number(self.heap, self.constant.max(0));
-        let mut lesser = Sum::number(self.heap, self.constant.saturating_neg().max(0));
-        for (name, coefficient) in &self.terms {
-            greater.add_term(name, (*coefficient).max(0));
-            lesser.add_term(name, coefficient.saturating_neg().max(0));
-        }
+        let greater = self.side(1);
+        let lesser = self.side(-1);
         if lesser.terms.is_empty() {
-            greater.spell(out);
-            out.push_str(" >= ");
-            lesser.spell(out);
+            spell_both(out, &greater, " >= ", &lesser)
         } else {
-            lesser.spell(out);
-            out.push_str(" <= ");
-            greater.spell(out);
+            spell_both(out, &lesser, " <= ", &greater)
         }
     }
+}
+
+fn spell_both(out: &mut TextBuffer, left: &Sum<'_>, relation: &str, right: &Sum<'_>) {
+    left.spell(out);
+    out.push_str(relation);
+    right.spell(out)
 }
 
 fn is_within(number: i128, most: i128) -> bool {

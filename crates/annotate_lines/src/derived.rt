@@ -2,11 +2,11 @@
 //! says of it.
 
 use annotate_facts::{
-    Edge, Extra, Heap, Known, Sum, block_at, facts_of, greatest_number, is_used_beside, phi_value,
-    register_of,
+    Edge, Extra, Heap, Known, Sum, block_at, facts_of, greatest_number, is_used_beside,
+    register_of, value_from,
 };
 use annotate_uses::Scope;
-use syntax::{Block, Phi};
+use syntax::{Block, Instruction, Phi};
 
 /// The facts of a block's head that are looked at, and those of its end; the registers of them whose numbers are bounded.
 const MOST_AT_HEAD: usize = 128;
@@ -23,6 +23,19 @@ const MOST_FOUND: usize = 512;
 struct Span {
     above: Option<i128>,
     below: Option<i128>,
+}
+
+impl Span {
+    /// The span that has this one and another one, if there is one.
+    fn joined(self, other: Option<Span>) -> Span {
+        match other {
+            Some(Span { above, below }) => Span {
+                above: greater(above, self.above),
+                below: greater(below, self.below),
+            },
+            None => self,
+        }
+    }
 }
 
 fn greater(one: Option<i128>, other: Option<i128>) -> Option<i128> {
@@ -116,75 +129,81 @@ impl<'a> Finder<'_, 'a> {
         facts
     }
 
-    /// Adds what a step makes known.
-    fn learn(&mut self, facts: &mut Vec<Sum<'a>>, index: usize, block: &'a Block, place: usize) {
+    /// Adds what an instruction makes known.
+    fn learn(&mut self, facts: &mut Vec<Sum<'a>>, index: usize, instruction: &'a Instruction) {
         let heap = self.scope.heap;
-        let Some(step) = block.steps.as_slice().get(place) else {
-            return;
-        };
-        if let Some(call) = self.scope.call_of(&step.instruction) {
+        if let Some(call) = self.scope.call_of(instruction) {
             for inequality in call.callee.notes.guarantees.as_slice() {
                 let fact = call.said(inequality);
                 self.push_extra(index, false, fact.copy());
                 heap.push(facts, fact);
             }
         }
-        if let Some(name) = register_of(&step.instruction) {
-            for fact in facts_of(heap, name, &step.instruction) {
-                heap.push(facts, fact);
-            }
-            let span = self.bound(facts, name);
-            if is_used_beside(self.scope.function, index, name) {
-                self.push_span(index, false, name, span);
-            }
+        if let Some(name) = register_of(instruction) {
+            self.learn_register(facts, index, name, instruction);
+        }
+    }
+
+    /// Adds what it makes known of its register.
+    fn learn_register(
+        &mut self,
+        facts: &mut Vec<Sum<'a>>,
+        index: usize,
+        name: &'a str,
+        instruction: &'a Instruction,
+    ) {
+        for fact in facts_of(self.scope.heap, name, instruction) {
+            self.scope.heap.push(facts, fact);
+        }
+        let span = self.bound(facts, name);
+        if is_used_beside(self.scope.function, index, name) {
+            self.push_span(index, false, name, span);
         }
     }
 
     fn add_end(&mut self, index: usize, block: &'a Block) {
         let mut facts = self.facts_at(index);
-        for place in 0..block.steps.len() {
+        for step in block.steps.as_slice() {
             if facts.len() < MOST_AT_END {
-                self.learn(&mut facts, index, block, place);
+                self.learn(&mut facts, index, &step.instruction);
             }
         }
         self.scope.heap.push(&mut self.ends, facts);
     }
 
-    /// Between which numbers what a phi takes along an edge lies, by what is known there.
-    fn span_along(&self, number: usize, edge: Edge<'a>, name: &str, phis: &'a [Phi]) -> Span {
-        let heap = self.scope.heap;
-        let value = match block_at(self.scope.function, edge.from) {
-            Some(from) => phi_value(phis, name, &from.label),
-            None => None,
-        };
-        let Some(value) = value else {
-            return Span {
-                above: None,
-                below: None,
-            };
-        };
+    /// What is known along an edge.
+    fn facts_along(&self, number: usize, edge: Edge<'a>) -> Vec<Sum<'a>> {
         let mut facts = self.known.sums_on(number);
         if let Some(end) = self.ends.get(edge.from) {
             for fact in end {
-                heap.push(&mut facts, fact.copy());
+                self.scope.heap.push(&mut facts, fact.copy());
             }
         }
-        span_of(facts.as_slice(), &Sum::of_operand(heap, value, 1))
+        facts
+    }
+
+    /// Between which numbers what a phi takes along an edge lies, by what is known there; none where it takes nothing.
+    fn span_along(&self, number: usize, edge: Edge<'a>, phi: &'a Phi) -> Option<Span> {
+        let Some(from) = block_at(self.scope.function, edge.from) else {
+            return None;
+        };
+        let Some(value) = value_from(phi, &from.label) else {
+            return None;
+        };
+        let facts = self.facts_along(number, edge);
+        let taken = Sum::of_operand(self.scope.heap, value, 1);
+        Some(span_of(facts.as_slice(), &taken))
     }
 
     /// The same of all edges to its block.
-    fn span_of_phi(&self, index: usize, name: &str, phis: &'a [Phi]) -> Option<Span> {
-        let mut all = None;
+    fn span_of_phi(&self, index: usize, phi: &'a Phi) -> Option<Span> {
+        let mut all: Option<Span> = None;
         for (number, edge) in self.known.edges.iter().enumerate() {
             if edge.to == index {
-                let span = self.span_along(number, *edge, name, phis);
-                all = Some(match all {
-                    Some(Span { above, below }) => Span {
-                        above: greater(above, span.above),
-                        below: greater(below, span.below),
-                    },
-                    None => span,
-                });
+                let Some(span) = self.span_along(number, *edge, phi) else {
+                    return None;
+                };
+                all = Some(span.joined(all));
             }
         }
         all
@@ -192,9 +211,8 @@ impl<'a> Finder<'_, 'a> {
 
     fn add_phis(&mut self, index: usize, phis: &'a [Phi]) {
         for phi in phis {
-            let name = phi.register.as_str();
-            if let Some(span) = self.span_of_phi(index, name, phis) {
-                self.push_span(index, true, name, span);
+            if let Some(span) = self.span_of_phi(index, phi) {
+                self.push_span(index, true, phi.register.as_str(), span);
             }
         }
     }

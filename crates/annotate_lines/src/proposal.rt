@@ -161,22 +161,27 @@ impl<'a> Draft<'a> {
         for (index, block) in blocks.iter().enumerate() {
             let first = firsts.get(index).copied().flatten().unwrap_or(0);
             let walk = self.walk_over(known, index, block, first);
-            let Walk {
-                effort,
-                missed,
-                lines,
-                ..
-            } = walk;
-            self.effort = effort;
-            wants.push_all(index, missed);
-            if matches!(self.kind, Kind::Steps) {
-                for told in lines {
-                    let Told { behind, lines } = told;
-                    self.propose(behind, lines);
-                }
-            }
+            wants.push_all(index, self.take_up(walk));
         }
         wants
+    }
+
+    /// Proposes what one told who went over a block, if `shows` lines are wanted. What was missed.
+    fn take_up(&mut self, walk: Walk<'a>) -> Vec<Sum<'a>> {
+        let Walk {
+            effort,
+            missed,
+            lines,
+            ..
+        } = walk;
+        self.effort = effort;
+        if matches!(self.kind, Kind::Steps) {
+            for told in lines {
+                let Told { behind, lines } = told;
+                self.propose(behind, lines);
+            }
+        }
+        missed
     }
 
     /// Facts that follow from others and from guesses, and what follows from these in turn.

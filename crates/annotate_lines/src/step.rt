@@ -1,5 +1,6 @@
 //! Lines within blocks, with which facts show what is asked at an instruction or along an edge: lines to be tried.
 
+use crate::proposal::MOST_LINES;
 use annotate_facts::{
     Edge, Equation, Heap, Known, Sum, Way, block_at, facts_of, lines_between, moved, register_of,
     sum_before, times_for,
@@ -11,10 +12,8 @@ use syntax::{
     Width, Zone,
 };
 
-/// The most facts of a block that are looked at, and the lines that may stand before one instruction.
+/// The most facts of a block that are looked at.
 const MOST_FACTS: usize = 1_024;
-
-const MOST_LINES: usize = 32;
 
 /// Lines that may stand behind a line of the text.
 #[derive(Drop)]
@@ -199,12 +198,16 @@ impl<'a> Walk<'a> {
         }
     }
 
+    fn learn_equal(&mut self, name: &'a str, operand: &'a Operand) {
+        let value = Sum::of_operand(self.scope.heap, operand, 1);
+        let equation = Equation::of(self.scope.heap, name, &value);
+        self.learn(equation.most);
+        self.learn(equation.least)
+    }
+
     fn learn_conversion(&mut self, name: &'a str, conversion: Conversion, operand: &'a Operand) {
         if self.is_same(conversion, operand) {
-            let value = Sum::of_operand(self.scope.heap, operand, 1);
-            let equation = Equation::of(self.scope.heap, name, &value);
-            self.learn(equation.most);
-            self.learn(equation.least);
+            self.learn_equal(name, operand);
         }
         let (low, high) = match conversion {
             Conversion::ZeroExtend => (0, 4_294_967_295),
@@ -389,27 +392,30 @@ impl<'a> Walk<'a> {
         Some(left.moved(heap, &self.block.label, to.phis.as_slice()))
     }
 
-    /// Tells how the facts show that enough is left behind the edges of the block; of a detach behind both together.
+    /// Tells how the facts show that what is left is enough for what is left behind an edge.
+    fn reach_left(&mut self, known: &Known<'a>, edge: usize, rest: &Need<'a>, next: &Need<'a>) {
+        self.reach_along(known, edge, &rest.calls.with(&next.calls, -1));
+        self.reach_along(known, edge, &rest.instructions.with(&next.instructions, -1))
+    }
+
+    /// The same of all edges of the block; of a detach behind both together.
     fn reach_lefts(&mut self, known: &Known<'a>, uses: &Need<'a>) {
         let Some(mut rest) = given(self.scope.heap, self.block) else {
             return;
         };
-        rest.take(uses);
+        rest.add(uses, -1);
         let mut is_last = true;
         for (number, edge) in known.edges.iter().enumerate() {
             if edge.from == self.place {
-                if let Some(next) = self.left_behind(*edge) {
-                    if matches!(edge.way, Way::Detached | Way::Continued(_)) {
-                        rest.take(&next);
-                    } else {
-                        is_last = false;
-                        self.reach_along(known, number, &rest.calls.with(&next.calls, -1));
-                        self.reach_along(
-                            known,
-                            number,
-                            &rest.instructions.with(&next.instructions, -1),
-                        );
+                match self.left_behind(*edge) {
+                    Some(next) if matches!(edge.way, Way::Detached | Way::Continued(_)) => {
+                        rest.add(&next, -1);
                     }
+                    Some(next) => {
+                        is_last = false;
+                        self.reach_left(known, number, &rest, &next);
+                    }
+                    None => {}
                 }
             }
         }

@@ -2,8 +2,7 @@
 
 use crate::new_lines::NewLines;
 use crate::plain::{is_plain, said_of};
-use explain_costs::cost_findings;
-use explain_facts::{Matched, Means};
+use explain_facts::{Matched, Means, cost_findings};
 use footprints::passes_on;
 use linear_shown::{FactBranches, FactCursor, Known};
 use program::{Block, Function, Inequality, Program};

@@ -1,7 +1,7 @@
 //! Facts that would show what a block asks and its facts do not show: tried where their registers are made, and on the ways there.
 
 use annotate_facts::{
-    Edge, Extra, Heap, Sum, block_at, dominators_of, is_above, moved, names_made, names_own,
+    Edge, Extra, Heap, Sum, block_at, dominators_of, is_above, moved_before, names_made, names_own,
     sum_before,
 };
 use syntax::{Block, Function};
@@ -130,8 +130,7 @@ impl<'w, 'a> Wants<'w, 'a> {
     /// Wants a sum of a block's phis on an edge that leads there.
     fn want_along(&mut self, edge: Edge<'a>, to: &'a Block, sum: &Sum<'a>, moves: usize) {
         if let Some(from) = block_at(self.function, edge.from) {
-            let sum = moved(self.heap, sum, &from.label, to.phis.as_slice());
-            if let Some(before) = sum_before(self.heap, &sum, from.steps.as_slice()) {
+            if let Some(before) = moved_before(self.heap, sum, from, to.phis.as_slice()) {
                 self.push(edge.from, before, moves);
             }
         }

@@ -87,6 +87,21 @@ fn object_of<'a>(call: Call<'a>, zone: &'a Zone) -> Option<&'a Address> {
     }
 }
 
+/// The base and the index of the `getelementptr` among these steps that defines a register.
+fn element_of<'a>(steps: &'a [Step], name: &Name) -> Option<(&'a Address, &'a Operand)> {
+    for step in steps {
+        match &step.instruction {
+            Instruction::ElementPointer {
+                register,
+                base,
+                index,
+            } if register.is_same(name) => return Some((base, index)),
+            _ => {}
+        }
+    }
+    None
+}
+
 /// The cells that an instruction of a block touches by an address: those of the object itself, or from where the `getelementptr` leads that defines the address.
 fn accessed<'a>(
     heap: &'a Heap,
@@ -106,22 +121,11 @@ fn accessed<'a>(
         low: Sum::number(heap, 0),
         high: Sum::number(heap, count),
     };
-    let Address::Register(name) = object else {
-        return Some(cells);
-    };
-    for step in steps {
-        match &step.instruction {
-            Instruction::ElementPointer {
-                register,
-                base,
-                index,
-            } if register.is_same(name) => {
-                cells.object = base;
-                cells.low.add_operand(index, 1);
-                cells.high.add_operand(index, 1);
-                break;
-            }
-            _ => {}
+    if let Address::Register(name) = object {
+        if let Some((base, index)) = element_of(steps, name) {
+            cells.object = base;
+            cells.low.add_operand(index, 1);
+            cells.high.add_operand(index, 1);
         }
     }
     Some(cells)

@@ -19,6 +19,14 @@ pub struct Stand<'w, 'a> {
     pub place: Place<'w, 'a>,
 }
 
+/// Whether a sum is less than another one, or there is no other one.
+fn is_closer<'a>(sum: &Sum<'a>, other: &Option<Sum<'a>>) -> bool {
+    match other {
+        Some(other) => matches!(sum.apart_from(other), Some(over) if over < 0),
+        None => true,
+    }
+}
+
 /// The zones of one place, while they are gathered.
 #[derive(Drop)]
 struct Finder<'w, 'a> {
@@ -55,11 +63,7 @@ impl<'a> Stand<'_, 'a> {
         for fact in facts {
             if let Some(rest) = sum.most_without(name, fact) {
                 let rank = self.rank_of(&rest);
-                let is_closer = match &best {
-                    Some(best) => matches!(rest.apart_from(best), Some(over) if over < 0),
-                    None => true,
-                };
-                if rank < least || rank == least && is_closer {
+                if rank < least || rank == least && is_closer(&rest, &best) {
                     best = Some(rest);
                     least = rank;
                 }
@@ -123,33 +127,42 @@ impl<'a> Cells<'a> {
             && (self.mode == other.mode || self.mode == Mode::Writes && other.mode == Mode::Reads)
     }
 
-    /// Takes others in, where both are next to each other; whether they are.
-    fn take_in(&mut self, other: &Cells<'a>) -> bool {
-        if !self.is_like(other) {
+    /// Takes others in that are not apart from these; whether they are not.
+    fn widen(&mut self, other: &Cells<'a>) -> bool {
+        let (Some(low), Some(high)) = (
+            self.low.apart_from(&other.low),
+            self.high.apart_from(&other.high),
+        ) else {
+            return false;
+        };
+        if self.mode != other.mode && (low > 0 || high < 0) {
             return false;
         }
-        let is_same = self.mode == other.mode;
-        let low = self.low.apart_from(&other.low);
-        let high = self.high.apart_from(&other.high);
-        if let (Some(low), Some(high)) = (low, high) {
-            if is_same || low <= 0 && high >= 0 {
-                if low > 0 {
-                    self.low = other.low.copy();
-                }
-                if high < 0 {
-                    self.high = other.high.copy();
-                }
-                return true;
-            }
-        }
-        let is_before = is_same && matches!(self.high.apart_from(&other.low), Some(0));
-        let is_behind = is_same && matches!(self.low.apart_from(&other.high), Some(0));
-        if is_before {
-            self.high = other.high.copy();
-        } else if is_behind {
+        if low > 0 {
             self.low = other.low.copy();
         }
-        is_before || is_behind
+        if high < 0 {
+            self.high = other.high.copy();
+        }
+        true
+    }
+
+    /// Takes others in that end where these begin, or begin where these end; whether they do.
+    fn extend(&mut self, other: &Cells<'a>) -> bool {
+        if matches!(self.high.apart_from(&other.low), Some(0)) {
+            self.high = other.high.copy();
+            return true;
+        }
+        let is_behind = matches!(self.low.apart_from(&other.high), Some(0));
+        if is_behind {
+            self.low = other.low.copy();
+        }
+        is_behind
+    }
+
+    /// Takes others in, where both are next to each other; whether they are.
+    fn take_in(&mut self, other: &Cells<'a>) -> bool {
+        self.is_like(other) && (self.widen(other) || self.mode == other.mode && self.extend(other))
     }
 }
 

@@ -99,15 +99,10 @@ impl<'a> Need<'a> {
         self.calls.is_form() && self.instructions.is_form()
     }
 
-    fn add(&mut self, other: &Need<'a>) {
-        self.calls.add(&other.calls, 1);
-        self.instructions.add(&other.instructions, 1);
-    }
-
-    /// Takes another need off.
-    pub fn take(&mut self, other: &Need<'a>) {
-        self.calls.add(&other.calls, -1);
-        self.instructions.add(&other.instructions, -1);
+    /// Adds another need so many times.
+    pub fn add(&mut self, other: &Need<'a>, times: i128) {
+        self.calls.add(&other.calls, times);
+        self.instructions.add(&other.instructions, times);
     }
 
     /// What a need is along an edge to a block with these phis, from one of this label.
@@ -188,6 +183,16 @@ impl<'a> Finder<'_, 'a> {
         Some(all.unwrap_or(Need::none(self.known.heap)))
     }
 
+    /// What is needed behind an edge out of a loop, at its head; none where it is not known there.
+    fn behind_exit(&self, ring: &Ring<'a>, number: usize, edge: Edge<'a>) -> Option<Need<'a>> {
+        match self.behind(number, edge) {
+            Some(next) if edge.from == ring.head || !next.names_inner(self.known, ring) => {
+                Some(next)
+            }
+            _ => None,
+        }
+    }
+
     /// What is needed behind all edges out of a loop, at its head, and whether the rounds that the rank counts cover what is done before; none where it is not
     /// known there.
     fn join_exits(&self, ring: &Ring<'a>) -> Option<Exits<'a>> {
@@ -195,14 +200,11 @@ impl<'a> Finder<'_, 'a> {
         let mut is_covered = true;
         for (number, edge) in self.known.edges.iter().enumerate() {
             if ring.has(edge.from) && !ring.has(edge.to) {
-                let is_at_head = edge.from == ring.head;
-                match self.behind(number, *edge) {
-                    Some(next) if is_at_head || !next.names_inner(self.known, ring) => {
-                        all = Some(next.joined(self.known, ring.head, edge.way, all));
-                    }
-                    _ => return None,
-                }
-                is_covered = is_covered && is_at_head;
+                let Some(next) = self.behind_exit(ring, number, *edge) else {
+                    return None;
+                };
+                all = Some(next.joined(self.known, ring.head, edge.way, all));
+                is_covered = is_covered && edge.from == ring.head;
             }
         }
         Some(Exits {
@@ -213,7 +215,10 @@ impl<'a> Finder<'_, 'a> {
 
     /// Adds what the instructions of a block do, and its terminator.
     fn add_steps(&self, need: &mut Need<'a>, block: &Block) {
-        need.add(&uses_of(self.known.heap, self.known.function, self.costs, block));
+        need.add(
+            &uses_of(self.known.heap, self.known.function, self.costs, block),
+            1,
+        );
     }
 
     /// What each block needs by now, but for those of a loop, and this at the loop's head.
@@ -243,28 +248,37 @@ impl<'a> Finder<'_, 'a> {
         finder.need_behind(ring.head, head)
     }
 
-    /// What is needed at the head of a loop where what is needed behind it falls from round to round by what a round does, so that one round needs no more.
-    fn need_that_falls(
-        &self,
-        ring: &Ring<'a>,
-        head: &'a Block,
-        behind: &Need<'a>,
-    ) -> Option<Need<'a>> {
+    /// How much a need at the head of a loop lacks to be no less than one round needs and this once more.
+    fn lack_of(&self, ring: &Ring<'a>, head: &'a Block, need: &Need<'a>) -> Option<(i128, i128)> {
         let known = self.known;
-        let mut need = behind.copy();
+        let Some(next) = self.need_of_round(ring, head, need) else {
+            return None;
+        };
+        let calls = known.lack_of(ring.head, &need.calls, &next.calls);
+        let instructions = known.lack_of(ring.head, &need.instructions, &next.instructions);
+        match (calls, instructions) {
+            (Some(calls), Some(instructions)) => Some((calls, instructions)),
+            _ => None,
+        }
+    }
+
+    /// What is needed at the head of a loop where what is needed behind it falls from round to round by what a round does, so that one round needs no more.
+    fn need_that_falls(&self, ring: &Ring<'a>, head: &'a Block) -> Option<Need<'a>> {
+        let Some(exits) = self.join_exits(ring) else {
+            return None;
+        };
+        if fall_of(self.known, ring.head, &exits.need.instructions).is_none() {
+            return None;
+        }
+        let mut need = exits.need.copy();
         for _round in 0..MOST_TURNS {
-            let Some(next) = self.need_of_round(ring, head, &need) else {
-                return None;
-            };
-            let calls = known.lack_of(ring.head, &need.calls, &next.calls);
-            let instructions = known.lack_of(ring.head, &need.instructions, &next.instructions);
-            match (calls, instructions) {
-                (Some(0), Some(0)) => return Some(need),
-                (Some(calls), Some(instructions)) => {
+            match self.lack_of(ring, head, &need) {
+                Some((0, 0)) => return Some(need),
+                Some((calls, instructions)) => {
                     need.calls.add_number(calls);
                     need.instructions.add_number(instructions);
                 }
-                _ => return None,
+                None => return None,
             }
         }
         None
@@ -288,20 +302,6 @@ impl<'a> Finder<'_, 'a> {
         need
     }
 
-    /// The same, unless what is needed behind the loop falls from round to round and so pays for them.
-    fn need_of_ring(&self, ring: &Ring<'a>, head: &'a Block) -> Option<Need<'a>> {
-        let Some(exits) = self.join_exits(ring) else {
-            return None;
-        };
-        if fall_of(self.known, ring.head, &exits.need.instructions).is_some() {
-            let need = self.need_that_falls(ring, head, &exits.need);
-            if need.is_some() {
-                return need;
-            }
-        }
-        Some(self.need_of_rounds(ring, head, exits))
-    }
-
     /// What a block needs by the edges behind it, if that is known.
     fn need_behind(&self, number: usize, block: &Block) -> Option<Need<'a>> {
         let mut need = self.join_all(number);
@@ -311,18 +311,7 @@ impl<'a> Finder<'_, 'a> {
         need
     }
 
-    /// What a block needs. None where that is not known.
-    fn need(&self, number: usize) -> Option<Need<'a>> {
-        let Some(block) = block_at(self.known.function, number) else {
-            return None;
-        };
-        match ring_at(self.rings, number) {
-            Some(ring) => self.need_of_ring(ring, block),
-            None => self.need_behind(number, block),
-        }
-    }
-
-    /// The same where each loop is counted by its rounds.
+    /// What a block needs, where each loop is counted by its rounds. None where that is not known.
     fn counted_need(&self, number: usize) -> Option<Need<'a>> {
         let Some(block) = block_at(self.known.function, number) else {
             return None;
@@ -334,6 +323,20 @@ impl<'a> Finder<'_, 'a> {
             },
             None => self.need_behind(number, block),
         }
+    }
+
+    /// The same, but where what is needed behind a loop falls from round to round and so pays for the rounds.
+    fn need(&self, number: usize) -> Option<Need<'a>> {
+        if let (Some(ring), Some(head)) = (
+            ring_at(self.rings, number),
+            block_at(self.known.function, number),
+        ) {
+            let need = self.need_that_falls(ring, head);
+            if need.is_some() {
+                return need;
+            }
+        }
+        self.counted_need(number)
     }
 
     /// Whether it is not known yet what a block needs.

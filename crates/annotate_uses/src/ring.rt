@@ -2,7 +2,7 @@
 
 use annotate_facts::{
     Edge, Known, Sum, block_at, greatest_apart, greatest_number, is_phi, last_of, moved,
-    names_made, names_own, phi_value, value_of,
+    names_made, names_own, phi_value, value_from, value_of,
 };
 use syntax::{Function, Operand};
 
@@ -126,14 +126,13 @@ pub fn fall_of<'a>(known: &Known<'a>, head: usize, rank: &Sum<'a>) -> Option<i12
 /// What is at least 0 at the head, if this is so on an edge within the loop: where that leads back to the head, each phi in place of what it takes there.
 fn rank_by<'a>(function: &'a Function, head: usize, edge: Edge<'a>, fact: &Sum<'a>) -> Sum<'a> {
     let mut rank = fact.copy();
-    if let (Some(to), Some(from)) = (block_at(function, edge.to), block_at(function, edge.from)) {
-        if edge.to == head {
-            let phis = to.phis.as_slice();
-            for phi in phis {
-                let name = phi.register.as_str();
-                if let Some(Operand::Register(next)) = phi_value(phis, name, &from.label) {
-                    rank = rank.renamed(next.as_str(), name);
-                }
+    if edge.to != head {
+        return rank;
+    }
+    if let (Some(to), Some(from)) = (block_at(function, head), block_at(function, edge.from)) {
+        for phi in to.phis.as_slice() {
+            if let Some(Operand::Register(next)) = value_from(phi, &from.label) {
+                rank = rank.renamed(next.as_str(), phi.register.as_str());
             }
         }
     }

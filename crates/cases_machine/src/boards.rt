@@ -15,54 +15,86 @@ use std::io;
 use std::ops::Range;
 use std::rt::Files;
 
-/// Runs a module by these seeds. `cell` is what the first cell of `a` holds at the start. Where memory is refused that no call asks for, it is done once
-/// more.
-fn runs_of<R: AllocGlobal + Files>(
-    rt: &R,
-    state: RandomState,
-    file: &str,
-    begin: (i64, &[i64]),
+/// A module, what its runs begin with, and what they come to.
+#[derive(Clone, Copy)]
+struct Case {
+    file: &'static str,
+    /// What the first cell of `a` holds.
+    cell: i64,
+    arguments: &'static [i64],
     wanted: Ending,
-    seeds: &Range<u64>,
-    report: &mut Report,
-) -> io::Result<()> {
-    let verified = verified_file(rt, state, file)?;
-    let mut right = are_right(rt.alloc(), &verified, begin, wanted, seeds, report);
-    if right.is_err() {
-        report.refused = "a run";
-        right = are_right(rt.alloc(), &verified, begin, wanted, seeds, report);
-    }
-    report.holds(file, right.map_err(no_memory)?);
-    Ok(())
 }
 
-/// Answers the cases of which `check/sweeps` refuses each request for memory in turn.
-pub fn answer_few<R: AllocGlobal + Files>(
+/// How many cases there are.
+pub const ALL: usize = 7;
+
+/// How many of them are those of which `check/sweeps` refuses each request for memory in turn.
+pub const FEW: usize = 2;
+
+/// The cases, those few first.
+static CASES: [Case; ALL] = [
+    Case {
+        file: "examples/pair.ll",
+        cell: 0,
+        arguments: &[7],
+        wanted: (14, 14, 2),
+    },
+    Case {
+        file: "examples/fib.ll",
+        cell: 0,
+        arguments: &[5],
+        wanted: (5, 147, 10),
+    },
+    Case {
+        file: "examples/adding.ll",
+        cell: 5,
+        arguments: &[8],
+        wanted: (8, 70, 2),
+    },
+    Case {
+        file: "examples/parallel-for.ll",
+        cell: 5,
+        arguments: &[8],
+        wanted: (8, 70, 2),
+    },
+    Case {
+        file: "examples/load.ll",
+        cell: 5,
+        arguments: &[],
+        wanted: (5, 2, 1),
+    },
+    Case {
+        file: "examples/switch.ll",
+        cell: 0,
+        arguments: &[7],
+        wanted: (7, 5, 1),
+    },
+    Case {
+        file: "examples/kernels/tree-sum.ll",
+        cell: 9,
+        arguments: &[],
+        wanted: (9, 633, 8),
+    },
+];
+
+/// Answers so many cases, each by these seeds. Where memory is refused that no call asks for, the runs of a module are done once more.
+pub fn answer<R: AllocGlobal + Files>(
     rt: &R,
     state: RandomState,
+    count: usize,
     seeds: &Range<u64>,
     report: &mut Report,
 ) -> io::Result<()> {
     report.title("boards");
-    let (pair, fib) = ("examples/pair.ll", "examples/fib.ll");
-    runs_of(rt, state, pair, (0, &[7]), (14, 14, 2), seeds, report)?;
-    runs_of(rt, state, fib, (0, &[5]), (5, 147, 10), seeds, report)
-}
-
-/// Answers all cases.
-pub fn answer<R: AllocGlobal + Files>(
-    rt: &R,
-    state: RandomState,
-    seeds: &Range<u64>,
-    report: &mut Report,
-) -> io::Result<()> {
-    answer_few(rt, state, seeds, report)?;
-    let (adds, stores) = ("examples/adding.ll", "examples/parallel-for.ll");
-    runs_of(rt, state, adds, (5, &[8]), (8, 70, 2), seeds, report)?;
-    runs_of(rt, state, stores, (5, &[8]), (8, 70, 2), seeds, report)?;
-    let (load, switch) = ("examples/load.ll", "examples/switch.ll");
-    runs_of(rt, state, load, (5, &[]), (5, 2, 1), seeds, report)?;
-    runs_of(rt, state, switch, (0, &[7]), (7, 5, 1), seeds, report)?;
-    let tree = "examples/kernels/tree-sum.ll";
-    runs_of(rt, state, tree, (9, &[]), (9, 633, 8), seeds, report)
+    for case in CASES.iter().take(count) {
+        let verified = verified_file(rt, state, case.file)?;
+        let begin = (case.cell, case.arguments);
+        let mut right = are_right(rt.alloc(), &verified, begin, case.wanted, seeds, report);
+        if right.is_err() {
+            report.refused = "a run";
+            right = are_right(rt.alloc(), &verified, begin, case.wanted, seeds, report);
+        }
+        report.holds(case.file, right.map_err(no_memory)?);
+    }
+    Ok(())
 }

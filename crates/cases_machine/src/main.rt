@@ -29,8 +29,8 @@ fn answer<R: AllocGlobal + Env + Files + Threads + Wait + Clock + Sync>(
         match word.as_str() {
             "threads" => threads::answer(rt, state, report)?,
             // By these seeds each call at a board asks for memory. (In most runs no task beside the root is claimed, whose path is copied.)
-            "refused" => boards::answer_few(rt, state, &(13..17), report)?,
-            _ => boards::answer(rt, state, &(0..240), report)?,
+            "refused" => boards::answer(rt, state, boards::FEW, &(13..17), report)?,
+            _ => boards::answer(rt, state, boards::ALL, &(0..240), report)?,
         }
     }
     Ok(report.finish())

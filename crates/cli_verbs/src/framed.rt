@@ -13,7 +13,7 @@ fn head(alloc: Global, status: u8, printed: &[u8], beside: &Beside) -> Result<St
     write!(line, "{status} {output} {notes}");
     for file in &beside.files {
         let name = file.word.len();
-        let text = file.text.len();
+        let text = file.bytes.len();
         write!(line, " {name} {text}");
     }
     line.push_str("\n");
@@ -21,18 +21,18 @@ fn head(alloc: Global, status: u8, printed: &[u8], beside: &Beside) -> Result<St
 }
 
 /// An answer with these parts, and those that stand beside what is printed.
-pub fn framed(
+pub(crate) fn framed(
     alloc: Global,
     status: u8,
     printed: &[u8],
     beside: &Beside,
 ) -> Result<Vec<u8>, AllocError> {
     let mut bytes = head(alloc, status, printed, beside)?.into_bytes();
-    bytes.extend_from_slice(printed)?;
-    bytes.extend_from_slice(beside.notes.as_bytes())?;
+    let mut is_whole = bytes.extend_from_slice(printed).is_ok();
+    is_whole &= bytes.extend_from_slice(beside.notes.as_bytes()).is_ok();
     for file in &beside.files {
-        bytes.extend_from_slice(file.word.as_bytes())?;
-        bytes.extend_from_slice(file.text.as_bytes())?;
+        is_whole &= bytes.extend_from_slice(file.word.as_bytes()).is_ok();
+        is_whole &= bytes.extend_from_slice(file.bytes.as_slice()).is_ok();
     }
-    Ok(bytes)
+    if is_whole { Ok(bytes) } else { Err(AllocError) }
 }

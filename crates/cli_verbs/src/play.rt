@@ -3,7 +3,7 @@
 use crate::answers::answer;
 use crate::framed::framed;
 use crate::seed::Seed;
-use cli_words::{Beside, Question, Request, Status, WordsFault, fail, words};
+use cli_words::{Beside, Question, Request, Status, WordsFault, ended, words};
 use std::alloc::{AllocError, Global};
 use std::hash::RandomState;
 
@@ -35,10 +35,8 @@ fn obeyed(
     let mut input = texts.input;
     let mut output: Vec<u8> = Vec::new(alloc);
     let mut beside = Beside::nothing(alloc);
-    let status = match answer(question, &mut input, &mut output, &mut beside) {
-        Ok(status) => status,
-        Err(error) => fail(alloc, &error, &mut output, &mut beside),
-    };
+    let answered = answer(question, &mut input, &mut output, &mut beside);
+    let status = ended(answered, &mut output, &mut beside);
     framed(alloc, status as u8, output.as_slice(), &beside)
 }
 

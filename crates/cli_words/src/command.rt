@@ -11,25 +11,32 @@ use std::alloc::{AllocError, Global};
 /// What help calls the values of a row.
 static ROW_NAMES: [&str; 3] = ["@a", "I", "N"];
 
-/// An option with a value.
-fn option<'a>(arg: Arg<'a>, part: &Part, action: ArgAction) -> Arg<'a> {
-    arg.long(part.name).value_name(part.value).action(action)
+/// What is done with the values of an option, or with a flag.
+fn action_of(given: Given) -> ArgAction {
+    match given {
+        Given::Flag => ArgAction::SetTrue,
+        Given::Repeated | Given::Row => ArgAction::Append,
+        _ => ArgAction::Set,
+    }
 }
 
 fn arg_of<'a>(alloc: Global, part: &Part) -> Result<Arg<'a>, AllocError> {
-    let arg = Arg::new(alloc, part.name).help(part.help);
-    match part.given {
-        Given::Word => Ok(arg.value_name(part.value).required(true)),
-        Given::Option => Ok(option(arg, part, ArgAction::Set)),
-        Given::Required => Ok(option(arg, part, ArgAction::Set).required(true)),
-        Given::Unless(other) => option(arg, part, ArgAction::Set).required_unless_present(other),
-        Given::Repeated => Ok(option(arg, part, ArgAction::Append)),
-        Given::Row => Ok(
-            option(arg, part, ArgAction::Append)
-                .value_names(&ROW_NAMES)
-                .num_args(3),
-        ),
-        Given::Flag => Ok(arg.long(part.name).action(ArgAction::SetTrue)),
+    let Part {
+        name,
+        value,
+        given,
+        help,
+    } = *part;
+    let has_to_be = matches!(given, Given::Word | Given::Required);
+    let mut arg = Arg::new(alloc, name).help(help).required(has_to_be);
+    if !matches!(given, Given::Word) {
+        arg = arg.long(name).action(action_of(given));
+    }
+    match given {
+        Given::Flag => Ok(arg),
+        Given::Row => Ok(arg.value_names(&ROW_NAMES).num_args(3)),
+        Given::Unless(other) => arg.value_name(value).required_unless_present(other),
+        _ => Ok(arg.value_name(value)),
     }
 }
 
@@ -44,11 +51,11 @@ fn bare_command<'a>(alloc: Global, verb: Verb) -> Command<'a> {
 
 /// The command of a verb.
 fn verb_command<'a>(alloc: Global, verb: Verb) -> Result<Command<'a>, AllocError> {
-    let mut command = bare_command(alloc, verb);
+    let mut args = Vec::new(alloc);
     for part in row_of(verb).parts {
-        command = command.arg(arg_of(alloc, part)?)?;
+        args.push(arg_of(alloc, part)?)?;
     }
-    Ok(command)
+    bare_command(alloc, verb).args(args)
 }
 
 /// The program's command, without those of the verbs.
@@ -62,11 +69,11 @@ fn bare_program<'a>(alloc: Global) -> Command<'a> {
 
 /// The program's command.
 pub(crate) fn command<'a>(alloc: Global) -> Result<Command<'a>, AllocError> {
-    let mut command = bare_program(alloc);
+    let mut commands = Vec::new(alloc);
     for verb in VERBS {
-        command = command.subcommand(verb_command(alloc, verb)?)?;
+        commands.push(verb_command(alloc, verb)?)?;
     }
-    Ok(command)
+    bare_program(alloc).subcommands(commands)
 }
 
 /// What clap says, with a tip that works for a number below 0.

@@ -13,10 +13,10 @@ mod scan;
 mod status;
 mod words;
 
-pub use beside::{Beside, Dump, FileText, Times};
-pub use endings::{fail, print_refused, print_unreadable, stop_for_memory};
+pub use beside::{Beside, FileBytes, Times};
+pub use endings::{ended, print_refused, print_unreadable, stop_for_memory};
 pub use fault::DataFault;
-pub use files::{read_data, read_file, read_text, write_bytes, write_file};
+pub use files::{read_data, read_file, write_bytes};
 pub use numbers::{print_numbers, read_numbers};
 pub use status::Status;
 pub use words::{read_words, write_words};

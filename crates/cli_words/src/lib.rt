@@ -19,9 +19,9 @@ mod version;
 mod word;
 
 pub use io::{
-    Beside, DataFault, Dump, FileText, Status, Times, fail, print_numbers, print_refused,
-    print_unreadable, read_data, read_file, read_numbers, read_text, read_words, stop_for_memory,
-    write_bytes, write_file, write_words,
+    Beside, DataFault, FileBytes, Status, Times, ended, print_numbers, print_refused,
+    print_unreadable, read_data, read_file, read_numbers, read_words, stop_for_memory, write_bytes,
+    write_words,
 };
 pub use manual_page::manual;
 pub use names::is_name;

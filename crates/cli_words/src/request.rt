@@ -4,7 +4,7 @@ ghost use Rattle.cli_words.specs.Asked.{word_of};
 use std::alloc::AllocError;
 
 /// What the program is asked to do.
-#[derive(Clone, Copy, PartialEq, Eq)]
+#[derive(Clone, Copy)]
 pub enum Verb {
     /// Verify the module, and tell its budget and depth.
     Verify,

@@ -12,8 +12,8 @@ use Rattle.shared_run.specs.schedule_core.Admission.{IsAdmitted, IsNumberOfWorke
 use Rattle.shared_run.specs.store.Cells.{NamedCells}
 use Rattle.shared_run.specs.Answer.{IsSerialAnswer}
 use Rattle.shared_run.specs.Story.{origin}
-use Rattle.deque_pool.specs.lone.UnderWay.{IsRefusal}
-use Rattle.deque_pool.specs.serial_machine.Promise.{EndsWithinBudget}
+use Rattle.lone_run.specs.UnderWay.{IsRefusal}
+use Rattle.lone_run.specs.serial_machine.Promise.{EndsWithinBudget}
 
 pub answered : (program : Program) (arguments : List ℤ) (memory : List NamedCells) (workers : ℕ) (done : Finished) → EndsWithinBudget program arguments memory done → IsSerialAnswer (origin program arguments memory workers) done
 answered program arguments memory workers done e = record {

@@ -5,11 +5,11 @@ ghost use Rattle.shared_run.specs.store.Made.{IsMadeFor};
 ghost use Rattle.shared_run.specs.Answer.{IsSerialAnswer};
 ghost use Rattle.shared_run.specs.Story.{origin};
 ghost use Rattle.deque_pool.specs.Gates.{WasAsked, WasStopped};
-ghost use Rattle.deque_pool.specs.lone.UnderWay.{IsRefusal};
+ghost use Rattle.lone_run.specs.UnderWay.{IsRefusal};
 
 use crate::gate::{Gate, Go};
-use crate::lone::{LoneRun, run_unwatched};
 use lists::OutOfMemory;
+use lone_run::{LoneRun, run_unwatched};
 use shared_run::{Finished, Memory, RunFault, Verified};
 use std::alloc::Global;
 use std::sync::Wait;

@@ -1,7 +1,7 @@
+use shared_run::turns::{Hunger, Told};
 use std::sync::Wait;
 use std::sync::atomic::{AtomicU64, Ordering};
 use std::time::Duration;
-use strand_turns::{Hunger, Told};
 
 /// What workers tell one another: how many of them have no task, how many tasks are ready, and a bell for those that sleep meanwhile. These are hints on
 /// which nothing rests.

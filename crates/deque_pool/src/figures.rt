@@ -1,4 +1,4 @@
-use strand_turns::{Reason, Told};
+use shared_run::turns::{Reason, Told};
 
 /// What a worker did in a run. Each number stays at 2^64 - 1.
 #[derive(Clone, Copy)]

@@ -4,7 +4,7 @@ use crate::demand::Demand;
 use crate::figures::Figures;
 use deque_pool_tickets::{Hands, Taken, Thief};
 use shared_run::Ticket;
-use strand_turns::{Tasks, Told};
+use shared_run::turns::{Tasks, Told};
 
 /// A worker's ends of the lists, for one meeting.
 #[derive(Drop)]

@@ -4,9 +4,9 @@ use crate::demand::Demand;
 use crate::locking::locked;
 use crate::tickets::Ends;
 use crate::workers::Worker;
+use shared_run::turns::{Met, meet};
 use shared_run::{Bench, Shared};
 use std::sync::Wait;
-use strand_turns::{Met, meet};
 
 /// The worker meets the board, and then wakes others for the tasks that it offered.
 pub(crate) fn met<L: Bench, R: Wait>(

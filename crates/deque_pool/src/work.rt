@@ -7,12 +7,12 @@ use crate::locking::pause;
 use crate::outlook::Left;
 use crate::turns::met;
 use crate::workers::Worker;
+use shared_run::turns::{Met, turn};
 use shared_run::{Bench, Shared};
 use std::sync::Wait;
 use std::sync::atomic::{AtomicBool, Ordering};
 use std::thread;
 use std::time::Duration;
-use strand_turns::{Met, turn};
 
 /// How many searches in vain a worker makes with no more than a pause between them, and so many more with a yield. To be woken takes longer than some
 /// hundreds of them.

@@ -6,10 +6,10 @@ use crate::figures::Figures;
 use crate::outlook::Left;
 use deque_pool_tickets::{Hands, Thief};
 use lists::OutOfMemory;
+use shared_run::turns::Habits;
 use shared_run::{Bench, Places, PrivateStack, Seat, Verified};
 use std::alloc::Global;
 use std::sync::Mutex;
-use strand_turns::Habits;
 
 /// A worker: its seat, its stack, its list of tickets, and its ends of the others' lists, from the next worker on; what it has done, and why it left.
 #[derive(Drop)]

@@ -1,9 +1,7 @@
 //! What an accepted module could do without.
 
 use crate::trial::fault_of;
-use explain_costs::push_budgets;
-use explain_facts::Means;
-use explain_findings::{Source, with_line_at};
+use explain_facts::{Means, Put, Source, push_budgets, with_line};
 use ir_reader::read;
 use lists::{OutOfMemory, TextBuffer};
 use program::Program;
@@ -22,7 +20,7 @@ fn is_unneeded(means: &Means<'_>, source: Source<'_>, number: u32) -> bool {
     if !means.spend(source.text.len().saturating_mul(STEPS_A_BYTE)) {
         return false;
     }
-    let without = means.made(with_line_at(means.alloc, source.text, number, ""));
+    let without = means.made(with_line(means.alloc, source.text, Put::InPlaceOf(number), ""));
     matches!(fault_of(means, source.state, without.as_str()), Some(None))
 }
 

@@ -1,8 +1,7 @@
 //! What is to be stored before the cells of an alloca are read.
 
 use crate::trial::fault_of;
-use explain_facts::{Means, Scene, match_text};
-use explain_findings::{Source, with_line_before};
+use explain_facts::{Finding, Matched, Means, Put, Scene, Source, match_text, with_line};
 use footprints::address_cell;
 use lists::TextBuffer;
 use program::{Alloca, Argument, Block, Instruction, ObjectName, Step};
@@ -34,8 +33,8 @@ impl Reading<'_> {
     /// Whether the text with this line behind that one is refused no more by 402 at the reading line, which is then the next one.
     fn is_better(&self, after: u32, new: &str) -> bool {
         let means = &self.means;
-        let before = after.saturating_add(1);
-        let changed = means.made(with_line_before(means.alloc, self.source.text, before, new));
+        let put = Put::Before(after.saturating_add(1));
+        let changed = means.made(with_line(means.alloc, self.source.text, put, new));
         match fault_of(means, self.source.state, changed.as_str()) {
             Some(Some((number, at))) => {
                 number > 402 || (number == 402 && at > self.line.saturating_add(1))
@@ -98,6 +97,7 @@ impl Reading<'_> {
         }
     }
 
+    /// What is told of the line's step, if it stands in this block.
     fn push_block(&mut self, scene: &Scene<'_>, block: &Block) {
         for step in block.steps.as_slice() {
             if step.line == self.line {
@@ -106,20 +106,26 @@ impl Reading<'_> {
         }
     }
 
-    fn push_scene(&mut self, scene: &Scene<'_>) {
-        for block in scene.function.blocks.as_slice() {
-            self.push_block(scene, block);
+    fn push_module(&mut self, matched: &Matched) {
+        let program = &matched.graph.program;
+        for index in 0..program.functions.len() {
+            let scene = Scene::of(self.means.alloc, program, &matched.whole, index);
+            if let Some(scene) = self.means.found(scene) {
+                for block in scene.function.blocks.as_slice() {
+                    self.push_block(&scene, block);
+                }
+            }
         }
     }
 }
 
-/// What there is to say of a line that reads cells without values.
-pub fn alloca_notes(
+/// 402 of a line that reads cells without values, with what there is to say of it.
+pub fn alloca_finding(
     alloc: Global,
     source: Source<'_>,
     line: u32,
     effort: &Effort,
-) -> Result<String, Unanswered> {
+) -> Result<Finding, Unanswered> {
     let mut reading = Reading {
         means: Means::new(alloc, effort),
         source,
@@ -128,15 +134,16 @@ pub fn alloca_notes(
     };
     let matched = match_text(alloc, source.state, source.text.as_bytes(), false);
     if let Some(matched) = reading.means.found(matched) {
-        let program = &matched.graph.program;
-        for index in 0..program.functions.len() {
-            let scene = Scene::of(alloc, program, &matched.whole, index);
-            if let Some(scene) = reading.means.found(scene) {
-                reading.push_scene(&scene);
-            }
-        }
+        reading.push_module(&matched);
     }
     let Reading { means, notes, .. } = reading;
+    let notes = means.text(notes);
     means.finish()?;
-    Ok(notes.finish()?)
+    Ok(Finding {
+        number: 402,
+        line,
+        cause: None,
+        follows: false,
+        notes,
+    })
 }

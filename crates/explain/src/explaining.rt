@@ -2,13 +2,13 @@ ghost use Rattle.std.specs.Prelude.{◌≡◌, IfOk};
 ghost use Rattle.explain.specs.Verdict.{IsVerdictOn};
 
 use crate::accepted::remarks;
-use crate::alloca::alloca_notes;
+use crate::access::zone_findings;
+use crate::alloca::alloca_finding;
+use crate::note::name_finding;
 use crate::report::Explanation;
 use crate::tries::with_judged_tries;
-use explain_costs::told_cost_findings;
-use explain_facts::{match_text, number_findings};
-use explain_findings::{Finding, Source, name_finding, push_finding, word_findings};
-use explain_zones::zone_findings;
+use crate::word::word_findings;
+use explain_facts::{Finding, Source, match_text, number_findings, told_cost_findings};
 use lists::{ListBuffer, OutOfMemory, Seq, TextBuffer};
 use ranges::Unanswered;
 use std::alloc::Global;
@@ -31,7 +31,7 @@ fn program_findings(
         let findings = zone_findings(alloc, source, &matched, effort)?;
         with_judged_tries(alloc, source, findings.as_slice(), effort)
     } else {
-        told_cost_findings(alloc, source, &matched, effort)
+        told_cost_findings(alloc, Some(source), &matched, effort)
     }
 }
 
@@ -49,22 +49,14 @@ fn findings_of(
     if number < 200 {
         return Ok(word_findings(alloc, source, number, line)?);
     }
-    let mut findings: Vec<Finding> = Vec::new(alloc);
-    if number == 402 {
-        let notes = alloca_notes(alloc, source, line, effort)?;
-        push_finding(&mut findings, number, line, notes)?;
+    let finding = if number == 402 {
+        alloca_finding(alloc, source, line, effort)?
     } else {
-        findings.push(name_finding(alloc, source, number, line)?)?;
-    }
+        name_finding(alloc, source, number, line)?
+    };
+    let mut findings: Vec<Finding> = Vec::new(alloc);
+    findings.push(finding)?;
     Ok(findings)
-}
-
-/// What is told beside the fault that the verifier names.
-#[derive(Drop)]
-struct Told {
-    cause: Option<&'static str>,
-    notes: String,
-    others: Vec<Finding>,
 }
 
 /// What is to be told where the verifier names this fault: of it, and of the others of its phase in the order of their lines, those last that may
@@ -75,7 +67,7 @@ fn told_of(
     number: u16,
     line: u32,
     effort: &Effort,
-) -> Result<Told, OutOfMemory> {
+) -> Result<(Finding, Seq<Finding>), OutOfMemory> {
     let mut cause = None;
     let mut notes = TextBuffer::new(alloc);
     let mut others: ListBuffer<Finding> = ListBuffer::new(alloc);
@@ -95,11 +87,14 @@ fn told_of(
     }
     let mut others = others.finish()?;
     others.sort_by_key(|finding| (finding.follows, finding.line, finding.number))?;
-    Ok(Told {
+    let first = Finding {
+        number,
+        line,
         cause,
+        follows: false,
         notes: notes.finish()?,
-        others,
-    })
+    };
+    Ok((first, Seq::from_vec(others)))
 }
 
 /// Why a module's text is refused, or what it could do without. Its names are hashed with `state`.
@@ -124,21 +119,13 @@ pub fn explain(
             remarks: remarks(alloc, source, verified.program(), effort)?,
         }),
         Err(Unverified::Refused(Refused::Fault { number, line })) => {
-            let Told {
-                cause,
-                notes,
-                others,
-            } = told_of(alloc, source, number, line, effort)?;
-            Ok(Explanation::Refused {
-                first: Finding {
-                    number,
-                    line,
-                    cause,
-                    follows: false,
-                    notes,
-                },
-                others: Seq::from_vec(others),
-            })
+            let (told, others) = told_of(alloc, source, number, line, effort)?;
+            let first = Finding {
+                number,
+                line,
+                ..told
+            };
+            Ok(Explanation::Refused { first, others })
         }
         Err(Unverified::Refused(Refused::Memory)) => Err(OutOfMemory),
         Err(Unverified::OutOfEffort { .. }) => Ok(Explanation::Undecided),

@@ -1,7 +1,7 @@
 //! How an explanation is printed.
 
 use crate::report::Explanation;
-use explain_findings::{Finding, line_at};
+use explain_facts::{Finding, line_at};
 use lists::{OutOfMemory, TextBuffer};
 use refusal::{push_heads, push_meanings, push_mends};
 use std::alloc::Global;

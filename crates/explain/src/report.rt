@@ -1,4 +1,4 @@
-use explain_findings::Finding;
+use explain_facts::Finding;
 use lists::Seq;
 
 /// What a module's text comes to.

@@ -1,8 +1,7 @@
 //! Lines of zones to try, as far as no other rule refuses them.
 
-use explain_facts::{Means, match_text};
-use explain_findings::{Finding, Source, with_line_at, with_line_before};
-use explain_zones::zone_findings;
+use crate::access::zone_findings;
+use explain_facts::{Finding, Means, Put, Source, taken, with_line};
 use lists::{ListBuffer, TextBuffer};
 use ranges::Unanswered;
 use std::alloc::Global;
@@ -39,15 +38,12 @@ impl Trial<'_> {
     /// Whether a rule of zones refuses nothing of a text with a line that it does not refuse without it; no where that is not found out.
     fn is_taken(self, text: &str) -> bool {
         let means = self.means;
-        if !means.spend(text.len().saturating_mul(STEPS_A_BYTE)) {
-            return false;
-        }
         let source = Source {
             text,
             state: self.source.state,
         };
-        let matched = match_text(means.alloc, source.state, text.as_bytes(), true);
-        let Some(matched) = means.found(matched) else {
+        let steps = text.len().saturating_mul(STEPS_A_BYTE);
+        let Some(matched) = taken(means, source, steps) else {
             return false;
         };
         let found = zone_findings(means.alloc, source, &matched, means.effort);
@@ -67,15 +63,14 @@ impl Trial<'_> {
         let Some(words) = told.strip_prefix("    try: ") else {
             return true;
         };
-        let alloc = self.means.alloc;
-        let text = self.source.text;
-        let changed = if let Some((line, after)) = words.split_once(", after line ") {
-            with_line_before(alloc, text, number_of(after).saturating_add(1), line)
+        let (line, put) = if let Some((line, after)) = words.split_once(", after line ") {
+            (line, Put::Before(number_of(after).saturating_add(1)))
         } else if let Some((line, number)) = words.split_once(", in place of line ") {
-            with_line_at(alloc, text, number_of(number), line)
+            (line, Put::InPlaceOf(number_of(number)))
         } else {
             return true;
         };
+        let changed = with_line(self.means.alloc, self.source.text, put, line);
         self.is_taken(self.means.made(changed).as_str())
     }
 

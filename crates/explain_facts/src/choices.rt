@@ -1,7 +1,9 @@
 //! Faults of numbers, each with what was to be shown.
 
+use crate::finding::{Finding, Source, push_found};
 use crate::gap::{facts_with, first_facts};
 use crate::known::{Known, fact_lines};
+use crate::lines::line_at;
 use crate::means::Means;
 use crate::missing::Missing;
 use crate::scene::Scene;
@@ -9,7 +11,6 @@ use crate::silent::push_silent_compare;
 use crate::trial::Matched;
 use crate::tries::Trying;
 use crate::unmet::{Unmet, all_unmet};
-use explain_findings::{Finding, Source, line_at, push_found};
 use lists::TextBuffer;
 use program::{Block, BlockId, Instruction, Width};
 use ranges::{BlockFacts, EdgeFacts, Effort, Sum, Unanswered};
@@ -209,7 +210,10 @@ pub fn number_findings(
         unmet: all.as_slice(),
     };
     let mut findings: Vec<Finding> = Vec::new(alloc);
-    let mut missing = Missing::none(alloc);
+    let mut missing = Missing {
+        function: 0,
+        forms: Vec::new(alloc),
+    };
     for unmet in &all {
         let is_more = is_of_last(findings.as_slice(), unmet);
         let found = telling.finding_of(unmet, is_more, &mut missing);

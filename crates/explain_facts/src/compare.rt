@@ -92,8 +92,12 @@ fn last_test(
 ) -> Option<Test> {
     let mut at = to;
     for _step in edges {
-        let before = only_before(edges, at)?;
-        let block = function.blocks.as_slice().get(before.0)?;
+        let Some(before) = only_before(edges, at) else {
+            return None;
+        };
+        let Some(block) = function.blocks.as_slice().get(before.0) else {
+            return None;
+        };
         if let Some((step, true)) = compare_to(block, at) {
             if let Some(test) = test_of(step, register) {
                 return Some(test);
@@ -102,13 +106,6 @@ fn last_test(
         at = before;
     }
     None
-}
-
-fn width_word(width: Width) -> &'static str {
-    match width {
-        Width::Bits64 => "i64",
-        Width::Bits32 => "i32",
-    }
 }
 
 /// Where a test on the only way to a block lets a register be more than it may be at most: the test that would do.
@@ -129,7 +126,10 @@ pub(crate) fn push_test(
     let line = test.line;
     let outcome = scene.register(test.outcome);
     let name = scene.register(register);
-    let width = width_word(test.width);
+    let width = match test.width {
+        Width::Bits64 => "i64",
+        Width::Bits32 => "i32",
+    };
     writeln!(
         out,
         "    the test in line {line} lets %{name} be too much: `%{outcome} = icmp sle {width} %{name}, {most}` would do"

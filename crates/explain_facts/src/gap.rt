@@ -3,23 +3,13 @@
 ghost use Rattle.std.specs.Prelude.{◌≡◌, ◌++◌, IfOk};
 
 use crate::means::Means;
-use linear::{Fact, Form, Term};
+use linear::{Fact, Form, RegisterId, Term};
 use linear_shown::{FactCursor, Known, push_copies, shown};
 use lists::OutOfMemory;
-use ranges::{EdgeFacts, Effort, Unanswered};
 use std::alloc::Global;
 
 /// The steps that it counts for to take a fact into an index or to copy it.
 const STEPS_A_FACT: usize = 30;
-
-/// Counts so many steps, unless the effort is spent.
-pub fn spend(effort: &Effort, steps: usize) -> Result<(), Unanswered> {
-    if effort.is_spent() {
-        return Err(Unanswered::OutOfEffort);
-    }
-    effort.spend(steps as u64);
-    Ok(())
-}
 
 /// Whether the facts show the form.
 pub(crate) fn is_shown(means: &Means<'_>, facts: &[Fact], form: &Form) -> bool {
@@ -86,6 +76,16 @@ fn least_amount(means: &Means<'_>, known: &Known<'_>, form: &Form, most: i128) -
         step = step / 2;
     }
     least
+}
+
+/// The coefficient that a register has in a form.
+pub fn coefficient(form: &Form, register: RegisterId) -> i64 {
+    for term in form.terms.as_slice() {
+        if term.register == register {
+            return term.coefficient;
+        }
+    }
+    0
 }
 
 /// How many registers stand in a form and do not fall out of it.
@@ -167,7 +167,9 @@ fn partner(means: &Means<'_>, facts: &[Fact], last: usize, form: &Form) -> usize
 
 /// The places of the one or two facts that show the form; none where it needs no fact.
 pub(crate) fn facts_used(means: &Means<'_>, facts: &[Fact], form: &Form) -> Option<(usize, usize)> {
-    let last = count_enough(means, facts, form).checked_sub(1)?;
+    let Some(last) = count_enough(means, facts, form).checked_sub(1) else {
+        return None;
+    };
     if !means.spend(last.saturating_mul(STEPS_A_FACT)) {
         return None;
     }
@@ -186,13 +188,6 @@ pub(crate) fn facts_with(
     push_copies(alloc, &mut more, facts)?;
     push_copies(alloc, &mut more, others)?;
     Ok(more)
-}
-
-/// What is known on an edge: what is known at the end of its block, and then what its being taken says.
-pub fn edge_known(alloc: Global, known: &[Fact], edge: &EdgeFacts) -> Result<Vec<Fact>, OutOfMemory>
-    ensures { IfOk result (λ facts. facts.items ≡ known.now ++ edge.now.facts) }
-{
-    facts_with(alloc, known, edge.facts.as_slice())
 }
 
 /// Whether the facts show the form where one form more is at least 0.
@@ -224,14 +219,6 @@ fn plainer(means: &Means<'_>, form: Form) -> Form {
 /// How many registers a line may name.
 const MOST_REGISTERS: usize = 4;
 
-/// The registers that a step may have to be shorter than the one that is found.
-fn registers_below(best: &Option<Form>) -> usize {
-    match best {
-        Some(form) => number_of_registers(form),
-        None => MOST_REGISTERS.saturating_add(1),
-    }
-}
-
 /// What the facts that are `stated` show and what makes all facts show the form: a line to write before it. Of several the first of those with the
 /// fewest registers, 4 at most.
 pub(crate) fn step_between(
@@ -243,9 +230,10 @@ pub(crate) fn step_between(
     let cursor = means.cursor(stated);
     let stated = cursor.known();
     let mut best: Option<Form> = None;
+    let mut limit = MOST_REGISTERS.saturating_add(1);
     for fact in facts {
-        let limit = registers_below(&best);
         if let Some(step) = step_by(means, &stated, facts, fact, form, limit) {
+            limit = number_of_registers(&step);
             best = Some(step);
         }
     }
@@ -262,7 +250,9 @@ fn step_by(
     form: &Form,
     limit: usize,
 ) -> Option<Form> {
-    let rest = means.within_bounds(form.difference(means.alloc, &fact.form))?;
+    let Some(rest) = means.within_bounds(form.difference(means.alloc, &fact.form)) else {
+        return None;
+    };
     if number_of_registers(&rest) >= limit {
         return None;
     }

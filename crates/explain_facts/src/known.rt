@@ -35,27 +35,6 @@ fn push_lines(lines: &mut ListBuffer<u32>, inequalities: &[Inequality]) {
     }
 }
 
-/// Adds the lines of what is known at a block's start.
-fn push_start(lines: &mut ListBuffer<u32>, function: &Function, index: usize, block: &Block) {
-    if index == 0 {
-        push_lines(lines, function.requirements.as_slice());
-    } else {
-        push_lines(lines, block.keeps.as_slice());
-    }
-}
-
-/// The lines of what is known at a block's start.
-pub fn start_lines(
-    means: &Means<'_>,
-    function: &Function,
-    index: usize,
-    block: &Block,
-) -> Vec<u32> {
-    let mut lines = ListBuffer::new(means.alloc);
-    push_start(&mut lines, function, index, block);
-    means.list(lines)
-}
-
 /// Adds the lines of the facts behind `shows` lines: what was learned before them has the line before.
 fn push_shows(lines: &mut ListBuffer<u32>, count: usize, shows: &[Inequality], before: u32) {
     let learned = count.saturating_sub(shows.len());
@@ -73,8 +52,13 @@ pub fn fact_lines(
     block: &Block,
     table: &BlockFacts,
 ) -> Vec<u32> {
+    let start = if index == 0 {
+        &function.requirements
+    } else {
+        &block.keeps
+    };
     let mut lines = ListBuffer::new(means.alloc);
-    push_start(&mut lines, function, index, block);
+    push_lines(&mut lines, start.as_slice());
     let mut before = block.line;
     for (place, step) in block.steps.as_slice().iter().enumerate() {
         let count = table.at_step(place).len();
@@ -107,6 +91,11 @@ impl Known<'_> {
             Some(form) => is_shown(self.means, self.facts, &form),
             None => false,
         }
+    }
+
+    /// Whether one form is known to be at least another.
+    pub fn is_at_least(&self, high: &Form, low: &Form) -> bool {
+        self.shows(&self.means.between(&[], high, &[], low))
     }
 
     /// The fact at a place, and its line.

@@ -1,26 +1,39 @@
-//! What is known of numbers at a place, and how far that is from showing what is to be shown there. Functions of a program beside the names of their
-//! text, and how forms are spelled with them. Faults of numbers, each with lines that would mend it.
+//! Why numbers and costs of a module are refused: what is known of numbers at a place, how far that is from showing what is to be shown there, and lines
+//! that would mend it. Functions of a program beside the names of their text, how forms are spelled with them, and the lines of a text. What the budgets
+//! of an accepted module have left over.
 #![tactic(auto)]
 
+mod budgets;
 mod choices;
 mod compare;
+mod cost;
+mod finding;
 mod gap;
 mod known;
+mod left;
+mod lines;
 mod means;
 mod missing;
+mod missing_budget;
+mod rounds;
 mod scene;
 mod silent;
 mod spelling;
+mod sums;
 mod trial;
 mod tries;
 mod unknown;
 mod unmet;
 
+pub use budgets::push_budgets;
 pub use choices::number_findings;
-pub use gap::{edge_known, is_against, raised, shortfall, spend};
-pub use known::{Known, fact_lines, lack_of, start_lines};
+pub use cost::{cost_findings, told_cost_findings};
+pub use finding::{Finding, Source};
+pub use gap::{coefficient, is_against, raised, shortfall};
+pub use known::{Known, fact_lines, lack_of};
+pub use lines::{Put, line_at, with_line};
 pub use means::Means;
 pub use scene::Scene;
-pub use spelling::{plural, push_form, push_inequality};
-pub use trial::{Matched, match_text};
+pub use spelling::{plural, push_form};
+pub use trial::{Matched, match_text, taken};
 pub use tries::Trying;

@@ -204,6 +204,21 @@ impl<'a> Means<'a> {
         }
     }
 
+    /// A form with the moves put in.
+    pub fn placed(&self, moves: &[Move], form: &Form) -> Sum {
+        self.plus(self.sum(0), moves, form)
+    }
+
+    /// A number, less a form.
+    pub(crate) fn room(&self, number: u64, form: &Form) -> Sum {
+        self.less(self.sum(i128::from(number)), &[], form)
+    }
+
+    /// high - low, each with what stands for its registers put in.
+    pub fn between(&self, for_high: &[Move], high: &Form, for_low: &[Move], low: &Form) -> Sum {
+        self.less(self.placed(for_high, high), for_low, low)
+    }
+
     /// The form of a sum, unless it would pass the bounds of a form.
     pub fn form(&self, sum: &Sum) -> Option<Form> {
         self.found(sum_form(self.alloc, sum))

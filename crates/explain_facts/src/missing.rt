@@ -4,7 +4,6 @@ use crate::gap::{facts_with, is_shown, number_of_registers};
 use crate::known::Known;
 use crate::unmet::Unmet;
 use linear::{Fact, Form};
-use std::alloc::Global;
 
 /// How many forms of a function are kept: what is asked of them takes time for each.
 const MOST_KEPT: usize = 16;
@@ -12,18 +11,11 @@ const MOST_KEPT: usize = 16;
 /// What is not shown in a function, of the faults that do not follow from others.
 #[derive(Drop)]
 pub struct Missing {
-    function: usize,
-    forms: Vec<Fact>,
+    pub function: usize,
+    pub forms: Vec<Fact>,
 }
 
 impl Missing {
-    pub(crate) fn none(alloc: Global) -> Missing {
-        Missing {
-            function: 0,
-            forms: Vec::new(alloc),
-        }
-    }
-
     /// Whether the form would be shown if what is missing were known. (What contradicts the facts shows all, so it says nothing.)
     fn shows(&self, known: Known<'_>, form: &Form) -> bool {
         if self.forms.is_empty() {

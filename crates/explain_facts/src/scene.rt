@@ -1,7 +1,7 @@
 //! A function beside the names of its text.
 
 use lists::{ListBuffer, Name, OutOfMemory};
-use program::{AllocaId, BlockId, Function, GlobalId, ObjectName, Program, RegisterId};
+use program::{BlockId, Function, ObjectName, Program, RegisterId};
 use std::alloc::{AllocError, Global};
 use syntax::{Module, Parameter};
 
@@ -13,13 +13,6 @@ pub struct Scene<'a> {
     pub function: &'a Function,
     pub written: &'a syntax::Function,
     registers: Vec<&'a Name>,
-}
-
-fn parameter_name(parameter: &Parameter) -> &Name {
-    match parameter {
-        Parameter::Number { name } => name,
-        Parameter::Pointer { name, .. } => name,
-    }
 }
 
 /// Adds the names of the registers that a block defines, in the order of the text.
@@ -41,7 +34,9 @@ fn register_names<'a>(
 ) -> Result<Vec<&'a Name>, AllocError> {
     let mut names: ListBuffer<&'a Name> = ListBuffer::new(alloc);
     for parameter in function.parameters.as_slice() {
-        names.push(parameter_name(parameter));
+        match parameter {
+            Parameter::Number { name } | Parameter::Pointer { name, .. } => names.push(name),
+        }
     }
     for block in function.blocks.as_slice() {
         push_block_names(&mut names, block);
@@ -95,20 +90,6 @@ impl<'a> Scene<'a> {
         }
     }
 
-    fn global(&self, global: GlobalId) -> &str {
-        match self.program.globals.as_slice().get(global.0) {
-            Some(global) => global.name.as_str(),
-            None => "?",
-        }
-    }
-
-    fn alloca(&self, alloca: AllocaId) -> &str {
-        match self.function.allocas.as_slice().get(alloca.0) {
-            Some(alloca) => self.register(alloca.register),
-            None => "?",
-        }
-    }
-
     /// The cells of an object, as the function's text declares it.
     pub fn cells(&self, object: ObjectName) -> u64 {
         match object {
@@ -132,8 +113,14 @@ impl<'a> Scene<'a> {
     /// The sigil and the name of an object.
     pub fn object(&self, object: ObjectName) -> (&str, &str) {
         match object {
-            ObjectName::Global(global) => ("@", self.global(global)),
-            ObjectName::Alloca(alloca) => ("%", self.alloca(alloca)),
+            ObjectName::Global(global) => match self.program.globals.as_slice().get(global.0) {
+                Some(global) => ("@", global.name.as_str()),
+                None => ("@", "?"),
+            },
+            ObjectName::Alloca(alloca) => match self.function.allocas.as_slice().get(alloca.0) {
+                Some(alloca) => ("%", self.register(alloca.register)),
+                None => ("%", "?"),
+            },
             ObjectName::Parameter(register) => ("%", self.register(register)),
         }
     }

@@ -113,7 +113,7 @@ pub fn push_form(scene: &Scene<'_>, form: &Form, out: &mut TextBuffer) {
 }
 
 /// That a form is at least 0: what has a minus on the lesser side, the rest on the other; a number far from 0 by itself.
-pub fn push_inequality(scene: &Scene<'_>, form: &Form, out: &mut TextBuffer) {
+pub(crate) fn push_inequality(scene: &Scene<'_>, form: &Form, out: &mut TextBuffer) {
     let low = Spelled::of(scene, form, Part::Negative);
     let high = Spelled::of(scene, form, Part::Positive);
     let has_no_low = low.has_no_terms();

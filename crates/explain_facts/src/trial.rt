@@ -1,5 +1,7 @@
 //! A text as the phases before those of numbers, zones and costs take it.
 
+use crate::finding::Source;
+use crate::means::Means;
 use cfg::{BlockEdges, Graph, graph};
 use definedness::defined;
 use ir_reader::read;
@@ -70,4 +72,13 @@ pub fn match_text(
         Err(Refused::Fault { .. }) => Ok(None),
         Err(Refused::Memory) => Err(OutOfMemory),
     }
+}
+
+/// The module of a text that the phases up to that of uses take, where its judgement counts so many steps; none where one of them refuses it, or memory or
+/// effort did not reach till now.
+pub fn taken(means: &Means<'_>, source: Source<'_>, steps: usize) -> Option<Matched> {
+    if !means.spend(steps) {
+        return None;
+    }
+    means.found(match_text(means.alloc, source.state, source.text.as_bytes(), true))
 }

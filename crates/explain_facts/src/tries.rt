@@ -1,16 +1,16 @@
 //! Lines to try where a form is not shown: those with few registers first.
 
+use crate::finding::Source;
 use crate::gap::{is_against, number_of_registers, only_term, raised};
 use crate::known::Known;
+use crate::lines::{Put, push_indented, with_line};
 use crate::means::Means;
 use crate::scene::Scene;
 use crate::spelling::push_inequality;
-use crate::trial::{Matched, match_text};
+use crate::trial::{Matched, taken};
 use crate::unmet::{Unmet, all_unmet};
-use explain_findings::{Source, push_indented, with_line_before};
 use linear::Form;
 use lists::TextBuffer;
-use program::BlockId;
 use ranges::Sum;
 
 /// The steps that a byte of a text counts for that is judged as far as its numbers.
@@ -25,19 +25,10 @@ pub struct Trying<'s, 'a> {
     pub old: &'a [Unmet],
 }
 
-/// A line to try, how many registers it names, and where it is put: `after` or `before` the line of this number.
-#[derive(Drop)]
-struct Try {
-    registers: usize,
-    line: String,
-    place: &'static str,
-    number: u32,
-}
-
-/// Whether a line is there and names fewer registers than the other.
-fn is_shorter(one: &Option<Try>, other: &Option<Try>) -> bool {
+/// Whether a form is there and names fewer registers than the other.
+fn has_fewer(one: &Option<Form>, other: &Option<Form>) -> bool {
     match (one, other) {
-        (Some(one), Some(other)) => one.registers < other.registers,
+        (Some(one), Some(other)) => number_of_registers(one) < number_of_registers(other),
         _ => false,
     }
 }
@@ -48,18 +39,6 @@ fn annotation(means: &Means<'_>, scene: &Scene<'_>, word: &str, form: &Form) -> 
     write!(line, ";! {word} ");
     push_inequality(scene, form, &mut line);
     means.text(line)
-}
-
-fn push_try(tried: &Option<Try>, out: &mut TextBuffer) {
-    if let Some(tried) = tried {
-        let Try {
-            line,
-            place,
-            number,
-            ..
-        } = tried;
-        writeln!(out, "    try: {line}, {place} line {number}");
-    }
 }
 
 /// Whether a fault stands among those of the text, where one line more stands from this one on.
@@ -87,15 +66,6 @@ fn is_less(new: &[Unmet], old: &[Unmet], added: u32) -> bool {
     old.is_empty() || new.len() < old.len()
 }
 
-/// The annotation that says what is known at the start of a block, and the line behind which it stands.
-fn start_of(scene: &Scene<'_>, block: BlockId) -> (&'static str, u32) {
-    if block.0 == 0 {
-        ("requires", scene.function.line)
-    } else {
-        ("keeps", scene.label_line(block))
-    }
-}
-
 /// A bound so far from 0 only keeps a register within its width: of i32 the greatest is about twice as much.
 const FAR: i128 = 1_000_000_000;
 
@@ -104,21 +74,17 @@ fn plainer(means: &Means<'_>, form: &Form) -> Option<Form> {
     if form.constant < FAR {
         return Some(means.copy(form));
     }
-    let only = only_term(form)?;
+    let Some(only) = only_term(form) else {
+        return None;
+    };
     let constant = match only.coefficient {
         1 => 0,
         -1 => FAR,
         _ => return None,
     };
-    let form = means.within_bounds(means.zero().plus_term(only.register, only.coefficient))?;
-    raised(means, &form, constant)
-}
-
-/// Whether a form bounds one register by at most 0: what a function that asks this would have left is hardly what its author means.
-fn leaves_nothing(form: &Form) -> bool {
-    match only_term(form) {
-        Some(only) => only.coefficient < 0 && form.constant <= 0,
-        None => false,
+    match means.within_bounds(means.zero().plus_term(only.register, only.coefficient)) {
+        Some(form) => raised(means, &form, constant),
+        None => None,
     }
 }
 
@@ -145,12 +111,15 @@ impl Trying<'_, '_> {
     /// The text with this line before that one, where the phases up to that of uses take it; none where memory or effort did not reach before.
     fn tried(&self, line: &str, before: u32) -> Option<Matched> {
         let means = self.known.means;
-        let source = self.source?;
-        let text = means.made(with_line_before(means.alloc, source.text, before, line));
-        if !means.spend(text.len().saturating_mul(STEPS_A_BYTE)) {
+        let Some(Source { text, state }) = self.source else {
             return None;
-        }
-        means.found(match_text(means.alloc, source.state, text.as_bytes(), true))
+        };
+        let changed = means.made(with_line(means.alloc, text, Put::Before(before), line));
+        let source = Source {
+            text: changed.as_str(),
+            state,
+        };
+        taken(means, source, changed.len().saturating_mul(STEPS_A_BYTE))
     }
 
     /// Whether the text with this line behind that one is right up to the uses of its registers.
@@ -179,10 +148,13 @@ impl Trying<'_, '_> {
         }
     }
 
-    /// Whether a line that says a form would leave hardly a number: it is known to be at most 0, or bounds a parameter by 0.
+    /// Whether a line that says a form would leave hardly a number: it is known to be at most 0, or bounds a parameter by 0, which is hardly what the
+    /// author of a function means that asks this.
     fn is_narrow(&self, form: &Form) -> bool {
-        if self.known.block.0 == 0 && leaves_nothing(form) {
-            return true;
+        if let (0, Some(only)) = (self.known.block.0, only_term(form)) {
+            if only.coefficient < 0 && form.constant <= 0 {
+                return true;
+            }
         }
         let means = self.known.means;
         match raised(means, form, -1) {
@@ -191,49 +163,63 @@ impl Trying<'_, '_> {
         }
     }
 
-    /// A `keeps` line of the block, or a `requires` line of its function, that says what a reader would write in place of a form, if nothing new is owed
-    /// with it.
-    fn start_line(&self, form: &Form) -> Option<Try> {
-        let means = self.known.means;
-        let plain = plainer(means, form)?;
-        let registers = number_of_registers(&plain);
-        if registers == 0 || self.is_narrow(&plain) {
-            return None;
+    /// The annotation that says what is known at the start of the block, and the line behind which it stands.
+    fn start(&self) -> (&'static str, u32) {
+        let Known { scene, block, .. } = self.known;
+        if block.0 == 0 {
+            ("requires", scene.function.line)
+        } else {
+            ("keeps", scene.label_line(block))
         }
-        let (word, after) = start_of(self.known.scene, self.known.block);
-        let line = annotation(means, self.known.scene, word, &plain);
-        if !self.is_better(line.as_str(), after.saturating_add(1)) {
-            return None;
-        }
-        Some(Try {
-            registers,
-            line,
-            place: "after",
-            number: after,
-        })
     }
 
-    /// A `shows` line before the place, with which the form is shown there.
-    fn step_line(&self, form: &Form) -> Option<Try> {
-        let step = self.known.step_to(form)?;
-        Some(Try {
-            registers: number_of_registers(&step),
-            line: annotation(self.known.means, self.known.scene, "shows", &step),
-            place: "before",
-            number: self.known.line,
-        })
+    /// What a `keeps` line of the block, or a `requires` line of its function, could say: what a reader would write in place of a form, if nothing new is
+    /// owed with it.
+    fn start_form(&self, form: &Form) -> Option<Form> {
+        let known = self.known;
+        let Some(plain) = plainer(known.means, form) else {
+            return None;
+        };
+        if number_of_registers(&plain) == 0 || self.is_narrow(&plain) {
+            return None;
+        }
+        let (word, after) = self.start();
+        let line = annotation(known.means, known.scene, word, &plain);
+        if self.is_better(line.as_str(), after.saturating_add(1)) {
+            Some(plain)
+        } else {
+            None
+        }
+    }
+
+    /// Adds a line to try at the start of the block, if there is a form for it.
+    fn push_start(&self, form: &Option<Form>, out: &mut TextBuffer) {
+        if let Some(form) = form {
+            let (word, after) = self.start();
+            let line = annotation(self.known.means, self.known.scene, word, form);
+            writeln!(out, "    try: {line}, after line {after}");
+        }
+    }
+
+    /// Adds a `shows` line to try before the place, if there is a form for it.
+    fn push_step(&self, form: &Option<Form>, out: &mut TextBuffer) {
+        if let Some(form) = form {
+            let line = annotation(self.known.means, self.known.scene, "shows", form);
+            let before = self.known.line;
+            writeln!(out, "    try: {line}, before line {before}");
+        }
     }
 
     /// Adds lines each of which is enough to show a form at the place, where there are any.
     fn push_tries(&self, form: &Form, out: &mut TextBuffer) {
-        let step = self.step_line(form);
-        let start = self.start_line(form);
-        if is_shorter(&start, &step) {
-            push_try(&start, out);
-            push_try(&step, out);
+        let step = self.known.step_to(form);
+        let start = self.start_form(form);
+        if has_fewer(&start, &step) {
+            self.push_start(&start, out);
+            self.push_step(&step, out);
         } else {
-            push_try(&step, out);
-            push_try(&start, out);
+            self.push_step(&step, out);
+            self.push_start(&start, out);
         }
     }
 

@@ -90,14 +90,6 @@ fn made_words(program: &Program, step: &Step, is_here: bool) -> Option<&'static 
     }
 }
 
-/// What makes a register that is asked for in a block, as far as that gives no facts.
-fn maker_words(scene: &Scene<'_>, block: BlockId, register: RegisterId) -> Option<&'static str> {
-    match maker_of(scene.function, register) {
-        Some((made_in, step)) => made_words(scene.program, step, made_in == block),
-        None => None,
-    }
-}
-
 /// That nothing bounds the register of a term from its side.
 fn push_what(scene: &Scene<'_>, facts: &[Fact], term: Term, out: &mut TextBuffer) {
     let name = scene.register(term.register);
@@ -126,7 +118,11 @@ pub(crate) fn push_unbounded(
     out: &mut TextBuffer,
 ) {
     push_what(scene, facts, term, out);
-    if let Some(words) = maker_words(scene, block, term.register) {
+    let maker = match maker_of(scene.function, term.register) {
+        Some((made_in, step)) => made_words(scene.program, step, made_in == block),
+        None => None,
+    };
+    if let Some(words) = maker {
         writeln!(out, ", which is {words}");
     } else if block.0 == 0 {
         out.push_str(": bound it by `requires`\n");
@@ -137,27 +133,23 @@ pub(crate) fn push_unbounded(
     }
 }
 
-/// Whether an instruction makes a quotient by a number, which it rounds down.
-fn is_rounded(step: &Step) -> bool {
+/// Where a register is a quotient by a number, that what only rounding shows is not known of it, and what to do.
+pub(crate) fn push_rounded(scene: &Scene<'_>, register: RegisterId, out: &mut TextBuffer) {
+    let Some((_, step)) = maker_of(scene.function, register) else {
+        return;
+    };
     match &step.instruction {
         Instruction::Binary {
             operator: BinaryOperator::SignedDivide,
             right: Operand::Number(divisor),
             ..
-        } => *divisor >= 2,
-        _ => false,
-    }
-}
-
-/// Where a register is a quotient, that what only rounding shows is not known of it, and what to do.
-pub(crate) fn push_rounded(scene: &Scene<'_>, register: RegisterId, out: &mut TextBuffer) {
-    if let Some((_, step)) = maker_of(scene.function, register) {
-        if is_rounded(step) {
+        } if *divisor >= 2 => {
             let name = scene.register(register);
             writeln!(
                 out,
                 "    %{name} is rounded down, which no fact says: in place of (%lo+%hi)/2 take %lo+(%hi-%lo)/2, or let `requires` ask for half the size"
             );
         }
+        _ => {}
     }
 }

@@ -4,7 +4,7 @@ use crate::means::Means;
 use crate::trial::Matched;
 use linear_shown::{FactBranches, FactCursor, Known};
 use lists::{ListBuffer, OutOfMemory, Seq};
-use program::{Block, Function, Inequality, Program, Step};
+use program::{Block, Ending, Function, Inequality, Program, Step};
 use ranges::{BlockFacts, Obligation, Sum, inequalities_owed, is_met_at, owed, owed_at_end};
 use std::slice;
 
@@ -35,13 +35,6 @@ struct Owing<'a> {
     unmet: ListBuffer<Unmet>,
 }
 
-fn line_of(inequalities: &[Inequality], place: usize) -> Option<u32> {
-    match inequalities.get(place) {
-        Some(inequality) => Some(inequality.line),
-        None => None,
-    }
-}
-
 /// The inequalities that an instruction is asked by: a callee's `requires`.
 fn asking_of<'a>(program: &'a Program, step: &Step) -> &'a [Inequality] {
     match &step.instruction {
@@ -56,25 +49,6 @@ fn asking_of<'a>(program: &'a Program, step: &Step) -> &'a [Inequality] {
 }
 
 impl Owing<'_> {
-    /// Adds an obligation, if what is known does not meet it.
-    fn push_owed(
-        &mut self,
-        site: Site,
-        known: &Known<'_>,
-        obligation: Obligation,
-        asked: Option<u32>,
-    ) {
-        let means = self.means;
-        if !means.is_so(is_met_at(means.alloc, known, &obligation)) {
-            self.unmet.push(Unmet {
-                site,
-                number: obligation.number,
-                choices: obligation.choices,
-                asked,
-            });
-        }
-    }
-
     /// Adds what is known not to meet. The inequalities, if there are any, are those that ask it, in the same order.
     fn push_unmet(
         &mut self,
@@ -83,9 +57,20 @@ impl Owing<'_> {
         owed: Result<Vec<Obligation>, OutOfMemory>,
         asking: &[Inequality],
     ) {
+        let means = self.means;
         let mut place: usize = 0;
-        for obligation in self.means.items(owed) {
-            self.push_owed(site, known, obligation, line_of(asking, place));
+        for obligation in means.items(owed) {
+            if !means.is_so(is_met_at(means.alloc, known, &obligation)) {
+                self.unmet.push(Unmet {
+                    site,
+                    number: obligation.number,
+                    choices: obligation.choices,
+                    asked: match asking.get(place) {
+                        Some(inequality) => Some(inequality.line),
+                        None => None,
+                    },
+                });
+            }
             place = place.saturating_add(1);
         }
     }
@@ -145,11 +130,22 @@ impl Owing<'_> {
         if let Some(ending) = &block.ending {
             site.line = ending.line;
             site.count = table.facts.len();
-            self.push_shows(site, &mut cursor, ending.shows.as_slice());
-            let owed = owed_at_end(means.alloc, function, &ending.terminator);
-            self.push_unmet(site, &cursor.known(), owed, function.guarantees.as_slice());
+            self.push_ending(site, &mut cursor, function, ending);
             self.push_edges(site, function, table);
         }
+    }
+
+    /// Adds what is not shown at the end of a block, but for its edges.
+    fn push_ending(
+        &mut self,
+        site: Site,
+        cursor: &mut FactCursor<'_>,
+        function: &Function,
+        ending: &Ending,
+    ) {
+        self.push_shows(site, cursor, ending.shows.as_slice());
+        let owed = owed_at_end(self.means.alloc, function, &ending.terminator);
+        self.push_unmet(site, &cursor.known(), owed, function.guarantees.as_slice());
     }
 
     /// Adds what is not shown in a function.

@@ -1,6 +1,9 @@
 //! A host: takes a kernel that it did not write, turns it away where it is wrong or too dear, and runs it serially, on threads and by a schedule.
 #![tactic(auto)]
 
+use deque_pool::{Event, Gate, Go, replay, run};
+use frame::Path;
+use serial_machine::{Decoded, serial_run_by};
 use std::alloc::{AllocError, Global};
 use std::hash::RandomState;
 use std::io::{BufWriter, Write};
@@ -9,10 +12,8 @@ use std::sync::Wait;
 use std::thread::Threads;
 use std::time::Clock;
 use std::{env, fs, io};
-use tapir_host::{
-    Decoded, Effort, Event, Gate, Go, Memory, Path, Refused, RunFault, Unverified, Verified,
-    replay, run, serial_run_by, verify_within,
-};
+use store::{Memory, RunFault};
+use verifier::{Effort, Refused, Unverified, Verified, verify_within};
 
 /// The most steps of search for a verdict.
 const MOST_STEPS: u64 = 1_000_000_000;

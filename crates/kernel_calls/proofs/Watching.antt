@@ -6,8 +6,8 @@ use Rattle.store.specs.Cells.{NamedCells}
 use Rattle.store.specs.Serially.{memory_of_globals}
 use Rattle.store.specs.declared.outcome.Finished.{Finished}
 use Rattle.serial_machine.specs.Promise.{EndsWithinBudget, TakesMore}
-use Rattle.deque_pool.specs.lone.UnderWay.{IsRunOf, IsUnderWay}
-use Rattle.deque_pool.specs.declared.lone.run.LoneRun.{LoneRun}
+use Rattle.lone_run.specs.UnderWay.{IsRunOf, IsUnderWay}
+use Rattle.lone_run.specs.declared.run.LoneRun.{LoneRun}
 use Rattle.kernel_calls.specs.Told.{ExceedsProgram, RunsProgram}
 use Rattle.kernel_calls.specs.declared.told.Outcome.{Outcome}
 

@@ -8,8 +8,8 @@ ghost use Rattle.store.specs.Made.{HasGlobalCells, IsMadeFor};
 ghost use Rattle.kernel_calls.specs.Until.{ComesTo};
 
 use crate::hosted::Stop;
-use deque_pool::LoneRun;
 use lists::OutOfMemory;
+use lone_run::LoneRun;
 use std::alloc::Global;
 use store::Memory;
 use verifier::Verified;

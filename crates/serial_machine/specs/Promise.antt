@@ -12,8 +12,10 @@ use Rattle.store.specs.declared.outcome.RunFault.TheVariants.{BadArguments, BadW
 use Rattle.serial_machine.specs.declared.run.Unfinished.{Unfinished}
 use Rattle.serial_machine.specs.declared.run.Unfinished.TheVariants.{Fault, OutOfFuel}
 
--- the serial meaning, within the budget and the depth that the verifier answers; each global has as many cells as before
-pub record EndsWithinBudget (program : Program) (arguments : List ℤ) (memory : List NamedCells) (done : Finished) : Type 0 where
+-- the serial meaning, within the budget and the depth that the verifier answers; each global has as many cells as
+-- before
+pub record EndsWithinBudget (program : Program) (arguments : List ℤ) (memory : List NamedCells) (done : Finished)
+    : Type 0 where
   pub meant : IsMeant program arguments memory done
   pub budget : done.instructions ≤ budget_of program
   pub depth : (depth : ℕ) → IsDepthOf program depth → done.peak ≤ depth
@@ -34,8 +36,12 @@ pub record TakesMore (program : Program) (arguments : List ℤ) (memory : List N
   pub more : fuel < outcome.count
   pub budget : outcome.count ≤ budget_of program
 
--- the same within some fuel, which does not last only where the serial meaning takes more; the memory is handed back then
+-- the same within some fuel, which does not last only where the serial meaning takes more; the memory is handed back
+-- then
 abbrev pub EndsWithinFuel : Program → List ℤ → List NamedCells → ℕ → Result Finished Unfinished → Type 0
-EndsWithinFuel program arguments memory fuel (Ok done) = EndsWithinBudget program arguments memory done × (done.instructions ≤ fuel)
-EndsWithinFuel program arguments memory fuel (Err (Fault fault)) = EndsOrLacksMemory program arguments memory (Err fault)
-EndsWithinFuel program arguments memory fuel (Err (OutOfFuel m)) = (m ≡ memory) × TakesMore program arguments memory fuel
+EndsWithinFuel program arguments memory fuel (Ok done) = EndsWithinBudget program arguments memory done ×
+    (done.instructions ≤ fuel)
+EndsWithinFuel program arguments memory fuel (Err (Fault fault)) = EndsOrLacksMemory program arguments memory
+    (Err fault)
+EndsWithinFuel program arguments memory fuel (Err (OutOfFuel m)) = (m ≡ memory) ×
+    TakesMore program arguments memory fuel

@@ -20,7 +20,8 @@ row_memory globals row c = in_row globals row c.object c.index
 -- a run over a row that has ended comes to the serial meaning, whose memory stands in the row
 abbrev pub RowsMean : Type 0
 RowsMean =
-    (prog : Program) (places : Places) (globals : List ℕ) (arguments row : List ℤ) → length row ≡ sum globals → sum globals < 9223372036854775808 →
+    (prog : Program) (places : Places) (globals : List ℕ) (arguments row : List ℤ) → length row ≡ sum globals →
+    sum globals < 9223372036854775808 →
     (done peak : ℕ) (k : Stack) (result : ℤ) →
     HasEnded globals prog places (starting prog arguments (row_memory globals row)) done peak k result →
     IsSerialMeaning prog arguments (row_memory globals row) (record {

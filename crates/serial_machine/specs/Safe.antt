@@ -1,4 +1,5 @@
--- What the machine rests on, of each program that the verifier took: its text fits, and its serial run can do each next step.
+-- What the machine rests on, of each program that the verifier took: its text fits, and its serial run can do each next
+-- step.
 use Rattle.std.specs.Prelude.{◌≡◌, ℕ, ◌≤◌, List, length, map, ℤ, slice_get}
 use Rattle.semantics.specs.Cells.{Memory}
 use Rattle.semantics.specs.Frames.{Frame, global_cells, item_at}
@@ -25,16 +26,21 @@ HasCellsOf program globals = (g : ℕ) → global_cells (slice_get program.globa
 -- wherever a serial run comes it can do its next step, within the budget
 abbrev pub RunsAreSafe : Type 0
 RunsAreSafe =
-    (text : List ℕ) (program : Program) → IsProgramOf text program → (arguments : List ℤ) (memory : Memory) → AreTaken program arguments →
+    (text : List ℕ) (program : Program) → IsProgramOf text program → (arguments : List ℤ) (memory : Memory) →
+    AreTaken program arguments →
     HasGlobals program memory →
-    (globals : List ℕ) → HasCellsOf program globals → RunsSafely globals program (budget_of program) (starting program arguments memory)
+    (globals : List ℕ) → HasCellsOf program globals → RunsSafely globals program (budget_of program)
+    (starting program arguments memory)
 
 -- numbers of i32 that an instruction reads are numbers of that type
 abbrev pub ItemsFit : Type 0
-ItemsFit = (prog : Program) → HasKinds prog → (f : Frame) → HasKindedRegisters prog f → ItemFits f (item_at prog f.function f.block f.index)
+ItemsFit = (prog : Program) → HasKinds prog → (f : Frame) → HasKindedRegisters prog f →
+    ItemFits f (item_at prog f.function f.block f.index)
 
 -- what the text names is there
 abbrev pub TextsFit : Type 0
 TextsFit =
-    (text : List ℕ) (program : Program) → IsProgramOf text program → (places : Places) (moves : ℕ) → length program.globals ≤ length places.globals →
-    places.allocas ≡ map (λ (f : Function). alloca_starts f.allocas) program.functions → places.codes ≡ program_codes program → HasMoves program moves → TextFits program places moves
+    (text : List ℕ) (program : Program) → IsProgramOf text program → (places : Places) (moves : ℕ) →
+    length program.globals ≤ length places.globals →
+    places.allocas ≡ map (λ (f : Function). alloca_starts f.allocas) program.functions →
+    places.codes ≡ program_codes program → HasMoves program moves → TextFits program places moves

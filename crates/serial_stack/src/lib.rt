@@ -3,9 +3,8 @@
 #![tactic(auto)]
 
 mod borders;
-mod run;
+mod going;
 mod stack;
 mod start;
 
-pub use run::Ended;
 pub use stack::Stack;

@@ -8,6 +8,8 @@
 //!
 //! `Shared` is a board in a lock. No call here waits: a thread locks `Shared::board` itself. Where the run begins stands with the ledger, in
 //! contracts alone, so nothing has to be copied or compared to tell what is in the lock.
+//!
+//! What a worker does when is `turns`, with no lock and no handle either.
 #![tactic(auto)]
 
 mod answers;
@@ -23,6 +25,7 @@ mod shared;
 mod stack;
 mod start;
 mod ticket;
+pub mod turns;
 
 pub use answers::{Claimed, Committed, Fetched, Loaded, Published, Stepped};
 pub use bench::Bench;

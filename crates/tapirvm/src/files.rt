@@ -68,7 +68,7 @@ fn is_written<R: AllocGlobal + Eprint + Files>(
 /// Writes all files that are asked for, texts first, up to one that cannot be written.
 pub fn write_files<R: AllocGlobal + Eprint + Files>(rt: &R, beside: &Beside) -> io::Result<Status> {
     for file in &beside.files {
-        if !is_written(rt, file.word.as_str(), file.text.as_bytes())? {
+        if !is_written(rt, file.word.as_str(), file.bytes.as_slice())? {
             return Ok(Status::Stream);
         }
     }

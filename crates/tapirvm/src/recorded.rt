@@ -1,7 +1,8 @@
 //! Runs on threads of which more is told than the answer.
 
 use crate::clocks::microseconds_since;
-use cli_runs::{
+use crate::strands::{Told as Replayed, run_again};
+use cli_verbs::{
     Course, Event, Finished, Halt, Job, Machine, page_of, prepared, print_told, tell_course,
 };
 use cli_words::{Beside, Status};
@@ -12,8 +13,7 @@ use std::io::Write;
 use std::sync::Wait;
 use std::thread::Threads;
 use std::time::{Clock, Instant};
-use strand_rounds::{Told as Replayed, run_again};
-use view_events::{Crew, Effort, Figures as Table, MOST_EVENTS, Script, Told, Whole, picture_of};
+use views::{Crew, Effort, Figures as Table, MOST_EVENTS, Script, Told, Whole, picture_of};
 
 /// The events of a run that was recorded, or so many of them.
 #[derive(Drop)]
@@ -157,6 +157,29 @@ fn page<W: Write>(
     page_of(job, memory, &mut course, whole, output)
 }
 
+/// All that is told of a run of which not each event is shown.
+fn tell_parts<W: Write>(
+    job: &Job<'_>,
+    run: &Recorded,
+    crew: Crew<'_>,
+    shown: &mut Told,
+    output: &mut W,
+    beside: &mut Beside,
+) -> Result<(), Halt> {
+    let telling = &job.request.telling;
+    let entries = run.history.entries().unwrap_or(&[]);
+    if telling.page.is_some() {
+        shown.page = page(job, entries, &run.finished, shown.events, output, beside)?;
+    }
+    if telling.stats || telling.picture.is_some() {
+        draw(job, entries, crew, shown, beside)?;
+    }
+    if telling.save.is_some() {
+        shown.script = script_of(job.alloc, entries)?;
+    }
+    Ok(())
+}
+
 /// Tells of a run of which not each event is shown.
 fn tell_strands<W: Write>(
     job: &Job<'_>,
@@ -165,8 +188,6 @@ fn tell_strands<W: Write>(
     output: &mut W,
     beside: &mut Beside,
 ) -> Result<Status, Halt> {
-    let telling = &job.request.telling;
-    let entries = run.history.entries().unwrap_or(&[]);
     let mut shown = Told {
         script: None,
         events: run.history.total(),
@@ -175,15 +196,7 @@ fn tell_strands<W: Write>(
         json: String::new(job.alloc),
         page: None,
     };
-    if telling.page.is_some() {
-        shown.page = page(job, entries, &run.finished, shown.events, output, beside)?;
-    }
-    if telling.stats || telling.picture.is_some() {
-        draw(job, entries, crew, &mut shown, beside)?;
-    }
-    if telling.save.is_some() {
-        shown.script = script_of(job.alloc, entries)?;
-    }
+    tell_parts(job, &run, crew, &mut shown, output, beside)?;
     print_told(job, run.finished, shown, output, beside)
 }
 

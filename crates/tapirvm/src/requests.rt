@@ -3,10 +3,10 @@
 use crate::clocks::microseconds_since;
 use crate::recorded::run_told;
 use crate::speedup::run_speedup;
-use cli_answers::{Judgement, judged};
-use cli_runs::{Halt, Job, Verified, is_told, prepared, print_finished, status_of};
-use cli_verbs::answer_verified;
-use cli_words::{Beside, Question, Status, Verb, fail};
+use cli_verbs::{
+    Halt, Job, Judgement, answer_verified, is_told, judged, prepared, print_finished, status_of,
+};
+use cli_words::{Beside, Question, Status, Verb, ended};
 use deque_pool::OpenGate;
 use std::io;
 use std::io::{Read, Write};
@@ -44,22 +44,17 @@ fn run_on_workers<T: Threads + Wait + Clock + Sync, W: Write>(
 /// Runs a module that the verifier took, and notes what that took. A run on workers is one that no seed draws.
 fn run_timed<T: Threads + Wait + Clock + Sync, R: Read, W: Write>(
     rt: &T,
-    question: Question<'_>,
-    text: &[u8],
-    verified: &Verified,
+    job: &Job<'_>,
     input: &mut R,
     output: &mut W,
     beside: &mut Beside,
 ) -> io::Result<Status> {
-    let job = Job::of(question, text, verified);
     let begun = Instant::now(rt)?;
     let run = match job.request.verb {
-        Verb::Run if job.request.telling.seed.is_none() => {
-            run_on_workers(rt, &job, output, beside)
-        }
-        _ => answer_verified(question, &job, input, output, beside),
+        Verb::Run if job.request.telling.seed.is_none() => run_on_workers(rt, job, output, beside),
+        _ => answer_verified(job, input, output, beside),
     };
-    let status = status_of(&job, run, output, beside)?;
+    let status = status_of(job, run, output, beside)?;
     beside.times.running = microseconds_since(rt, begun)?;
     Ok(status)
 }
@@ -77,16 +72,8 @@ fn answer<T: Threads + Wait + Clock + Sync, R: Read, W: Write>(
         Judgement::Answered(status) => Ok(status),
         Judgement::Accepted(accepted) => {
             beside.times.verifying = microseconds_since(rt, begun)?;
-            let text = accepted.text.as_slice();
-            run_timed(
-                rt,
-                question,
-                text,
-                &accepted.verified,
-                input,
-                output,
-                beside,
-            )
+            let job = Job::of(question, accepted.text.as_slice(), &accepted.verified);
+            run_timed(rt, &job, input, output, beside)
         }
     }
 }
@@ -99,8 +86,6 @@ pub fn act<T: Threads + Wait + Clock + Sync, R: Read, W: Write>(
     output: &mut W,
     beside: &mut Beside,
 ) -> u8 {
-    match answer(rt, question, input, output, beside) {
-        Ok(status) => status as u8,
-        Err(error) => fail(question.alloc, &error, output, beside) as u8,
-    }
+    let answered = answer(rt, question, input, output, beside);
+    ended(answered, output, beside) as u8
 }

@@ -1,7 +1,7 @@
 //! How long runs on threads take by the number of their workers.
 
 use crate::clocks::microseconds_since;
-use cli_runs::{Finished, Halt, Job, prepared, print_finished};
+use cli_verbs::{Finished, Halt, Job, prepared, print_finished};
 use cli_words::{Beside, Status};
 use deque_pool::OpenGate;
 use lists::TextBuffer;

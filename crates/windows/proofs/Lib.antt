@@ -1,4 +1,5 @@
 pub mod Cases
+pub mod CodeSlots
 pub mod Words
 pub mod Rows
 pub mod Kept

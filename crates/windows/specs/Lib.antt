@@ -1,4 +1,5 @@
 pub mod Passing
+pub mod CodeSlots
 pub mod Nested
 pub mod Shown
 pub mod Runs

@@ -91,7 +91,44 @@ pub fn answer_strands<R: Threads + Wait + Clock + Sync>(
     );
 }
 
-/// Gates that stop the long loop, and one that does not. 400,005 instructions without a border are six strands of 65,536 and one of 6,789.
+/// A run of the long loop in so many strands; where no answer is wanted its gate stops it before the last one.
+#[derive(Clone, Copy)]
+struct Strands {
+    sentence: &'static str,
+    rounds: i64,
+    strands: u64,
+    wanted: Option<Ending>,
+}
+
+/// 400,005 instructions without a border are six strands of 65,536 and one of 6,789.
+static STOPS: [Strands; 4] = [
+    Strands {
+        sentence: "a gate stops a run before strand 1",
+        rounds: 50_000,
+        strands: 2,
+        wanted: None,
+    },
+    Strands {
+        sentence: "and before strand 4",
+        rounds: 100_000,
+        strands: 5,
+        wanted: None,
+    },
+    Strands {
+        sentence: "and before its last strand",
+        rounds: 100_000,
+        strands: 7,
+        wanted: None,
+    },
+    Strands {
+        sentence: "which is strand 6",
+        rounds: 100_000,
+        strands: 7,
+        wanted: Some((100_000, 400_005, 1)),
+    },
+];
+
+/// Gates that stop the long loop, and one that does not.
 pub fn answer_stops<R: Threads + Wait + Clock + Sync>(
     rt: &R,
     alloc: Global,
@@ -102,14 +139,10 @@ pub fn answer_stops<R: Threads + Wait + Clock + Sync>(
         let wanted = Some((50_000, 200_005, 1));
         let has_all = comes_to(rt, alloc, long, &[50_000], workers, &Asleep, wanted);
         report.holds("a gate that does not watch stops no run", has_all);
-        let second = has_strands(rt, alloc, long, &[50_000], workers, 2, None);
-        report.holds("a gate stops a run before strand 1", second);
-        let early = has_strands(rt, alloc, long, &[100_000], workers, 5, None);
-        report.holds("and before strand 4", early);
-        let last = has_strands(rt, alloc, long, &[100_000], workers, 7, None);
-        report.holds("and before its last strand", last);
-        let wanted = Some((100_000, 400_005, 1));
-        let never = has_strands(rt, alloc, long, &[100_000], workers, 7, wanted);
-        report.holds("which is strand 6", never);
+        for stop in STOPS {
+            let (rounds, strands) = ([stop.rounds], stop.strands);
+            let is_so = has_strands(rt, alloc, long, &rounds, workers, strands, stop.wanted);
+            report.holds(stop.sentence, is_so);
+        }
     }
 }

@@ -10,27 +10,30 @@ use std::io::{ErrorKind, Write};
 
 /// Says that memory was refused.
 pub fn stop_for_memory<W: Write>(output: &mut W) -> io::Result<Status> {
-    writeln!(output, "stopped 803")?;
+    output.write_all(b"stopped 803\n")?;
     Ok(Status::Stopped)
 }
 
-/// Says that memory was refused, or, where there is memory to say it, which stream failed.
-pub fn fail<W: Write>(
-    alloc: Global,
-    error: &io::Error,
+/// The status of a request, once it is said that memory was refused, or, where there is memory to say it, which stream failed.
+pub fn ended<W: Write>(
+    answered: io::Result<Status>,
     output: &mut W,
     beside: &mut Beside,
 ) -> Status {
-    match error.kind() {
-        ErrorKind::OutOfMemory => return stop_for_memory(output).unwrap_or(Status::Stream),
-        // Whoever read the output wants no more of it.
-        ErrorKind::BrokenPipe => return Status::Stream,
-        _ => {}
-    }
-    if let Ok(line) = format!(in alloc; "standard input or output: {error}") {
-        let _ = beside.note(line.as_str());
+    match answered {
+        Ok(status) if !beside.is_refused() => return status,
+        Err(error) if error.kind() != ErrorKind::OutOfMemory => note_failed(&error, beside),
+        _ => return stop_for_memory(output).unwrap_or(Status::Stream),
     }
     Status::Stream
+}
+
+/// Says which stream failed. Whoever broke the pipe wants no more of the output.
+fn note_failed(error: &io::Error, beside: &mut Beside) {
+    if error.kind() != ErrorKind::BrokenPipe {
+        let word = beside.error_word();
+        writeln!(beside, "{word} standard input or output: {error}");
+    }
 }
 
 /// Says that a file could not be read, by the very bytes of its word.

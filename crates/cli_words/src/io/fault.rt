@@ -4,7 +4,7 @@ ghost use Rattle.cli_words.specs.declared.io.fault.DataFault.TheVariants.{Memory
 use std::alloc::{AllocError, AllocFailed};
 
 /// Why a text has no numbers.
-#[derive(Clone, Copy, Drop, PartialEq, Eq)]
+#[derive(Clone, Copy)]
 pub enum DataFault {
     /// The word that begins here is no number of 64 bits. Lines and columns are counted from 1, columns by bytes.
     NoNumber { line: usize, column: usize },

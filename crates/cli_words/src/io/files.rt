@@ -23,7 +23,7 @@ fn read_to_limit<R: BufRead>(reader: &mut R, text: &mut Vec<u8>) -> io::Result<(
 
 /// Reads a text up to one byte past its limit, and then what is left of the line, since a lower fault of that line comes first;
 /// of an endless line no more than as many bytes again.
-pub fn read_text<R: Read + Drop>(alloc: Global, reader: R) -> io::Result<Vec<u8>> {
+fn read_text<R: Read + Drop>(alloc: Global, reader: R) -> io::Result<Vec<u8>> {
     let mut reader = BufReader::new(alloc, reader)?;
     let mut text = Vec::new(alloc);
     read_to_limit(&mut reader, &mut text)?;
@@ -62,9 +62,4 @@ pub fn read_data<R: AllocGlobal + Files>(rt: &R, word: &str) -> io::Result<Vec<u
 /// Writes bytes to the file that a word names.
 pub fn write_bytes<R: AllocGlobal + Files>(rt: &R, word: &str, bytes: &[u8]) -> io::Result<()> {
     fs::write(rt, path_of(word)?, bytes)
-}
-
-/// Writes the file that a word names.
-pub fn write_file<R: AllocGlobal + Files>(rt: &R, word: &str, text: &str) -> io::Result<()> {
-    fs::write(rt, path_of(word)?, text)
 }

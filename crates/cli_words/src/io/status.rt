@@ -1,5 +1,5 @@
 /// The exit statuses of the program.
-#[derive(Clone, Copy, PartialEq, Eq)]
+#[derive(Clone, Copy)]
 pub enum Status {
     /// What was asked for is done.
     Done = 0,

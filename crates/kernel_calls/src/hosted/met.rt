@@ -2,7 +2,7 @@ ghost use Rattle.std.specs.Prelude.{◌≢◌};
 ghost use Rattle.kernel_calls.specs.hosted.Hosted.{IsProgressBy, IsToldBy};
 ghost use Rattle.kernel_calls.specs.declared.hosted.met.Met.TheVariants.{Stopped};
 
-use strand_turns::Met as Served;
+use shared_run::turns::Met as Served;
 
 /// What a worker is told when it has met the board.
 #[derive(Clone, Copy)]

@@ -13,13 +13,13 @@ use crate::hosted::stop::Stop;
 use crate::hosted::worker::{Ears, HostedWorker};
 use lists::OutOfMemory;
 use schedule_core::SharedPlaces;
+use shared_run::turns::{Habits, Met as Served, Offers, meet};
 use shared_run::{
     Bench, Board, BoardRest, Event, Finished, Keeping, Memory, RunFault, StackRest, Verified,
 };
 use std::alloc::Global;
 use std::marker::Brand;
 use std::sync::ledger::Blank;
-use strand_turns::{Habits, Met as Served, Offers, meet};
 
 /// A run between two calls of its host.
 pub struct HostedRun {

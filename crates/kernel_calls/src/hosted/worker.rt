@@ -5,11 +5,11 @@ ghost use Rattle.shared_run.specs.Resting.{StaysPut};
 
 use crate::hosted::stop::Stop;
 use schedule_core::SharedPlaces;
+use shared_run::turns::{Habits, Hunger, turn};
 use shared_run::{Bench, StackRest, Verified};
 use std::marker::Brand;
 use std::sync::Arc;
 use std::sync::atomic::{AtomicU64, Ordering};
-use strand_turns::{Habits, Hunger, turn};
 
 /// What a worker hears of others while it goes on outside.
 #[derive(Drop)]

@@ -9,7 +9,8 @@ use Rattle.semantics.specs.State.{root_frame}
 use Rattle.program.specs.declared.function.Program.{Program}
 use Rattle.serial_stack.specs.Steps.{Placed, Run, IsStuck, Walk, starting}
 
--- after n steps of a serial run whose outcome is o: one more instruction is left at least, and there are no more frames than o has
+-- after n steps of a serial run whose outcome is o: one more instruction is left at least, and there are no more frames
+-- than o has
 pub record GoesOnTo (prog : Program) (o : Outcome) (n : ℕ) (s : Run) : Type 0 where
   pub not_stuck : IsStuck prog s → ⊥
   pub counted : n < o.count
@@ -18,13 +19,15 @@ pub record GoesOnTo (prog : Program) (o : Outcome) (n : ℕ) (s : Run) : Type 0 
 -- where the serial meaning gives a number, no step on the way to it is stuck, or goes beyond its count or its depth
 abbrev pub WalksGoOn : Type 0
 WalksGoOn =
-    (prog : Program) (arguments : List ℤ) (memory : Memory) (o : Outcome) (z : ℤ) → IsSerialMeaning prog arguments memory o → o.ending ≡ Gave (Some z) →
+    (prog : Program) (arguments : List ℤ) (memory : Memory) (o : Outcome) (z : ℤ) →
+    IsSerialMeaning prog arguments memory o → o.ending ≡ Gave (Some z) →
     (n peak : ℕ) (s : Run) → Walk prog (starting prog arguments memory) n peak s → GoesOnTo prog o n s
 
 -- where a serial run keeps good, and it is so of the first frame, it is so of the frame on top of each stack
 abbrev pub KeepsAlong : Program → Says → Finds → Type 0
 KeepsAlong prog good post =
-    KeptSerially prog Nothing good post → (arguments : List ℤ) (memory : Memory) → good [] (root_frame prog arguments) (globals_of memory) →
+    KeptSerially prog Nothing good post → (arguments : List ℤ) (memory : Memory) →
+    good [] (root_frame prog arguments) (globals_of memory) →
     (n peak : ℕ) (s : Run) → Walk prog (starting prog arguments memory) n peak s → good s.path s.frame s.memory
 
 -- so it is whatever is kept: here of conditions that are given by tests
@@ -51,5 +54,6 @@ pub record IsCounted (n : ℕ) (s : Run) : Type 0 where
 
 -- places, frames made and frames below are no more than the steps
 abbrev pub WalksCount : Type 0
-WalksCount = (prog : Program) (arguments : List ℤ) (memory : Memory) (n peak : ℕ) (s : Run) → Walk prog (starting prog arguments memory) n peak s →
+WalksCount = (prog : Program) (arguments : List ℤ) (memory : Memory) (n peak : ℕ) (s : Run) →
+    Walk prog (starting prog arguments memory) n peak s →
     IsCounted n s

@@ -1,6 +1,6 @@
 use Rattle.std.specs.Prelude.{◌*◌, ◌≤◌}
 use Rattle.deque_pool.specs.Gates.{LetsOn}
-use Rattle.deque_pool.specs.lone.UnderWay.{IsRunOf}
+use Rattle.lone_run.specs.UnderWay.{IsRunOf}
 use Rattle.deque_pool.proofs.alone.run_alone.Given as goal
 
 abbrev pub invariant-loop : goal.invariant-loop

@@ -1,6 +1,6 @@
 use Rattle.std.proofs.Common.{◌-◌}
 use Rattle.store.specs.verifier.Budgets.{budget_of}
-use Rattle.deque_pool.specs.lone.UnderWay.{IsRunOf}
+use Rattle.lone_run.specs.UnderWay.{IsRunOf}
 use Rattle.kernel_calls.proofs.until.run_watched.Given as goal
 
 abbrev pub invariant-loop-run : goal.invariant-loop-run

@@ -1,0 +1,186 @@
+//! A run that is told.
+
+ghost use Rattle.serial_machine.specs.store.Made.{IsMadeFor};
+
+use crate::runs::halt::Halt;
+use crate::runs::job::Job;
+use crate::watch::{Course, Watch};
+use debugger::{Event, Machine, Memory};
+use ir_reader::read;
+use lists::OutOfMemory;
+use std::alloc::{AllocError, Global};
+use std::io::Write;
+use views::{Crew, Names, Settings, Start, Teller, Told, Wanted, Whole, Words};
+
+/// What a run that has ended came to.
+fn ended(alloc: Global, value: i64, instructions: u64, peak: u64) -> Result<String, AllocError> {
+    format!(in alloc; "result {value}, instructions {instructions}, peak {peak}")
+}
+
+/// What the run came to.
+fn answer_of(alloc: Global, words: Words<'_>, machine: &Machine<'_>) -> Result<String, AllocError> {
+    if let Some(whole) = words.whole {
+        return ended(alloc, whole.result, whole.instructions, whole.peak);
+    }
+    let instructions = machine.instructions();
+    match machine.result() {
+        Some(result) => ended(alloc, result, instructions, machine.peak()),
+        None => {
+            let frames = machine.live_frames();
+            format!(in alloc; "not ended, instructions {instructions}, frames {frames}")
+        }
+    }
+}
+
+/// Does an event, and tells of it: its line of the trace, empty where none is wanted. Of a step that does nothing to frames or tasks little is asked where
+/// nothing is shown of it but that it was.
+fn tell_event(
+    words: Words<'_>,
+    watch: &mut Watch<'_>,
+    teller: &mut Teller,
+    event: &Event,
+) -> Result<String, OutOfMemory> {
+    if !teller.is_detailed() {
+        watch.end_details();
+    }
+    if let Event::Step(worker) = event
+        && !teller.is_traced()
+        && !teller.is_detailed()
+        && watch.plain_step(*worker)?
+    {
+        teller.add_step(*worker)?;
+        return Ok(String::new(teller.alloc()));
+    }
+    let moment = watch.next(event)?;
+    teller.add(words, event, &moment)
+}
+
+/// The next event, told. None at the end.
+fn tell_next<C: Course>(
+    words: Words<'_>,
+    watch: &mut Watch<'_>,
+    teller: &mut Teller,
+    course: &mut C,
+) -> Result<Option<String>, OutOfMemory> {
+    let Some(event) = course.next(watch.machine())? else {
+        return Ok(None);
+    };
+    let line = tell_event(words, watch, teller, &event)?;
+    course.done(watch.machine())?;
+    Ok(Some(line))
+}
+
+/// What tells of a run whose root is given these registers.
+fn teller_with<'a>(
+    job: &'a Job<'_>,
+    words: Words<'a>,
+    wanted: Wanted,
+    root: &'a Settings,
+) -> Result<Teller, OutOfMemory> {
+    let start = Start {
+        title: job.request.file.as_str(),
+        source: job.source(),
+        workers: job.request.workers,
+        root,
+    };
+    Teller::new(job.alloc, words, wanted, start)
+}
+
+/// What tells of a run that has not begun yet.
+fn teller_of(
+    job: &Job<'_>,
+    words: Words<'_>,
+    watch: &mut Watch<'_>,
+    wanted: Wanted,
+) -> Result<Teller, OutOfMemory> {
+    let given = if wanted.json || wanted.page {
+        watch.begin_details()?
+    } else {
+        Settings::none(job.alloc)
+    };
+    teller_with(job, words, wanted, &given)
+}
+
+/// Tells event after event. The trace goes to the output.
+fn tell_all<C: Course, W: Write>(
+    words: Words<'_>,
+    watch: &mut Watch<'_>,
+    teller: &mut Teller,
+    course: &mut C,
+    output: &mut W,
+) -> Result<(), Halt> {
+    for _event in 0..u64::MAX {
+        match tell_next(words, watch, teller, course)? {
+            Some(line) => output.write_all(line.as_bytes())?,
+            None => break,
+        }
+    }
+    Ok(())
+}
+
+/// A run that has begun, told with these names and lines.
+fn tell_from<C: Course, W: Write>(
+    job: &Job<'_>,
+    names: &Names<'_>,
+    lines: &[&str],
+    watch: &mut Watch<'_>,
+    course: &mut C,
+    crew: Crew<'_>,
+    whole: Option<Whole>,
+    wanted: Wanted,
+    output: &mut W,
+) -> Result<Told, Halt> {
+    let words = Words {
+        names,
+        lines,
+        crew,
+        whole,
+    };
+    let mut teller = teller_of(job, words, watch, wanted)?;
+    tell_all(words, watch, &mut teller, course, output)?;
+    let answer = answer_of(job.alloc, words, watch.machine())?;
+    Ok(teller.finish(words, answer.as_str())?)
+}
+
+/// A run that has begun, told with the module's names and the lines of its text.
+fn tell_named<C: Course, W: Write>(
+    job: &Job<'_>,
+    watch: &mut Watch<'_>,
+    course: &mut C,
+    crew: Crew<'_>,
+    whole: Option<Whole>,
+    wanted: Wanted,
+    output: &mut W,
+) -> Result<Told, Halt> {
+    // It was read before.
+    if let Ok(module) = read(job.alloc, job.state, job.text)
+        && let Ok(names) = Names::of(job.alloc, job.verified.program(), &module)
+        && let Ok(lines) = job.lines()
+    {
+        let lines = lines.as_slice();
+        return tell_from(
+            job, &names, lines, watch, course, crew, whole, wanted, output,
+        );
+    }
+    Err(Halt::Memory)
+}
+
+/// Runs the module by the events of a course, and tells of them. The trace goes to the output. The answer is what was told, and the machine after the last
+/// event.
+pub(crate) fn tell<'v, C: Course, W: Write>(
+    job: &Job<'v>,
+    memory: Memory,
+    course: &mut C,
+    crew: Crew<'_>,
+    whole: Option<Whole>,
+    wanted: Wanted,
+    output: &mut W,
+) -> Result<(Told, Machine<'v>), Halt>
+    requires { IsMadeFor job.now.verified.now memory }
+{
+    let args = job.request.args.as_slice();
+    let workers = job.request.workers;
+    let mut watch = Watch::start(job.alloc, job.verified, args, memory, workers)?;
+    let told = tell_named(job, &mut watch, course, crew, whole, wanted, output)?;
+    Ok((told, watch.into_machine()))
+}

@@ -1,4 +1,0 @@
-pub mod Frames
-pub mod Segments
-pub mod Phis
-pub mod Entering
