@@ -3,7 +3,7 @@
 use crate::strands::ahead::{Ahead, Runs, Then};
 use crate::strands::levels::Levels;
 use crate::strands::told::{Told, last_round, nothing_told};
-use cli_verbs::{Event, act_at, after_step, place_if};
+use cli_runs::{Event, act_at, after_step, place_if};
 use frame::Path;
 use lists::OutOfMemory;
 use program::Program;

@@ -1,6 +1,6 @@
 //! What stands ahead of a frame.
 
-use cli_verbs::Frame;
+use cli_runs::Frame;
 use frame::block_at;
 use lists::OutOfMemory;
 use program::{Block, Function, Instruction, Program, Terminator};

@@ -2,7 +2,7 @@
 
 use crate::clocks::microseconds_since;
 use crate::strands::{Told as Replayed, run_again};
-use cli_verbs::{
+use cli_runs::{
     Course, Event, Finished, Halt, Job, Machine, page_of, prepared, print_told, tell_course,
 };
 use cli_words::{Beside, Status};
@@ -223,7 +223,7 @@ fn tell_recorded<W: Write>(
 }
 
 /// Runs the module on workers, each on a thread of its own, and tells of the events that were done.
-pub fn run_told<T: Threads + Wait + Clock + Sync, W: Write>(
+pub(crate) fn run_told<T: Threads + Wait + Clock + Sync, W: Write>(
     rt: &T,
     job: &Job<'_>,
     output: &mut W,

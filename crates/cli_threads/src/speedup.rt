@@ -1,7 +1,7 @@
 //! How long runs on threads take by the number of their workers.
 
 use crate::clocks::microseconds_since;
-use cli_verbs::{Finished, Halt, Job, prepared, print_finished};
+use cli_runs::{Finished, Halt, Job, prepared, print_finished};
 use cli_words::{Beside, Status};
 use deque_pool::OpenGate;
 use lists::TextBuffer;
@@ -42,7 +42,7 @@ fn run_least<T: Threads + Wait + Clock + Sync>(
 }
 
 /// Times runs on each of the numbers of workers, and prints the answer and a table: how much faster a run was than the first, with two digits behind the point.
-pub fn run_speedup<T: Threads + Wait + Clock + Sync, W: Write>(
+pub(crate) fn run_speedup<T: Threads + Wait + Clock + Sync, W: Write>(
     rt: &T,
     job: &Job<'_>,
     output: &mut W,

@@ -1,6 +1,6 @@
 use Rattle.program.specs.declared.function.Program.{Program}
 use Rattle.serial_machine.specs.store.Made.{HasGlobalCells, IsMadeFor}
-use Rattle.cli_verbs.proofs.runs.running.set_cells.Given as goal
+use Rattle.cli_runs.proofs.runs.running.set_cells.Given as goal
 
 abbrev pub invariant-loop-setting : goal.invariant-loop-setting
 invariant-loop-setting l =

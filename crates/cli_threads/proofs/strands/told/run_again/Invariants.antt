@@ -1,4 +1,4 @@
-use Rattle.tapirvm.proofs.strands.told.run_again.Given as goal
+use Rattle.cli_threads.proofs.strands.told.run_again.Given as goal
 
 abbrev pub ghosts-run_by-L-Ledger : goal.ghosts-run_by-L-Ledger
 ghosts-run_by-L-Ledger a = record { name = a.blank.name; parts = a.blank.parts }
