@@ -1,4 +1,4 @@
-ghost use Rattle.std.specs.Prelude.{◌≡◌, ◌≢◌, ◌<◌, ◌≤◌, ◌+◌, ◌*◌, ◌||◌, ℕ, pos, true, false, length, slice_index_or, IfNone, None};
+ghost use Rattle.std.specs.Prelude.{◌≡◌, ◌≢◌, ◌<◌, ◌≤◌, ◌+◌, ◌*◌, ◌||◌, ℕ, pos, true, false, length, slice_index_or, IfNone, None, Some};
 ghost use Rattle.frame_strand.specs.Buffers.{raised_change};
 ghost use Rattle.stack_pages.specs.Bits.{is_set};
 ghost use Rattle.stack_pages.specs.Committing.{AgreesWithin, ArePut, PageAgrees, PageDiffers, PageIsPut};
@@ -69,6 +69,7 @@ impl Page {
     }
 
     /// What the cell holds, where that is at hand. If nothing was stored there it counts as read from now on.
+    #[inline(always)]
     pub(crate) fn load(&mut self, place: usize) -> Option<i64>
         requires { place < 64 }
         ensures value { result ≡ value_of ((kept_of self.old).writes place) ((kept_of self.old).near place) }
@@ -81,19 +82,35 @@ impl Page {
         if place >= self.filled {
             return None;
         }
+        if is_set(self.delta, place) {
+            return Some(self.settle(place));
+        }
         let value = self.values[place];
         self.read = with_bit(self.read, place);
-        if !is_set(self.delta, place) {
-            self.changes[place] = value;
-            return Some(value);
-        }
-        let number = sum(value, self.changes[place]);
+        self.changes[place] = value;
+        Some(value)
+    }
+
+    /// What was added to the cell, which is at hand, is added to what it held. From now on it counts as read, and is to hold the sum.
+    #[cold]
+    #[inline(never)]
+    fn settle(&mut self, place: usize) -> i64
+        requires place { place < 64 }
+        requires fresh { (is_set self.old.read place || is_set self.old.stored place) ≡ false }
+        requires near { place < self.old.filled }
+        requires added { is_set self.old.delta place ≡ true }
+        ensures value { value_of ((kept_of self.old).writes place) ((kept_of self.old).near place) ≡ Some result }
+        ensures done { kept_of self.new ≡ loaded_page (kept_of self.old) place }
+    {
+        let number = sum(self.values[place], self.changes[place]);
+        self.read = with_bit(self.read, place);
         self.changes[place] = number;
         self.stored = with_bit(self.stored, place);
-        Some(number)
+        number
     }
 
     /// The cell is to hold the number.
+    #[inline(always)]
     pub(crate) fn store(&mut self, place: usize, number: &i64)
         requires { place < 64 }
         ensures { kept_of self.new ≡ changed_page (kept_of self.old) place (Change.Stored number.now) }
