@@ -23,12 +23,15 @@ pub(crate) struct Page {
     /// Those that are to hold their number among the changes; of the others, those to which it is to be added.
     stored: u64,
     delta: u64,
+    /// Those that were loaded or are to hold their number: a load looks at one mask.
+    known: u64,
     values: [i64; 64],
     /// Of a cell that was loaded and not stored since this is its value, so that the next load takes it from here, whatever was done to the cell.
     changes: [i64; 64],
     ghost rows: { (length values ≡ 64) × (length changes ≡ 64) },
     ghost within: { filled ≤ 64 },
     ghost read_near: { (k : ℕ) → is_set read k ≡ true → k < filled },
+    ghost known_is: { (k : ℕ) → is_set known k ≡ (is_set read k || is_set stored k) },
     ghost settled: { (k : ℕ) → is_set read k ≡ true → is_set stored k ≡ false → is_set delta k ≡ false },
     ghost copied: { (k : ℕ) → is_set read k ≡ true → is_set stored k ≡ false → slice_index_or changes k (pos 0) ≡ slice_index_or values k (pos 0) },
 }
@@ -46,6 +49,7 @@ impl Page {
             read: 0,
             stored: 0,
             delta: 0,
+            known: 0,
             values: [0; 64],
             changes: [0; 64],
         }
@@ -60,6 +64,7 @@ impl Page {
         self.filled = 0;
         self.stored = 0;
         self.delta = 0;
+        self.known = 0;
     }
 
     pub(crate) fn number(&self) -> usize
@@ -76,7 +81,7 @@ impl Page {
         ensures done { kept_of self.new ≡ loaded_page (kept_of self.old) place }
         ensures unchanged { IfNone result (self.new ≡ self.old) }
     {
-        if is_set(either(self.read, self.stored), place) {
+        if is_set(self.known, place) {
             return Some(self.changes[place]);
         }
         if place >= self.filled {
@@ -87,6 +92,7 @@ impl Page {
         }
         let value = self.values[place];
         self.read = with_bit(self.read, place);
+        self.known = with_bit(self.known, place);
         self.changes[place] = value;
         Some(value)
     }
@@ -106,6 +112,7 @@ impl Page {
         self.read = with_bit(self.read, place);
         self.changes[place] = number;
         self.stored = with_bit(self.stored, place);
+        self.known = with_bit(self.known, place);
         number
     }
 
@@ -117,6 +124,7 @@ impl Page {
     {
         self.changes[place] = *number;
         self.stored = with_bit(self.stored, place);
+        self.known = with_bit(self.known, place);
     }
 
     /// The number is added to what the cell holds.
@@ -125,7 +133,7 @@ impl Page {
         ensures { kept_of self.new ≡
             changed_page (kept_of self.old) place (raised_change number.now ((kept_of self.old).writes place) ((kept_of self.old).reads place)) }
     {
-        if is_set(either(self.read, self.stored), place) {
+        if is_set(self.known, place) {
             let sum = sum(self.changes[place], *number);
             self.store(place, &sum);
         } else if is_set(self.delta, place) {

@@ -1,4 +1,4 @@
-use Rattle.std.proofs.Common.{◌≡◌, ◌≢◌, ◌<◌, ◌∙◌, ℕ, ℤ, ap, sym, arith, inl, inr, rules, true, false, w64, Some}
+use Rattle.std.proofs.Common.{refl, ◌≡◌, ◌≢◌, ◌<◌, ◌∙◌, ℕ, ℤ, ap, sym, arith, inl, inr, rules, true, false, w64, Some}
 use Rattle.std.specs.Prelude.{FitsSigned}
 use Rattle.std.proofs.lemmas.Bool.{or_parts}
 use Rattle.std.proofs.lemmas.Bool.Decides.{eqb_tells}
@@ -7,7 +7,7 @@ use Rattle.std.proofs.lemmas.Int.{to_z-of_z}
 use Rattle.stack_pages.specs.Bits.{is_set}
 use Rattle.stack_pages.specs.Paging.{number_at}
 use Rattle.stack_pages.proofs.Changing.{loaded_absent, loaded_held, loaded_unwritten, value_held}
-use Rattle.stack_pages.proofs.Copied.{copied_read, settled_read}
+use Rattle.stack_pages.proofs.Copied.{copied_read, known_read, settled_read}
 use Rattle.stack_pages.proofs.page.Page.load.Goals as goal
 
 pub returns-then-is_set-clause-value : goal.returns-then-is_set-clause-value
@@ -15,17 +15,17 @@ returns-then-is_set-clause-value c =
     let x = c.args.self.now in
     let k = c.args.place in
     let change : FitsSigned w64 (number_at x.changes k) = search rules in
-    ap (λ (z : ℤ). Some z) (to_z-of_z w64 (number_at x.changes k) change) ∙ value_held x k (sym (c.either.ensures c.args.place) ∙ sym c.if-is_set.ensures)
+    ap (λ (z : ℤ). Some z) (to_z-of_z w64 (number_at x.changes k) change) ∙ value_held x k (sym (c.args.self.now.known_is c.args.place) ∙ sym c.if-is_set.ensures)
 
 pub returns-then-is_set-clause-done : goal.returns-then-is_set-clause-done
 returns-then-is_set-clause-done c =
-    loaded_held c.args.self.now c.args.place (sym (c.either.ensures c.args.place) ∙ sym c.if-is_set.ensures)
+    loaded_held c.args.self.now c.args.place (sym (c.args.self.now.known_is c.args.place) ∙ sym c.if-is_set.ensures)
 
 pub returns-then-place-self-clause-done : goal.returns-then-place-self-clause-done
 returns-then-place-self-clause-done c =
     let x = c.args.self.now in
     let k = c.args.place in
-    loaded_absent x k ((or_parts (is_set x.read k) (is_set x.stored k) (sym (c.either.ensures k) ∙ sym c.if-is_set.ensures)).1) c.if-place-self.true
+    loaded_absent x k ((or_parts (is_set x.read k) (is_set x.stored k) (sym (x.known_is k) ∙ sym c.if-is_set.ensures)).1) c.if-place-self.true
 
 pub returns-clause-done : goal.returns-clause-done
 returns-clause-done c =
@@ -33,7 +33,7 @@ returns-clause-done c =
     let k = c.args.place in
     let long = x.rows.1 in
     let within = c.requires in
-    let fresh : is_set x.stored k ≡ false = (or_parts (is_set x.read k) (is_set x.stored k) (sym (c.either.ensures k) ∙ sym c.if-is_set.ensures)).1 in
+    let fresh : is_set x.stored k ≡ false = (or_parts (is_set x.read k) (is_set x.stored k) (sym (x.known_is k) ∙ sym c.if-is_set.ensures)).1 in
     loaded_unwritten x k fresh c.if-place-self.false c.with_bit-self.result c.with_bit-self.ensures.set c.with_bit-self.ensures.others
     (sym c.if-is_set-2.ensures) (omega (arith, long, within)) _
 
@@ -73,3 +73,8 @@ bounds-self-place c = c.requires
 
 pub bounds-self-place-2 : goal.bounds-self-place-2
 bounds-self-place-2 c = c.requires
+
+pub invariant_of-self-clause-known_is : goal.invariant_of-self-clause-known_is
+invariant_of-self-clause-known_is c =
+    let x = c.args.self.now in
+    known_read x c.args.place c.with_bit-self-2.result c.with_bit-self.result x.stored c.with_bit-self-2.ensures.set c.with_bit-self-2.ensures.others c.with_bit-self.ensures.others (λ j off. refl) c.with_bit-self.ensures.set
