@@ -28,8 +28,9 @@ fn spare_words(alloc: Global, count: usize) -> Result<Vec<i64>, OutOfMemory>
 fn become_copy(target: &mut Frame, source: &Frame) -> Result<(), OutOfMemory>
     ensures { OnOk result (IsCopy source.now target.new) }
 {
-    target.registers.clear();
-    target.registers.reserve(source.registers.len())?;
+    let count = source.registers.len();
+    target.registers.truncate(count);
+    target.registers.resize(count, 0)?;
     copy_frame(target, source);
     Ok(())
 }

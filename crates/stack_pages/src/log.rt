@@ -4,7 +4,7 @@ ghost use Rattle.frame_engine.specs.Flat.{is_cell};
 ghost use Rattle.frame_strand.specs.Buffers.{raised_change};
 ghost use Rattle.stack_pages.specs.Committing.{Agrees, IsPutInto};
 ghost use Rattle.stack_pages.specs.Doing.{IsChanged, IsLoaded, IsMissing, LacksPlace};
-ghost use Rattle.stack_pages.specs.Logs.{empty_log, filled_log, has_place, is_open, loaded_log, pages_of, place_of, value_at, with_page};
+ghost use Rattle.stack_pages.specs.Logs.{empty_log, filled_log, has_place, is_open, loaded_log, pages_of, place_of, value_at, with_change, with_page};
 ghost use Rattle.stack_pages.specs.Pages.{blank_page};
 ghost use Rattle.stack_pages.specs.Paging.{kept_of};
 ghost use Rattle.stack_pages.specs.Tables.{IsTable, entry_of, log_of};
@@ -44,12 +44,12 @@ impl Model for PageLog {
 /// What the directory says of the page that has the cell.
 #[inline(always)]
 fn entry(directory: &[u32], at: &i64) -> u32
+    requires { length directory.now ≤ 144115188075855872 }
     ensures { result ≡ entry_of directory.now at.now }
 {
-    if *at < 0 {
-        return 0;
-    }
-    directory.get(*at as usize / CELLS).copied().unwrap_or(0)
+    // An address below 0 is, without its sign, one past any directory.
+    let number = (at.cast_unsigned() / CELLS as u64) as usize;
+    directory.get(number).copied().unwrap_or(0)
 }
 
 /// The place of a cell in its page.
@@ -153,18 +153,17 @@ impl PageLog {
         Some(number)
     }
 
-    /// The slot of the cell's page, which is put after those in use if it is not among them.
-    fn open(&mut self, at: &i64) -> Option<usize>
+    /// The slot of a page that is not in use, once it was put after those that are.
+    #[cold]
+    #[inline(never)]
+    fn open_next(&mut self, at: &i64) -> Option<usize>
+        requires { entry_of self.old.directory at.now ≡ 0 }
         ensures found { IfSome result (λ slot. entry_of self.new.directory at.now ≡ suc slot) }
         ensures place { OnSome result (has_place (log_of self.old) at.now ≡ true) }
         ensures opened { OnSome result (log_of self.new ≡ with_page (log_of self.old) at.now) }
         ensures none { IfNone result (has_place (log_of self.old) at.now ≡ false) }
         ensures unchanged { IfNone result (self.new ≡ self.old) }
     {
-        let entry = entry(self.directory.as_slice(), at);
-        if entry > 0 {
-            return Some(entry as usize - 1);
-        }
         match self.next_page(at) {
             Some(number) => {
                 let slot = self.used;
@@ -174,6 +173,23 @@ impl PageLog {
                 Some(slot)
             }
             None => None,
+        }
+    }
+
+    /// The slot of the cell's page, which is put after those in use if it is not among them.
+    #[inline(always)]
+    fn open(&mut self, at: &i64) -> Option<usize>
+        ensures found { IfSome result (λ slot. entry_of self.new.directory at.now ≡ suc slot) }
+        ensures place { OnSome result (has_place (log_of self.old) at.now ≡ true) }
+        ensures opened { OnSome result (log_of self.new ≡ with_page (log_of self.old) at.now) }
+        ensures none { IfNone result (has_place (log_of self.old) at.now ≡ false) }
+        ensures unchanged { IfNone result (self.new ≡ self.old) }
+    {
+        let entry = entry(self.directory.as_slice(), at);
+        if entry > 0 {
+            Some(entry as usize - 1)
+        } else {
+            self.open_next(at)
         }
     }
 
@@ -202,6 +218,8 @@ impl PageLog {
     }
 
     /// Why a cell whose page is not in use cannot be loaded.
+    #[cold]
+    #[inline(never)]
     fn missing(&self, at: &i64) -> Stop
         requires { entry_of self.now.directory at.now ≡ 0 }
         ensures { IsMissing (log_of self.now) at.now result }
@@ -213,6 +231,7 @@ impl PageLog {
     }
 
     /// What the cell holds, if that is at hand.
+    #[inline(always)]
     pub(crate) fn load_at(&mut self, at: &i64) -> Result<i64, Stop>
         ensures value { IfOk result (λ number. value_at (log_of self.old) at.now ≡ Some number) }
         ensures done { OnOk result (IsLoaded (log_of self.old) at.now (log_of self.new)) }
@@ -229,22 +248,60 @@ impl PageLog {
         }
     }
 
-    /// The cell is to hold the number.
-    pub(crate) fn store_at(&mut self, at: &i64, number: &i64) -> Result<(), Stop>
+    /// The cell in a page in use is to hold the number.
+    #[inline(always)]
+    fn store_in(&mut self, slot: usize, at: &i64, number: &i64)
+        requires { entry_of self.old.directory at.now ≡ suc slot }
+        ensures { log_of self.new ≡ with_change (log_of self.old) at.now (Change.Stored number.now) }
+    {
+        self.pages[slot].store(place(at), number);
+    }
+
+    /// The cell, whose page is not in use, is to hold the number.
+    #[cold]
+    #[inline(never)]
+    fn store_first(&mut self, at: &i64, number: &i64) -> Result<(), Stop>
+        requires { entry_of self.old.directory at.now ≡ 0 }
         ensures done { OnOk result (IsChanged (log_of self.old) at.now (Change.Stored number.now) (log_of self.new)) }
         ensures refused { IfErr result (λ stop. LacksPlace (log_of self.old) at.now stop) }
         ensures unchanged { OnErr result (self.new ≡ self.old) }
     {
-        match self.open(at) {
+        match self.open_next(at) {
             Some(slot) => {
-                self.pages[slot].store(place(at), number);
+                self.store_in(slot, at, number);
                 Ok(())
             }
             None => Err(Stop::Full),
         }
     }
 
+    /// The cell is to hold the number.
+    #[inline(always)]
+    pub(crate) fn store_at(&mut self, at: &i64, number: &i64) -> Result<(), Stop>
+        ensures done { OnOk result (IsChanged (log_of self.old) at.now (Change.Stored number.now) (log_of self.new)) }
+        ensures refused { IfErr result (λ stop. LacksPlace (log_of self.old) at.now stop) }
+        ensures unchanged { OnErr result (self.new ≡ self.old) }
+    {
+        let entry = entry(self.directory.as_slice(), at);
+        if entry == 0 {
+            return self.store_first(at, number);
+        }
+        self.store_in(entry as usize - 1, at, number);
+        Ok(())
+    }
+
+    /// The number is added to what a cell in a page in use holds.
+    #[inline(always)]
+    fn add_in(&mut self, slot: usize, at: &i64, number: &i64)
+        requires { entry_of self.old.directory at.now ≡ suc slot }
+        ensures { log_of self.new ≡ with_change (log_of self.old) at.now
+            (raised_change number.now ((log_of self.old).writes at.now) ((log_of self.old).reads at.now)) }
+    {
+        self.pages[slot].add(place(at), number);
+    }
+
     /// The number is added to what the cell holds.
+    #[inline(always)]
     pub(crate) fn add_at(&mut self, at: &i64, number: &i64) -> Result<(), Stop>
         ensures done { OnOk result (IsChanged (log_of self.old) at.now
             (raised_change number.now ((log_of self.old).writes at.now) ((log_of self.old).reads at.now)) (log_of self.new)) }
@@ -253,7 +310,7 @@ impl PageLog {
     {
         match self.open(at) {
             Some(slot) => {
-                self.pages[slot].add(place(at), number);
+                self.add_in(slot, at, number);
                 Ok(())
             }
             None => Err(Stop::Full),

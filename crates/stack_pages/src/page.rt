@@ -1,4 +1,4 @@
-ghost use Rattle.std.specs.Prelude.{◌≡◌, ◌≢◌, ◌<◌, ◌≤◌, ◌+◌, ◌*◌, ◌||◌, ℕ, pos, true, false, length, slice_index_or, IfNone, None};
+ghost use Rattle.std.specs.Prelude.{◌≡◌, ◌≢◌, ◌<◌, ◌≤◌, ◌+◌, ◌*◌, ◌||◌, ℕ, pos, true, false, length, slice_index_or, IfNone, None, Some};
 ghost use Rattle.frame_strand.specs.Buffers.{raised_change};
 ghost use Rattle.stack_pages.specs.Bits.{is_set};
 ghost use Rattle.stack_pages.specs.Committing.{AgreesWithin, ArePut, PageAgrees, PageDiffers, PageIsPut};
@@ -23,12 +23,15 @@ pub(crate) struct Page {
     /// Those that are to hold their number among the changes; of the others, those to which it is to be added.
     stored: u64,
     delta: u64,
+    /// Those that were loaded or are to hold their number: a load looks at one mask.
+    known: u64,
     values: [i64; 64],
     /// Of a cell that was loaded and not stored since this is its value, so that the next load takes it from here, whatever was done to the cell.
     changes: [i64; 64],
     ghost rows: { (length values ≡ 64) × (length changes ≡ 64) },
     ghost within: { filled ≤ 64 },
     ghost read_near: { (k : ℕ) → is_set read k ≡ true → k < filled },
+    ghost known_is: { (k : ℕ) → is_set known k ≡ (is_set read k || is_set stored k) },
     ghost settled: { (k : ℕ) → is_set read k ≡ true → is_set stored k ≡ false → is_set delta k ≡ false },
     ghost copied: { (k : ℕ) → is_set read k ≡ true → is_set stored k ≡ false → slice_index_or changes k (pos 0) ≡ slice_index_or values k (pos 0) },
 }
@@ -46,6 +49,7 @@ impl Page {
             read: 0,
             stored: 0,
             delta: 0,
+            known: 0,
             values: [0; 64],
             changes: [0; 64],
         }
@@ -60,6 +64,7 @@ impl Page {
         self.filled = 0;
         self.stored = 0;
         self.delta = 0;
+        self.known = 0;
     }
 
     pub(crate) fn number(&self) -> usize
@@ -69,37 +74,57 @@ impl Page {
     }
 
     /// What the cell holds, where that is at hand. If nothing was stored there it counts as read from now on.
+    #[inline(always)]
     pub(crate) fn load(&mut self, place: usize) -> Option<i64>
         requires { place < 64 }
         ensures value { result ≡ value_of ((kept_of self.old).writes place) ((kept_of self.old).near place) }
         ensures done { kept_of self.new ≡ loaded_page (kept_of self.old) place }
         ensures unchanged { IfNone result (self.new ≡ self.old) }
     {
-        if is_set(either(self.read, self.stored), place) {
+        if is_set(self.known, place) {
             return Some(self.changes[place]);
         }
         if place >= self.filled {
             return None;
         }
+        if is_set(self.delta, place) {
+            return Some(self.settle(place));
+        }
         let value = self.values[place];
         self.read = with_bit(self.read, place);
-        if !is_set(self.delta, place) {
-            self.changes[place] = value;
-            return Some(value);
-        }
-        let number = sum(value, self.changes[place]);
+        self.known = with_bit(self.known, place);
+        self.changes[place] = value;
+        Some(value)
+    }
+
+    /// What was added to the cell, which is at hand, is added to what it held. From now on it counts as read, and is to hold the sum.
+    #[cold]
+    #[inline(never)]
+    fn settle(&mut self, place: usize) -> i64
+        requires place { place < 64 }
+        requires fresh { (is_set self.old.read place || is_set self.old.stored place) ≡ false }
+        requires near { place < self.old.filled }
+        requires added { is_set self.old.delta place ≡ true }
+        ensures value { value_of ((kept_of self.old).writes place) ((kept_of self.old).near place) ≡ Some result }
+        ensures done { kept_of self.new ≡ loaded_page (kept_of self.old) place }
+    {
+        let number = sum(self.values[place], self.changes[place]);
+        self.read = with_bit(self.read, place);
         self.changes[place] = number;
         self.stored = with_bit(self.stored, place);
-        Some(number)
+        self.known = with_bit(self.known, place);
+        number
     }
 
     /// The cell is to hold the number.
+    #[inline(always)]
     pub(crate) fn store(&mut self, place: usize, number: &i64)
         requires { place < 64 }
         ensures { kept_of self.new ≡ changed_page (kept_of self.old) place (Change.Stored number.now) }
     {
         self.changes[place] = *number;
         self.stored = with_bit(self.stored, place);
+        self.known = with_bit(self.known, place);
     }
 
     /// The number is added to what the cell holds.
@@ -108,7 +133,7 @@ impl Page {
         ensures { kept_of self.new ≡
             changed_page (kept_of self.old) place (raised_change number.now ((kept_of self.old).writes place) ((kept_of self.old).reads place)) }
     {
-        if is_set(either(self.read, self.stored), place) {
+        if is_set(self.known, place) {
             let sum = sum(self.changes[place], *number);
             self.store(place, &sum);
         } else if is_set(self.delta, place) {

@@ -21,13 +21,13 @@ returns-then-is_set c =
     let fit : FitsSigned w64 c.sum-sum.result = search rules in
     let sum : to_z w64 (of_z w64 c.sum-sum.result) ≡ cell_sum (number_at x.changes k) c.args.number.now =
     to_z-of_z w64 c.sum-sum.result fit ∙ c.sum-sum.ensures ∙ (λ i. cell_sum (to_z-of_z w64 (number_at x.changes k) change i) (to_z-of_z w64 c.args.number.now number i)) in
-    c.store.ensures ∙ ap (changed_page (kept_of x) k) (ap (λ (z : ℤ). Stored z) sum ∙ raised_held x k (sym (c.either.ensures k) ∙ sym c.if-is_set.ensures) c.args.number.now)
+    c.store.ensures ∙ ap (changed_page (kept_of x) k) (ap (λ (z : ℤ). Stored z) sum ∙ raised_held x k (sym (x.known_is k) ∙ sym c.if-is_set.ensures) c.args.number.now)
 
 pub returns-then-is_set-2 : goal.returns-then-is_set-2
 returns-then-is_set-2 c =
     let x = c.args.self.now in
     let k = c.args.place in
-    let off = or_parts (is_set x.read k) (is_set x.stored k) (sym (c.either.ensures k) ∙ sym c.if-is_set.ensures) in
+    let off = or_parts (is_set x.read k) (is_set x.stored k) (sym (x.known_is k) ∙ sym c.if-is_set.ensures) in
     let fit : FitsSigned w64 c.sum.result = search rules in
     let change : FitsSigned w64 (number_at x.changes k) = search rules in
     let number : FitsSigned w64 c.args.number.now = search rules in
@@ -40,13 +40,13 @@ pub invariant_of-self-clause-copied : goal.invariant_of-self-clause-copied
 invariant_of-self-clause-copied c =
     let x = c.args.self.now in
     let k = c.args.place in
-    copied_unread x k (or_parts (is_set x.read k) (is_set x.stored k) (sym (c.either.ensures k) ∙ sym c.if-is_set.ensures)).0 _
+    copied_unread x k (or_parts (is_set x.read k) (is_set x.stored k) (sym (x.known_is k) ∙ sym c.if-is_set.ensures)).0 _
 
 pub returns-else-is_set-2 : goal.returns-else-is_set-2
 returns-else-is_set-2 c =
     let x = c.args.self.now in
     let k = c.args.place in
-    let off = or_parts (is_set x.read k) (is_set x.stored k) (sym (c.either.ensures k) ∙ sym c.if-is_set.ensures) in
+    let off = or_parts (is_set x.read k) (is_set x.stored k) (sym (x.known_is k) ∙ sym c.if-is_set.ensures) in
     let number : FitsSigned w64 c.args.number.now = search rules in
     let long = x.rows.1 in
     let within = c.requires in
@@ -57,10 +57,10 @@ pub invariant_of-self-else-is_set-2-clause-settled : goal.invariant_of-self-else
 invariant_of-self-else-is_set-2-clause-settled c =
     let x = c.args.self.now in
     let k = c.args.place in
-    settled_unread x k (or_parts (is_set x.read k) (is_set x.stored k) (sym (c.either.ensures k) ∙ sym c.if-is_set.ensures)).0 c.with_bit-self.result c.with_bit-self.ensures.others
+    settled_unread x k (or_parts (is_set x.read k) (is_set x.stored k) (sym (x.known_is k) ∙ sym c.if-is_set.ensures)).0 c.with_bit-self.result c.with_bit-self.ensures.others
 
 pub invariant_of-self-else-is_set-2-clause-copied : goal.invariant_of-self-else-is_set-2-clause-copied
 invariant_of-self-else-is_set-2-clause-copied c =
     let x = c.args.self.now in
     let k = c.args.place in
-    copied_unread x k (or_parts (is_set x.read k) (is_set x.stored k) (sym (c.either.ensures k) ∙ sym c.if-is_set.ensures)).0 _
+    copied_unread x k (or_parts (is_set x.read k) (is_set x.stored k) (sym (x.known_is k) ∙ sym c.if-is_set.ensures)).0 _

@@ -56,6 +56,7 @@ invariant_of-self c =
       rows = (filled_long x.values c.copy_from_slice.new.self values from end long some within is few rest (omega (arith, first, second, long, some)), x.rows.1);
       within = within;
       read_near = λ k on. let near = x.read_near k on in omega (arith, near, some);
+      known_is = x.known_is;
       settled = x.settled;
       copied = λ k on off. x.copied k on off ∙ sym (row_before x.values c.copy_from_slice.new.self values from end long some within is few rest k (x.read_near k on));
     }

@@ -1,11 +1,11 @@
-use Rattle.std.proofs.Common.{◌≡◌, ◌∙◌, ◌<◌, ◌≤◌, ◌/◌, ◌+◌, ap, sym, subst, arith, length, set, ℕ, List}
+use Rattle.std.proofs.Common.{◌≡◌, ◌∙◌, ◌<◌, ◌≤◌, ◌/◌, ◌+◌, ap, sym, subst, arith, length, set, ℕ}
 use Rattle.std.specs.Prelude.{slice_index}
 use Rattle.stack_pages.specs.Holding.{table_of}
 use Rattle.stack_pages.specs.Logs.{with_page}
 use Rattle.stack_pages.specs.Pages.{blank_page}
 use Rattle.stack_pages.specs.Tables.{IsTable, Table, entry_of, log_of}
 use Rattle.stack_pages.proofs.Paged.{opened_log, opened_table}
-use Rattle.stack_pages.proofs.log.PageLog.open.Goals as goal
+use Rattle.stack_pages.proofs.log.PageLog.open_next.Goals as goal
 
 pub begin-requires-clause-next : goal.begin-requires-clause-next
 begin-requires-clause-next c = c.self.invariant.0.made
@@ -33,9 +33,7 @@ opened c =
     let room : c.self.inside.used < 512 = omega (arith, used, few) in
     let below = c.in-Some.ensures.number.0 in
     let inside : n / 64 < length c.self.inside.directory.items = omega (arith, page, long, below) in
-    let none = c.if-entry-gt0.false in
-    let entry = c.entry-entry.ensures ∙ ap (λ (xs : List ℕ). entry_of xs c.args.at.now) c.as_slice.ensures.value ∙ ap (entry_of c.self.inside.directory.items) is in
-    let free : slice_index c.self.inside.directory.items (n / 64) ≡ 0 = omega (arith, none, entry) in
+    let free : slice_index c.self.inside.directory.items (n / 64) ≡ 0 = sym (ap (entry_of c.self.inside.directory.items) is) ∙ ap (λ (t : Table). entry_of t.directory c.args.at.now) c.self.view_is ∙ c.requires in
     let (q, there, made) = c.begin.ensures.blank in
     let blank = made ∙ ap blank_page page in
     let one = opened_table t ok n room inside free c.begin.new.pages.items q there c.begin.ensures.others blank (c.self.inside.used + 1) (c.self.inside.used + 1) (omega arith) (omega arith) in
