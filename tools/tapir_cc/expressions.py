@@ -118,6 +118,8 @@ class Expressions:
                 op, b = "sdiv", 1 << b
             if op == "sdiv" and b == 2:
                 return self.half(a)
+            if op == "sdiv" and b > 1 and self.is_thorough:
+                return self.quotient(a, b)
         result = build.binary(op, a, b, op in ("add", "sub", "mul") and "u" not in type.base)
         is_narrow = op == "shl" and type.base == "int" or op in ("add", "sub", "mul", "shl") and type.base == "uint"
         return self.converted(result, Type("long"), type) if is_narrow else result
@@ -126,6 +128,7 @@ class Expressions:
         """Has the next instruction show that forms are 0 or more, unless that was refused."""
         choice = self.build.tries(word)
         self.build.shown += [Claim(form, self.build.place, choice) for form in forms if choice]
+        self.build.said += forms if choice else ()
         return choice is not None
 
     def half(self, a: str) -> Value:
@@ -143,6 +146,15 @@ class Expressions:
             return binary("sub", less, binary("sdiv", less, 2), True)
         return binary("sdiv", a, 2)
 
+    def quotient(self, a: str, b: int) -> Value:
+        """a / b: a test that always holds says its bound, where REQUIRES bound a."""
+        build, form = self.build, self.build.form(a)
+        quotient, most = build.binary("sdiv", a, b), self.f.most(form)
+        if most is None or not self.shown("quotient", form, -form + most):
+            return quotient
+        build.said += [Form.of(quotient), form - Form.of(quotient) * b]
+        return self.chosen(partial(build.branch, "slt", quotient, most // b + 1), lambda: quotient)
+
     def rest(self, a: str, b: str) -> Value:
         """a % b, which is from 0 to b - 1 where a >= 0 and b >= 1: two tests that always hold say so."""
         build = self.build
@@ -152,11 +164,6 @@ class Expressions:
                 old = rest
                 rest = self.chosen(partial(build.branch, predicate, old, bound), lambda: old)
         return rest
-
-    def guess(self, block: Block, *forms: Form) -> None:
-        """Tries that forms are 0 or more where a block begins."""
-        claims = [Claim(form, self.build.place, self.build.tries("guess")) for form in forms]
-        block.keeps += [claim for claim in claims if claim.choice]
 
     def of_CompoundAssignOperator(self, node: Node) -> Value:
         """Also ++ and --, which add 1, and of a bool are computed as those of an int."""
@@ -239,6 +246,7 @@ class Expressions:
             return self.clear(node)
         node.place.refuse(not name, "a call through a pointer is not taken", "name the function")
         args = [self.whole(x) if x.type.is_pointer else self.value(x) for x in node.inner[1:]]
+        self.unit.passed.setdefault(name, []).append(args)
         return self.build.put("call", *args, callee="@" + name, hint=name if node.type.base != "void" else "")
 
     def clear(self, node: Node) -> Value:

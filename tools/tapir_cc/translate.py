@@ -1,7 +1,7 @@
 """From the tree of a C file to functions of our language. In: the tree, the function where the run begins, and the ways
 that are not to be tried. Out: the functions that it needs, callees first, and the globals."""
 from .expressions import NO_BYTES, NO_POINTER, Cell
-from .ir import PURE, Choice, Form, Function, Place
+from .ir import PURE, Choice, Claim, Form, Function, Place
 from .parts import Parts
 from .tree import Node, Tree, Type
 
@@ -12,7 +12,8 @@ ALLOWED = ("__tapir_", "memset")
 class Unit:
     """What is made of a file."""
 
-    def __init__(self, tree: Tree, entry: str, refused: set[Choice], is_thorough: bool):
+    def __init__(self, tree: Tree, entry: str, refused: set[Choice], is_thorough: bool, known: dict[str, list]):
+        self.known, self.passed = known, {}  # a function -> what is passed to it: as was seen before, and now
         self.entry, self.refused, self.is_thorough = entry, refused, is_thorough
         self.objects: dict[str, Cell] = {}  # a global's id -> what it names
         self.extents: dict[str, int] = {}  # a global -> its cells
@@ -82,6 +83,10 @@ class Unit:
             change = f"write int64_t {p.name}[static N]"
             f.place.refuse(p.type.is_pointer and not rows, f"the size of {p.name} is not said", change)
             made.parameter(p.id, p.name, rows * p.type.cells)
+        for p, *values in zip(f.parameters, *self.known.get(node.name, ())):
+            if values and node.name != self.entry and all(isinstance(value, int) for value in values):
+                own = Form.of(p)
+                f.requires += [Claim(form, f.place) for form in (own - min(values), -own + max(values))]
         made.run()
         calls = [x for x in f.instructions() if x.callee == f.name]
         for k, own in enumerate(map(Form.of, f.parameters) if calls else ()):  # (one that falls in each call of itself)
@@ -92,9 +97,9 @@ class Unit:
 
 
 def translate(tree: Tree, entry: str, refused: set[Choice], is_thorough: bool) -> Unit:
-    before = None
-    while refused != before:  # (until no variable changes in a loop that seems to)
-        before, unit = set(refused), Unit(tree, entry, refused, is_thorough)
+    before, unit = None, Unit(tree, entry, refused, is_thorough, {})
+    while (refused, unit.passed) != before:  # (until no variable changes in a loop that seems to)
+        before, unit = (set(refused), unit.passed), Unit(tree, entry, refused, is_thorough, unit.passed)
         for node in unit.callees_first():
             unit.lower(node)
     for f in unit.functions:
@@ -105,7 +110,7 @@ def translate(tree: Tree, entry: str, refused: set[Choice], is_thorough: bool) -
 def drop_unused(f: Function) -> None:
     """Takes out what no effect and no claim rests on, also what only uses itself round a loop."""
     definitions, blocks, live = f.definitions(), f.blocks.values(), set()
-    said = [claim.form for block in blocks for claim in block.keeps]
+    said = [claim.form for block in blocks for claim in block.keeps if not claim.choice]
     said += [form for block in blocks for zone in block.foot for form in (zone.low, zone.high)]
     work = [register for form in said for register in form.terms]
     work += [value for x in f.instructions() if x.op not in PURE for value in x.uses()]
@@ -117,3 +122,4 @@ def drop_unused(f: Function) -> None:
     for block in blocks:
         block.phis = [x for x in block.phis if x.result in live]
         block.body = [x for x in block.body if x.op not in PURE or x.result in live]
+        block.keeps = [claim for claim in block.keeps if not claim.form.terms.keys() & definitions.keys() - live]
