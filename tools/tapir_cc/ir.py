@@ -9,6 +9,7 @@ from typing import Callable, NamedTuple, Optional, Sequence, Union
 
 BINARY = {"add", "sub", "mul", "sdiv", "udiv", "srem", "urem", "shl", "lshr", "ashr", "and", "or", "xor"}
 PURE = BINARY | {"trunc", "sext", "icmp", "phi", "load", "alloca", "region"}
+MOST_STEPS = 6  # from a register to what bounds it
 MOST_NAME = 56  # letters of a name, before its number
 
 Value = Union[int, str]  # a number, or the name of a register (`%x`) or a global (`@a`)
@@ -20,6 +21,9 @@ class Form:
 
     terms: dict[str, int] = field(default_factory=dict)
     constant: int = 0
+
+    def __hash__(self) -> int:
+        return hash((frozenset(self.terms.items()), self.constant))
 
     @staticmethod
     def of(value: Value) -> Form:
@@ -49,6 +53,17 @@ class Form:
         parts = [f"{factor:+d}*{register}" for register, factor in sorted(self.terms.items())]
         text = "".join(parts).replace("+1*", "+").replace("-1*", "-").lstrip("+")
         return text + f"{self.constant:+d}" if text and self.constant else text or str(self.constant)
+
+
+def reach(form: Form, facts: list[Form], known: set[str] = frozenset(), gone: tuple = ()) -> list[Form]:
+    """What a form is at most, over what is known, by facts, which are 0 or more. What is gone does not come again."""
+    register = next((r for r in reversed(form.terms) if r not in known), None)
+    if register is None or register in gone or len(gone) == MOST_STEPS:
+        return [form] * (register is None and len(form.terms) <= 4)
+    factor = form.terms[register]
+    ways = [(x, times) for x in reversed(facts) for times in {1, abs(factor)} if x.terms.get(register, 0) * times == -factor]
+    ends = {str(end): end for end in [form.plus(*way) for way in ways]}
+    return [most for end in ends.values() for most in reach(end, facts, known, (*gone, register))]
 
 
 class Place(NamedTuple):
@@ -163,13 +178,12 @@ class Function:
     def definitions(self) -> dict[str, Instruction]:
         return {x.result: x for x in self.instructions() if x.result}
 
-    def most(self, form: Form) -> Optional[int]:
-        """The greatest value of a form, by what the function requires of its parameters one by one."""
-        total = form.constant
-        for register, factor in form.terms.items():
-            sign = -1 if factor > 0 else 1
-            ends = [c.form.constant * abs(factor) for c in self.requires if c.form.terms == {register: sign}]
-            if not ends:
-                return None
-            total += min(ends)
-        return total
+    def most(self, form: Form, facts: Sequence[Form] = ()) -> Optional[int]:
+        """The greatest value of a form, by what the function requires, and by facts."""
+        found = reach(form, [*[claim.form for claim in self.requires], *facts])
+        return min((most.constant for most in found), default=None)
+
+    def shows(self, form: Form, facts: Sequence[Form]) -> bool:
+        """Whether a form is 0 or more."""
+        least = self.most(-form, facts)
+        return least is not None and least <= 0

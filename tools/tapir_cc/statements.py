@@ -9,7 +9,7 @@ from typing import Callable, Optional
 
 from .expressions import COMPARES, NO_BYTES, Cell, Expressions
 from .ir import Block, Choice, Claim, Form, Function, Instruction, Value, Zone
-from .ssa import Builder, Loop, is_shown
+from .ssa import Builder, Loop
 from .tree import Node, Type
 from .zones import Zones
 
@@ -184,7 +184,7 @@ class Statements(Expressions):
         known = self.known_inside(test, counters, body, risen)
         build.said = build.said + known
         for own in [build.form(build.read(id)) for id in counters]:
-            most, least = self.most(own), self.most(-own)
+            most, least = self.f.most(own, build.said), self.f.most(-own, build.said)
             build.guess(build.now, *[form + end for form, end in ((-own, most), (own, least)) if end is not None])
         self.facts, build.reaches, loop.inside = self.facts + known, build.reaches + known, build.now
         self.value(body)
@@ -229,10 +229,8 @@ class Statements(Expressions):
     def enter(self, test: Node, counters: dict[str, str], out: Block) -> None:
         """Tests before a loop, too, that its counter does not begin past its end, where that is not known."""
         own = self.compare_of(test)
-        is_counted = own.opcode in COMPARES and self.is_simple(own) and any(id in counters for id, _ in own.named())
-        gap = self.gaps(own)[0] + 1 if self.is_thorough and is_counted else Form()
-        most = self.f.most(-gap)
-        if not is_shown(gap, self.build.said + [claim.form for claim in self.f.requires]) and (most is None or most > 0):
+        is_counted = own.opcode in COMPARES and self.is_simple(own) and counters.keys() & dict(own.named())
+        if self.is_thorough and is_counted and not self.f.shows(self.gaps(own)[0] + 1, self.build.said):
             inside = self.build.block("entered")
             self.condition(test, inside, out)
             self.build.start(inside)
@@ -248,12 +246,6 @@ class Statements(Expressions):
             self.build.branch("slt", value, end, inside, loop.out)
             self.build.start(inside)
             self.build.guess(loop.head, gap + 1, room, risen)
-
-    def most(self, form: Form) -> Optional[int]:
-        """The greatest value of a form, as is known here."""
-        facts = [claim.form for claim in self.f.requires] + self.build.said
-        found = Zones(self.f, self.unit, {}, facts).reach(form, set(), 1)
-        return found.constant if found else None
 
     def is_simple(self, test: Node) -> bool:
         plain = {"", "+", "-", "*", *COMPARES}

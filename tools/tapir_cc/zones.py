@@ -4,10 +4,9 @@ takes the place of what is found; where no bounds are found, a zone is the whole
 from operator import attrgetter
 from typing import Optional
 
-from .ir import Choice, Form, Function, Instruction, Zone
+from .ir import Choice, Form, Function, Instruction, Zone, reach
 
 MODES = {"load": "reads", "store": "writes", "zero": "writes", "atomic": "adds"}
-MOST_STEPS = 6  # from a register to what bounds it
 
 
 class Zones:
@@ -42,24 +41,12 @@ class Zones:
         return Form.of(value) if value in known else self.linear.get(value, Form.of(value))
 
     def over(self, known: set[str], zone: Zone) -> Zone:
-        """A zone over what is known: what it reaches at most."""
-        low = self.reach(zone.low, known, -1)
-        high = self.reach(zone.high, known, 1, low or Form())
+        """A zone over what is known: what it reaches at most, and the least that does not depend on more."""
         choice = self.f.tried.setdefault(zone.object, Choice(self.f.name, "zone of " + zone.object, self.f.place))
-        is_known = low is not None and high is not None and choice not in self.refused
-        return zone._replace(low=low, high=high) if is_known else self.whole(zone.object, zone.mode)
-
-    def reach(self, form: Form, known: set[str], sign: int, near: Form = Form(), gone: tuple = ()) -> Optional[Form]:
-        """The greatest value of a form (the least where the sign is -1), over what is known: of several that which is
-        nearest to another form. What is gone does not come again."""
-        register = next((r for r in reversed(form.terms) if r not in known), None)
-        if register is None or register in gone or len(gone) == MOST_STEPS:
-            return form if register is None and len(form.terms) <= 4 else None
-        factor = form.terms[register]
-        facts = [x for x in reversed(self.facts) if x.terms.get(register) == (-sign if factor > 0 else sign)]
-        ends = {str(end): end for end in [form.plus(x, abs(factor) * sign) for x in facts]}
-        found = [self.reach(end, known, sign, near, (*gone, register)) for end in ends.values()]
-        return min(filter(None, found), key=lambda x: len((x - near).terms), default=None)
+        lows, highs = reach(-zone.low, self.facts, known), reach(zone.high, self.facts, known)
+        ends = [(low + high, -low, high) for low in lows for high in highs if choice not in self.refused]
+        _, low, high = min(ends, key=lambda x: (len(x[0].terms), x[0].constant), default=(None, None, None))
+        return zone._replace(low=low, high=high) if low else self.whole(zone.object, zone.mode)
 
 
 def merged(zones: list[Zone]) -> list[Zone]:
