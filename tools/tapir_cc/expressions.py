@@ -109,8 +109,8 @@ class Expressions:
         op, build = OPERATIONS[opcode], self.build
         if "u" in type.base:
             op = OF_UNSIGNED.get(op, op)
-        if op == "srem" and isinstance(a, str) and isinstance(b, str) and self.is_thorough:
-            return self.rest(a, b)
+        if op in ("sdiv", "srem") and isinstance(b, str) and self.is_thorough:
+            return self.rest(op, a, b)
         if isinstance(a, str) and isinstance(b, int):
             if op == "shl" and type.base == "long" and 0 < b < 62:
                 op, b = "mul", 1 << b
@@ -146,24 +146,23 @@ class Expressions:
             return binary("sub", less, binary("sdiv", less, 2), True)
         return binary("sdiv", a, 2)
 
-    def quotient(self, a: str, b: int) -> Value:
-        """a / b: a test that always holds says its bound, where REQUIRES bound a."""
-        build, form = self.build, self.build.form(a)
-        quotient, most = build.binary("sdiv", a, b), self.f.most(form)
-        if most is None or not self.shown("quotient", form, -form + most):
-            return quotient
-        build.said += [Form.of(quotient), form - Form.of(quotient) * b]
-        return self.chosen(partial(build.branch, "slt", quotient, most // b + 1), lambda: quotient)
+    def held(self, value: Value, predicate: str, bound: Value, *forms: Form) -> Value:
+        """A value, with a test that always holds where forms are 0 or more, by which it is known."""
+        test = partial(self.build.branch, predicate, value, bound)
+        return self.chosen(test, lambda: value) if self.shown("held", *forms) else value
 
-    def rest(self, a: str, b: str) -> Value:
-        """a % b, which is from 0 to b - 1 where a >= 0 and b >= 1: two tests that always hold say so."""
-        build = self.build
-        rest, forms = build.binary("srem", a, b), (build.form(a), build.form(b) - 1)
-        for predicate, bound in (("sge", 0), ("slt", b)):
-            if self.shown("rest", *forms):
-                old = rest
-                rest = self.chosen(partial(build.branch, predicate, old, bound), lambda: old)
-        return rest
+    def quotient(self, a: str, b: int) -> Value:
+        """a / b, with its bound, where REQUIRES bound a."""
+        form, quotient = self.build.form(a), self.build.binary("sdiv", a, b)
+        most = self.f.most(form)
+        self.build.said += [Form.of(quotient), form - Form.of(quotient) * b]
+        return quotient if most is None else self.held(quotient, "slt", most // b + 1, form, -form + most)
+
+    def rest(self, op: str, a: Value, b: str) -> Value:
+        """a % b or a / b, which is from 0 to b - 1 or to a, where a >= 0 and b >= 1."""
+        rest, forms = self.build.binary(op, a, b), (self.build.form(a), self.build.form(b) - 1)
+        bound = ("slt", b) if op == "srem" else ("sle", a)
+        return self.held(self.held(rest, "sge", 0, *forms), *bound, *forms)
 
     def of_CompoundAssignOperator(self, node: Node) -> Value:
         """Also ++ and --, which add 1, and of a bool are computed as those of an int."""
@@ -233,7 +232,7 @@ class Expressions:
     def test(self, predicate: str, a: Value, b: Value, yes: Block, no: Block) -> None:
         """Branches on a compare. Of <= and >= both outcomes are facts, so they are tried for == and !=."""
         up = self.build.form(a) - self.build.form(b)
-        if predicate in SIDES and not {a, b} & self.build.strange and up.terms:
+        if predicate in SIDES and not self.build.is_strange(a, b) and up.terms:
             ways = zip(("up", "down"), (up, -up), SIDES[predicate])
             predicate = next((side for word, gap, side in ways if self.shown(word, gap)), predicate)
         self.build.branch(predicate, a, b, yes, no)

@@ -229,8 +229,10 @@ class Statements(Expressions):
     def enter(self, test: Node, counters: dict[str, str], out: Block) -> None:
         """Tests before a loop, too, that its counter does not begin past its end, where that is not known."""
         own = self.compare_of(test)
-        is_counted = own.opcode in COMPARES and self.is_simple(own) and counters.keys() & dict(own.named())
-        if self.is_thorough and is_counted and not self.f.shows(self.gaps(own)[0] + 1, self.build.said):
+        is_pure = not test.ways() and not [x for x in own.walk() if x.kind == "CallExpr"]
+        is_counted = self.is_thorough and is_pure and counters.keys() & dict(own.named())
+        is_known = self.is_simple(own) and self.f.shows(self.gaps(own)[0] + 1, self.build.said)
+        if is_counted and not is_known:
             inside = self.build.block("entered")
             self.condition(test, inside, out)
             self.build.start(inside)
