@@ -55,11 +55,18 @@ class Form:
         return text + f"{self.constant:+d}" if text and self.constant else text or str(self.constant)
 
 
-def reach(form: Form, facts: list[Form], known: set[str] = frozenset(), gone: tuple = ()) -> list[Form]:
+class Reach(NamedTuple):
+    """What a form is at most, and the facts that this took."""
+
+    most: Form
+    steps: int
+
+
+def reach(form: Form, facts: list[Form], known: set[str] = frozenset(), gone: tuple = ()) -> list[Reach]:
     """What a form is at most, over what is known, by facts, which are 0 or more. What is gone does not come again."""
     register = next((r for r in reversed(form.terms) if r not in known), None)
     if register is None or register in gone or len(gone) == MOST_STEPS:
-        return [form] * (register is None and len(form.terms) <= 4)
+        return [Reach(form, len(gone))] * (register is None and len(form.terms) <= 4)
     factor = form.terms[register]
     ways = [(x, times) for x in reversed(facts) for times in {1, abs(factor)} if x.terms.get(register, 0) * times == -factor]
     ends = {str(end): end for end in [form.plus(*way) for way in ways]}
@@ -181,7 +188,7 @@ class Function:
     def most(self, form: Form, facts: Sequence[Form] = ()) -> Optional[int]:
         """The greatest value of a form, by what the function requires, and by facts."""
         found = reach(form, [*[claim.form for claim in self.requires], *facts])
-        return min((most.constant for most in found), default=None)
+        return min((most.constant for most, _ in found), default=None)
 
     def shows(self, form: Form, facts: Sequence[Form]) -> bool:
         """Whether a form is 0 or more."""

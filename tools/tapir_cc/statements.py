@@ -199,7 +199,7 @@ class Statements(Expressions):
             self.condition(again, head, out)
         else:
             self.go_on(loop)
-        build.skip(loop.above, head)
+        build.skip(loop.above, head, False)
         build.start(out)
 
     def bound(self, test: Node, body: Node, step: Node) -> tuple[Optional[Node], int, str]:

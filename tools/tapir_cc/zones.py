@@ -4,7 +4,7 @@ takes the place of what is found; where no bounds are found, a zone is the whole
 from operator import attrgetter
 from typing import Optional
 
-from .ir import Choice, Form, Function, Instruction, Zone, reach
+from .ir import Choice, Form, Function, Instruction, Reach, Zone, reach
 
 MODES = {"load": "reads", "store": "writes", "zero": "writes", "atomic": "adds"}
 
@@ -44,9 +44,14 @@ class Zones:
         """A zone over what is known: what it reaches at most, and the least that does not depend on more."""
         choice = self.f.tried.setdefault(zone.object, Choice(self.f.name, "zone of " + zone.object, self.f.place))
         lows, highs = reach(-zone.low, self.facts, known), reach(zone.high, self.facts, known)
-        ends = [(low + high, -low, high) for low in lows for high in highs if choice not in self.refused]
-        _, low, high = min(ends, key=lambda x: (len(x[0].terms), x[0].constant), default=(None, None, None))
-        return zone._replace(low=low, high=high) if low else self.whole(zone.object, zone.mode)
+        ends = [(low, high) for low in lows for high in highs if choice not in self.refused]
+
+        def terms(ends: tuple[Reach, Reach]) -> tuple[int, int, int]:
+            (low, *first), (high, *last) = ends
+            return len((low + high).terms), len(low.terms) + len(high.terms), sum(first + last)
+
+        (low, _), (high, _) = min(ends, key=terms, default=((None, 0), (None, 0)))
+        return zone._replace(low=-low, high=high) if low else self.whole(zone.object, zone.mode)
 
 
 def merged(zones: list[Zone]) -> list[Zone]:
