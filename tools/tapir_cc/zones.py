@@ -47,8 +47,9 @@ class Zones:
         ends = [(low, high) for low in lows for high in highs if choice not in self.refused]
 
         def terms(ends: tuple[Reach, Reach]) -> tuple[int, int, int]:
-            (low, *first), (high, *last) = ends
-            return len((low + high).terms), len(low.terms) + len(high.terms), sum(first + last)
+            (low, first), (high, last) = ends
+            size, all_terms = low + high, len(low.terms) + len(high.terms)
+            return len(size.terms), all_terms if size.terms else size.constant, first + last
 
         (low, _), (high, _) = min(ends, key=terms, default=((None, 0), (None, 0)))
         return zone._replace(low=-low, high=high) if low else self.whole(zone.object, zone.mode)
