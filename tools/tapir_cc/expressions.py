@@ -29,7 +29,6 @@ class Cell(NamedTuple):
 class Expressions:
     """What a function's expressions come to. `self.objects` are the variables that lie in memory. What is made has the
     place of the node that is visited."""
-
     build: Builder
     f: Function
     objects: dict[str, Cell]

@@ -18,7 +18,6 @@ Value = Union[int, str]  # a number, or the name of a register (`%x`) or a globa
 @dataclass(frozen=True)
 class Form:
     """A sum of registers with factors, none of which is 0, and a constant, as annotations have it: `3*%n-%i+2`."""
-
     terms: dict[str, int] = field(default_factory=dict)
     constant: int = 0
 
@@ -55,27 +54,20 @@ class Form:
         return text + f"{self.constant:+d}" if text and self.constant else text or str(self.constant)
 
 
-class Reach(NamedTuple):
-    """What a form is at most, and the facts that this took."""
-
-    most: Form
-    steps: int
-
-
-def reach(form: Form, facts: list[Form], known: set[str] = frozenset(), gone: tuple = ()) -> list[Reach]:
-    """What a form is at most, over what is known, by facts, which are 0 or more. What is gone does not come again."""
+def reach(form: Form, facts: list[Form], known: set[str] = frozenset(), gone: tuple = ()) -> list[tuple[Form, int]]:
+    """What a form is at most, over what is known, by facts, which are 0 or more, and how many that takes. What is gone
+    does not come again."""
     register = next((r for r in reversed(form.terms) if r not in known), None)
     if register is None or register in gone or len(gone) == MOST_STEPS:
-        return [Reach(form, len(gone))] * (register is None and len(form.terms) <= 4)
-    factor = form.terms[register]
-    ways = [(x, times) for x in reversed(facts) for times in {1, abs(factor)} if x.terms.get(register, 0) * times == -factor]
+        return [(form, len(gone))] * (register is None and len(form.terms) <= 4)
+    factor, facts_of = form.terms[register], [x for x in reversed(facts) if register in x.terms]
+    ways = [(x, times) for x in facts_of for times in {1, abs(factor)} if x.terms[register] * times == -factor]
     ends = {str(end): end for end in [form.plus(*way) for way in ways]}
     return [most for end in ends.values() for most in reach(end, facts, known, (*gone, register))]
 
 
 class Place(NamedTuple):
     """A place in the C; line 0 where it is not known."""
-
     line: int = 0
     column: int = 0
     file: str = ""
@@ -92,7 +84,6 @@ class Fault(Exception):
 
 class Choice(NamedTuple):
     """A way that is only tried, the number of which is that of its kind in this place."""
-
     function: str
     word: str
     place: Place
@@ -101,7 +92,6 @@ class Choice(NamedTuple):
 
 class Claim(NamedTuple):
     """That a form is 0 or more: said by the author, or tried."""
-
     form: Form
     place: Place
     choice: Optional[Choice] = None
@@ -109,7 +99,6 @@ class Claim(NamedTuple):
 
 class Zone(NamedTuple):
     """Cells of an object from `low` to before `high`, and what is done to them: reads, writes or adds."""
-
     object: str
     mode: str
     low: Form
@@ -121,7 +110,6 @@ class Instruction:
     """An instruction or a terminator. Of LLVM's `br` has a target, `cbr` two (true, false), `switch` the default's
     first and its numbers behind its value. Tapir's are `detach` (child, continuation), `reattach` and `sync`. Ours:
     `region` (its start), `atomic` (addition), `zero` (of a whole object)."""
-
     op: str
     result: Optional[str] = None
     args: list[Value] = field(default_factory=list)

@@ -17,6 +17,7 @@ DOES = {"detach": "this SPAWN", "ret": "this return", "reattach": "the end of th
 VERBS = {"reads": "read", "writes": "write", "adds": "add to"}
 OUTSIDE = "{what} is outside the zones that are said or found"
 UNBOUND = "no bound is found for the rounds of a loop, or a round costs over 1,000,000"
+SPENT = "the search for what shows it is spent, or finds nothing; make functions of parts of this one"
 DEPTH = "let a depth fall, by 1 for each halving, in place of a length"
 OWN_CELLS = "let each SPAWN touch cells of its own, by its counter, or use ADD"
 RULES = {  # what one means, and what to change. {what} is refused, {goal} to be shown, {may} is what may be instead
@@ -65,7 +66,8 @@ class Names:
 
     def cell(self, x: Instruction, deep: int = 4) -> str:
         is_single = x.index == 0 and self.f.extents.get(x.object) == 1
-        return self.of(x.object) + ("" if is_single else "[" + re.sub(r"^[(](.*)[)]$", r"\1", self.of(x.index, deep)) + "]")
+        index = "[" + re.sub(r"^[(](.*)[)]$", r"\1", self.of(x.index, deep)) + "]"
+        return self.of(x.object) + ("" if is_single else index)
 
     def in_text(self, text: str) -> str:
         named = re.sub(r"%[\w.]+", lambda m: "RESULT" if m[0] == "%.ret" else self.of(m[0]), text)
@@ -123,7 +125,7 @@ class Report:
         if means and (self.goals or not re.search("{may}|{goal}", means)):
             return means.format(what=self.what(), goal=self.goal, may=may, race=self.race())
         said = "".join(re.findall(rf"^ *{self.rule}: (.*)", self.told, re.M)[:1])
-        return (f"{self.what()}: " if self.rule in (502, 503, 504) else "") + self.names.in_text(said) or "refused"
+        return (f"{self.what()}: " if self.rule in (502, 503, 504) else "") + self.names.in_text(said) or SPENT
 
     def race(self) -> str:
         touched = re.search(r"touched: (\w+) ([@%][\w.]+)", self.told)
@@ -140,8 +142,8 @@ class Report:
             name, cell, own = self.names.in_text(object), self.names.in_text(low), set(re.findall(r"%[\w.]+", low))
             if low == "0" and high == str(self.f.extents.get(object)) != "1":
                 return f"each may touch all of {name}: bound its index by its counter, or use ADD"
-            strange = [x for x in touched if x[:2] == ("writes", object) and own.isdisjoint(re.findall(r"%[\w.]+", x[2]))]
-            if mode == "reads" and high == f"{low}+1" and strange:
+            written = [re.findall(r"%[\w.]+", x[2]) for x in touched if x[:2] == ("writes", object)]
+            if mode == "reads" and high == f"{low}+1" and any(own.isdisjoint(registers) for registers in written):
                 return f"read {name}[{cell}] into a local before, if that is meant"
         return OWN_CELLS
 
@@ -168,7 +170,8 @@ class Report:
             if value in names.definitions and names.definitions[value].op == "load":
                 return f"test {names.of(value)} before the loop: memory may hold anything"
         ops = {x.op: x for x in made}
-        ops |= {x.op: x for x in map(names.definitions.get, [v for x in made for v, _ in x.incoming]) if x and x.op in STRANGE}
+        ways = [names.definitions.get(value) for x in made for value, _ in x.incoming]
+        ops |= {x.op: x for x in ways if x and x.op in STRANGE}
         if "call" in ops:
             return self.unbounded(ops["call"])
         test, cells = f"test it before: if ({self.goal}) ..", self.f.extents.get(self.x and self.x.object, 0)

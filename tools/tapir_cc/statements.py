@@ -17,14 +17,12 @@ CLAIMS = ("requires", "ensures", "keeps", "invariant")
 TYPES = {"RecordDecl", "EnumDecl", "TypedefDecl"}  # what is told where it is used
 SIMPLE = {"DeclRefExpr", "IntegerLiteral", "ImplicitCastExpr", "ParenExpr", "BinaryOperator"}
 MOST_ROUNDS = 1 << 40
-MOST_ENSURED = 8
 OUT = ("return, break, continue or goto leads out of a SPAWN", "set a variable in the SPAWN, and test it after SYNC")
 
 
 @dataclass(eq=False)
 class Task:
     """A function's own body, or a SPAWN."""
-
     first: Block
     region: str
     known: set[str]
@@ -73,7 +71,7 @@ class Statements(Expressions):
         """Tries as ENSURES what compares say of a result, where the author says nothing."""
         f, tried = self.f, self.build.common("%.ret", self.returned) if self.f.returns else []
         tried = [form for form in tried if form.terms.keys() <= {"%.ret", *f.parameters}]
-        claims = [Claim(form, f.place, Choice(f.name, f"ensures {form}", f.place)) for form in tried[:MOST_ENSURED]]
+        claims = [Claim(form, f.place, Choice(f.name, f"ensures {form}", f.place)) for form in tried[:8]]
         f.ensures += [claim for claim in claims if claim.choice not in self.unit.refused and not f.ensures]
 
     def sync(self) -> None:
@@ -229,10 +227,9 @@ class Statements(Expressions):
     def enter(self, test: Node, counters: dict[str, str], out: Block) -> None:
         """Tests before a loop, too, that its counter does not begin past its end, where that is not known."""
         own = self.compare_of(test)
-        is_pure = not test.ways() and not [x for x in own.walk() if x.kind == "CallExpr"]
-        is_counted = self.is_thorough and is_pure and counters.keys() & dict(own.named())
+        is_pure = not test.ways() and not any(x.callee() for x in own.walk())
         is_known = self.is_simple(own) and self.f.shows(self.gaps(own)[0] + 1, self.build.said)
-        if is_counted and not is_known:
+        if self.is_thorough and is_pure and not is_known and counters.keys() & dict(own.named()):
             inside = self.build.block("entered")
             self.condition(test, inside, out)
             self.build.start(inside)

@@ -1,10 +1,11 @@
 """Zones and feet. In: what a function touches, in which SPAWNs, and what its loops show. Out: the cells that it may
 touch, over its parameters, and those of each SPAWN, over what is known at its start. What the author says of an object
 takes the place of what is found; where no bounds are found, a zone is the whole array."""
-from operator import attrgetter
+from itertools import product
+from operator import attrgetter, itemgetter
 from typing import Optional
 
-from .ir import Choice, Form, Function, Instruction, Reach, Zone, reach
+from .ir import Choice, Form, Function, Instruction, Zone, reach
 
 MODES = {"load": "reads", "store": "writes", "zero": "writes", "atomic": "adds"}
 
@@ -44,14 +45,11 @@ class Zones:
         """A zone over what is known: what it reaches at most, and the least that does not depend on more."""
         choice = self.f.tried.setdefault(zone.object, Choice(self.f.name, "zone of " + zone.object, self.f.place))
         lows, highs = reach(-zone.low, self.facts, known), reach(zone.high, self.facts, known)
-        ends = [(low, high) for low in lows for high in highs if choice not in self.refused]
-
-        def terms(ends: tuple[Reach, Reach]) -> tuple[int, int, int]:
-            (low, first), (high, last) = ends
-            size, all_terms = low + high, len(low.terms) + len(high.terms)
-            return len(size.terms), all_terms if size.terms else size.constant, first + last
-
-        (low, _), (high, _) = min(ends, key=terms, default=((None, 0), (None, 0)))
+        ends = []
+        for (low, first), (high, last) in product(lows, highs) if choice not in self.refused else ():
+            size, terms = low + high, len(low.terms) + len(high.terms)
+            ends.append((len(size.terms), terms if size.terms else size.constant, first + last, low, high))
+        *_, low, high = min(ends, key=itemgetter(0, 1, 2), default=(None, None))
         return zone._replace(low=-low, high=high) if low else self.whole(zone.object, zone.mode)
 
 
