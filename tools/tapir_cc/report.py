@@ -3,7 +3,6 @@
 the C."""
 import pathlib
 import re
-from typing import Iterator
 
 from .expressions import OF_UNSIGNED, OPERATIONS
 from .ir import Function, Instruction, Place
@@ -156,9 +155,14 @@ class Report:
             is_range = ".halves" in self.f.name  # (its parameters are not the author's)
             return f"let the range be such that {self.goal}" if is_range else f"add REQUIRES({required}) to {function}"
         made = [names.definitions[r] for r in sorted(registers & names.definitions.keys())]
-        parts = [names.definitions.get(r) for x in made for r in self.parts_of(x)]
-        for part in [x for x in parts if x and x.op in ("call", "load") and x not in made]:
-            return self.unbounded(part)
+        parts = made[:]
+        for x in parts:  # (of a sum or a product in the end)
+            if x.op == "call":
+                return f"write ENSURES in {x.callee[1:]}: what its RESULT may be"
+            if x.op == "load" and x not in made:
+                return f"test {names.of(x.result)} before: memory may hold anything"
+            is_sum = x.op in ("add", "sub", "mul", "sext", "trunc")
+            parts += [names.definitions[value] for value in x.args if is_sum and value in names.definitions]
         for x in made:
             if x.op in ("add", "sub", "mul") and not x.nsw and isinstance(x.args[0], str):
                 word = "REQUIRES" if x.args[0] in parameters else "INVARIANT or a test"
@@ -172,25 +176,12 @@ class Report:
         ops = {x.op: x for x in made}
         ways = [names.definitions.get(value) for x in made for value, _ in x.incoming]
         ops |= {x.op: x for x in ways if x and x.op in STRANGE}
-        if "call" in ops:
-            return self.unbounded(ops["call"])
         test, cells = f"test it before: if ({self.goal}) ..", self.f.extents.get(self.x and self.x.object, 0)
         if ops.keys() & {"load", "and", "or", "xor", "srem", "urem", "mul"}:
             return test + (f" , or mask the index with & {cells - 1}" if cells.bit_count() == 1 else "")
         if "phi" in ops and self.rule == 505:
             return "say more in INVARIANT, or test it in the loop"
         return f"add INVARIANT({self.goal}) in the loop" if "phi" in ops else test
-
-    def parts_of(self, x: Instruction) -> Iterator[str]:
-        """What a sum or a product is made of, in the end."""
-        for value in x.args if x.op in ("add", "sub", "mul", "sext", "trunc") else ():
-            yield value
-            yield from self.parts_of(self.names.definitions[value]) if value in self.names.definitions else ()
-
-    def unbounded(self, x: Instruction) -> str:
-        if x.op == "call":
-            return f"write ENSURES in {x.callee[1:]}: what its RESULT may be"
-        return f"test {self.names.of(x.result)} before: memory may hold anything"
 
     def requires_by_nearest(self) -> str:
         """The bound of a parameter with which the nearest facts would do."""
