@@ -143,7 +143,7 @@ class Expressions:
         if self.is_thorough and self.shown("less", form - 1):
             less = binary("sub", a, 1, True)
             return binary("sub", less, binary("sdiv", less, 2), True)
-        return binary("sdiv", a, 2)
+        return self.quotient(a, 2) if self.is_thorough else binary("sdiv", a, 2)
 
     def held(self, value: Value, predicate: str, bound: Value, *forms: Form) -> Value:
         """A value, with a test that always holds where forms are 0 or more, by which it is known."""
@@ -151,9 +151,9 @@ class Expressions:
         return self.chosen(test, lambda: value) if self.shown("held", *forms) else value
 
     def quotient(self, a: str, b: int) -> Value:
-        """a / b, with its bound, where REQUIRES bound a."""
+        """a / b, with its bound, where a has one."""
         form, quotient = self.build.form(a), self.build.binary("sdiv", a, b)
-        most = self.f.most(form)
+        most = self.f.most(form, self.build.said)
         self.build.said += [Form.of(quotient), form - Form.of(quotient) * b]
         return quotient if most is None else self.held(quotient, "slt", most // b + 1, form, -form + most)
 
@@ -266,6 +266,8 @@ class Expressions:
     def load(self, target: Union[Cell, str], node: Node) -> Value:
         if isinstance(target, str):
             return self.build.read(target)
+        if target in self.unit.initial:
+            return self.value(self.unit.initial[target])
         object, index = target
         hint = node.bare.declared.name or "t"
         value = self.build.once(("load", *target), "load", hint=hint, object=object, index=index)

@@ -1,5 +1,8 @@
 """From the tree of a C file to functions of our language. In: the tree, the function where the run begins, and the ways
 that are not to be tried. Out: the functions that it needs, callees first, and the globals."""
+import math
+from typing import Iterator
+
 from .expressions import NO_BYTES, NO_POINTER, Cell
 from .ir import PURE, Choice, Claim, Form, Function, Place
 from .parts import Parts
@@ -17,6 +20,7 @@ class Unit:
         self.entry, self.refused, self.is_thorough = entry, refused, is_thorough
         self.objects: dict[str, Cell] = {}  # a global's id -> what it names
         self.extents: dict[str, int] = {}  # a global -> its cells
+        self.initial: dict[Cell, Node] = {}  # a cell of what is const -> its number
         self.functions: list[Function] = []
         named = [x for x in tree.declarations if x.kind == "FunctionDecl"]
         self.bodies = {x.name: x for x in named if x.inner and x.inner[-1].kind == "CompoundStmt"}
@@ -30,13 +34,24 @@ class Unit:
         place.refuse(type.is_pointer, *NO_POINTER)
         place.refuse(plain.bytes < 4, *NO_BYTES)
         place.refuse(node.data.get("storageClass") == "extern", f"{name} is not in this file", "define it here")
-        change = "fill it in a function, or from the host (--set, --load)"
-        place.refuse("init" in node.data and not self.is_zero(node), f"{name} has an initial value", change)
+        change = "make it const, or fill it in a function, or from the host (--set, --load)"
+        is_set = "init" in node.data and not self.is_zero(node)
+        is_const = "const" in node.data["type"]["qualType"] and name == node.name
+        place.refuse(is_set and not is_const, f"{name} has an initial value", change)
         object = "@" + name
+        self.initial |= {Cell(object, at): x for at, x in self.numbers(node.inner[-1], plain.lengths)} if is_set else {}
         self.extents[object], self.objects[node.id] = plain.cells, Cell(object, 0)
         cells = sum(self.extents.values())
         text = f"with {name} the globals have {cells} cells"
         place.refuse(cells > MOST_CELLS, text, f"a module has at most {MOST_CELLS}")
+
+    def numbers(self, node: Node, lengths: tuple[int, ...], at: int = 0) -> Iterator[tuple[int, Node]]:
+        """The numbers of an initial value, each with its cell. (Those that are left out are 0.)"""
+        parts = node.inner or [Node(x, node.tree) for x in node.data.get("array_filler", [])[1:]]
+        for k, x in enumerate(parts if lengths else ()):
+            yield from self.numbers(x, lengths[1:], at + k * math.prod(lengths[1:]))
+        if not lengths:
+            yield at, node
 
     def is_zero(self, node: Node) -> bool:
         parts = node.inner + [Node(x, node.tree) for x in node.data.get("array_filler", [])]
@@ -87,6 +102,10 @@ class Unit:
             if values and node.name != self.entry and all(isinstance(value, int) for value in values):
                 own = Form.of(p)
                 f.requires += [Claim(form, f.place) for form in (own - min(values), -own + max(values))]
+        for object in dict.fromkeys(cell.object for cell in self.initial) if node.name == self.entry else ():
+            made.build.put("zero", object, object=object)  # (whatever the host handed over)
+        for cell, x in self.initial.items() if node.name == self.entry else ():
+            made.build.put("store", made.value(x), object=cell.object, index=cell.index)
         made.run()
         calls = [x for x in f.instructions() if x.callee == f.name]
         for k, own in enumerate(map(Form.of, f.parameters) if calls else ()):  # (one that falls in each call of itself)
