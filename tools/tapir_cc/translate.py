@@ -35,8 +35,8 @@ class Unit:
         place.refuse(plain.bytes < 4, *NO_BYTES)
         place.refuse(node.data.get("storageClass") == "extern", f"{name} is not in this file", "define it here")
         change = "make it const, or fill it in a function, or from the host (--set, --load)"
-        is_set = "init" in node.data and not self.is_zero(node)
         is_const = "const" in node.data["type"]["qualType"] and name == node.name
+        is_set = "init" in node.data and (is_const or not self.is_zero(node))
         place.refuse(is_set and not is_const, f"{name} has an initial value", change)
         object = "@" + name
         self.initial |= {Cell(object, at): x for at, x in self.numbers(node.inner[-1], plain.lengths)} if is_set else {}
@@ -102,10 +102,11 @@ class Unit:
             if values and node.name != self.entry and all(isinstance(value, int) for value in values):
                 own = Form.of(p)
                 f.requires += [Claim(form, f.place) for form in (own - min(values), -own + max(values))]
-        for object in dict.fromkeys(cell.object for cell in self.initial) if node.name == self.entry else ():
-            made.build.put("zero", object, object=object)  # (whatever the host handed over)
-        for cell, x in self.initial.items() if node.name == self.entry else ():
-            made.build.put("store", made.value(x), object=cell.object, index=cell.index)
+        table = [x for x in self.initial if node.name == self.entry and self.extents[x.object] > 1]
+        for object in dict.fromkeys(cell.object for cell in table):  # (whatever the host handed over)
+            made.build.put("zero", object, object=object)
+        for object, index in table:
+            made.build.put("store", made.value(self.initial[object, index]), object=object, index=index)
         made.run()
         calls = [x for x in f.instructions() if x.callee == f.name]
         for k, own in enumerate(map(Form.of, f.parameters) if calls else ()):  # (one that falls in each call of itself)
