@@ -50,7 +50,7 @@ class Unit:
         parts = node.inner or [Node(x, node.tree) for x in node.data.get("array_filler", [])[1:]]
         for k, x in enumerate(parts if lengths else ()):
             yield from self.numbers(x, lengths[1:], at + k * math.prod(lengths[1:]))
-        if not lengths:
+        if not lengths and node.kind != "ImplicitValueInitExpr":
             yield at, node
 
     def is_zero(self, node: Node) -> bool:
