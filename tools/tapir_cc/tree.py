@@ -32,7 +32,6 @@ NOT_TAKEN = [  # where a type has it: what is told, and what to write
 class Type(NamedTuple):
     """long, ulong, int, uint, bool or void, or the text of a type that is not taken; an array's lengths; whether it is
     a pointer to that."""
-
     base: str
     lengths: tuple[int, ...] = ()
     is_pointer: bool = False
