@@ -15,15 +15,15 @@
 mod answers;
 mod bench;
 mod board;
-mod deep;
 mod frames;
 mod history;
 mod outside;
+mod publishing;
 mod rest;
 mod seat;
 mod shared;
-mod stack;
 mod start;
+mod strand;
 mod ticket;
 pub mod turns;
 
@@ -31,14 +31,14 @@ pub use answers::{Claimed, Committed, Fetched, Loaded, Published, Stepped};
 pub use bench::Bench;
 pub use board::Board;
 pub use history::{Entry, History, Keeping};
-pub use outside::{advance, blank_strand, clear};
-pub use rest::{BoardRest, StackRest};
+pub use outside::{advance, blank_frame_strand, clear};
+pub use rest::{BoardRest, StrandRest};
 pub use schedule_core::{
-    Event, Finished, Machine, Memory, Pause, Places, RunFault, Status, Strand, TaskView, Verified,
-    places_of, replay, steps_of,
+    Event, Finished, FrameStrand, Machine, Memory, Pause, Places, RunFault, Status, TaskView,
+    Verified, places_of, replay, steps_of,
 };
 pub use seat::Seat;
 pub use shared::{Shared, Unended};
-pub use stack::{MOST_INSTRUCTIONS, PrivateStack, Standing};
 pub use start::Start;
+pub use strand::{MOST_INSTRUCTIONS, Standing, WorkerStrand};
 pub use ticket::Ticket;

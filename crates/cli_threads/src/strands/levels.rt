@@ -1,4 +1,4 @@
-//! The frames of a private stack, as far as rounds go by them.
+//! The frames of a strand, as far as rounds go by them.
 
 use frame::Path;
 use std::alloc::Global;

@@ -6,7 +6,7 @@ ghost use Rattle.shared_run.specs.store.Made.{IsMadeFor};
 use crate::strands::walk::told_along;
 use lists::OutOfMemory;
 use shared_run::{
-    Bench, Board, Entry, Keeping, Memory, PrivateStack, RunFault, Verified, places_of,
+    Bench, Board, Entry, Keeping, Memory, RunFault, Verified, WorkerStrand, places_of,
 };
 use std::alloc::Global;
 use std::marker::Brand;
@@ -86,10 +86,10 @@ fn run_by<L: Bench>(
         blank,
     )?;
     if let Ok(places) = places_of(alloc, verified)
-        && let Ok(stack) = PrivateStack::new(alloc, verified, &places)
+        && let Ok(strand) = WorkerStrand::new(alloc, verified, &places)
     {
         let program = verified.program();
-        if let Ok(told) = told_along(alloc, program, board, seats, stack, entries, has_scene) {
+        if let Ok(told) = told_along(alloc, program, board, seats, strand, entries, has_scene) {
             return Ok(told);
         }
     }

@@ -8,7 +8,7 @@ use frame::Path;
 use lists::OutOfMemory;
 use program::Program;
 use shared_run::{
-    Bench, Board, Claimed, Entry, Loaded, PrivateStack, Published, Seat, Standing, Stepped, Ticket,
+    Bench, Board, Claimed, Entry, Loaded, Published, Seat, Standing, Stepped, Ticket, WorkerStrand,
 };
 use std::alloc::Global;
 use views::{Act, Moment, Outcome, Rounds, Tally};
@@ -21,7 +21,7 @@ struct Walk<'a, 'p, L: Bench> {
     runs: Runs,
     board: Board<'a, L>,
     seats: Vec<Seat<L>>,
-    stack: PrivateStack<'p, L>,
+    strand: WorkerStrand<'p, L>,
     levels: Levels,
     rounds: Rounds,
     told: Told,
@@ -33,7 +33,7 @@ pub(crate) fn told_along<L: Bench>(
     program: &Program,
     board: Board<'_, L>,
     seats: Vec<Seat<L>>,
-    stack: PrivateStack<'_, L>,
+    strand: WorkerStrand<'_, L>,
     entries: &[Entry],
     has_scene: bool,
 ) -> Result<Told, OutOfMemory> {
@@ -48,7 +48,7 @@ pub(crate) fn told_along<L: Bench>(
             runs,
             board,
             seats,
-            stack,
+            strand,
             levels: Levels::new(alloc),
             rounds,
             told,
@@ -88,10 +88,10 @@ impl<L: Bench> Walk<'_, '_, L> {
 
     /// One or more of so many steps, or what has to be done before them: how many were done.
     fn some_steps(&mut self, worker: u8, most: u64) -> Result<u64, OutOfMemory> {
-        if self.stack.standing() == Standing::Blank {
+        if self.strand.standing() == Standing::Blank {
             self.load(worker)?;
         }
-        let ahead = self.runs.ahead(self.program, self.stack.top());
+        let ahead = self.runs.ahead(self.program, self.strand.top());
         let is_told = self.told.scene.is_some() && ahead.then.is_of_tasks();
         if is_told && ahead.plain == 0 {
             return self.step_at_board(worker);
@@ -101,13 +101,13 @@ impl<L: Bench> Walk<'_, '_, L> {
         } else {
             ahead.plain.saturating_add(1)
         };
-        let number = self.stack.top().made;
-        let before = self.stack.done();
-        let standing = self.stack.advance(count.min(most));
+        let number = self.strand.top().made;
+        let before = self.strand.done();
+        let standing = self.strand.advance(count.min(most));
         if standing == Standing::Spoilt {
             return Err(OutOfMemory);
         }
-        let done = self.stack.done().saturating_sub(before);
+        let done = self.strand.done().saturating_sub(before);
         if done > 0 {
             self.pass(worker, ahead, number, done);
             return Ok(done);
@@ -119,8 +119,8 @@ impl<L: Bench> Walk<'_, '_, L> {
     /// how many steps were done.
     fn make_way(&mut self, worker: u8, standing: Standing) -> Result<u64, OutOfMemory> {
         match standing {
-            Standing::Need { .. } if self.board.fetch_need(&mut self.stack) => Ok(0),
-            Standing::Going | Standing::Full if self.stack.done() > 0 => {
+            Standing::Need { .. } if self.board.fetch_need(&mut self.strand) => Ok(0),
+            Standing::Going | Standing::Full if self.strand.done() > 0 => {
                 self.publish(worker)?;
                 Ok(0)
             }
@@ -133,7 +133,7 @@ impl<L: Bench> Walk<'_, '_, L> {
         let Some(seat) = self.seats.as_slice().get(usize::from(worker)) else {
             return Err(OutOfMemory);
         };
-        let loaded = self.board.fetch_base(seat, &mut self.stack);
+        let loaded = self.board.fetch_base(seat, &mut self.strand);
         match (loaded, self.board.machine().task_of(worker)) {
             (Loaded::Frame, Some(base)) => {
                 self.levels.begin(base.path, base.top_path);
@@ -199,17 +199,17 @@ impl<L: Bench> Walk<'_, '_, L> {
 
     /// Puts the stack on the board. Nobody else did anything since it was loaded, so it fits.
     fn publish(&mut self, worker: u8) -> Result<(), OutOfMemory> {
-        if self.stack.done() > 0 && self.stack.standing() != Standing::Blank {
+        if self.strand.done() > 0 && self.strand.standing() != Standing::Blank {
             let Some(seat) = self.seats.as_mut_slice().get_mut(usize::from(worker)) else {
                 return Err(OutOfMemory);
             };
-            match self.board.publish(seat, &self.stack) {
+            match self.board.publish(seat, &self.strand) {
                 Published::Done => {}
                 Published::Stranger | Published::OutOfMemory => return Err(OutOfMemory),
             }
             self.levels.note(usize::from(worker), &mut self.rounds);
         }
-        self.stack.clear();
+        self.strand.clear();
         Ok(())
     }
 
