@@ -1,6 +1,5 @@
 //! Strands: what a worker did outside of the machine, across calls, detaches and what ends them, done at once.
 ghost use Rattle.std.specs.Prelude.{◌≡◌, ◌↔◌, ◌≤◌, IfNone, IfOk, IfSome, IsSome, IsTrue, None, Ok, OnErr, OnOk, OnSome, false, length, true};
-ghost use Rattle.schedule_workers.specs.Follows.{Follows};
 ghost use Rattle.schedule_workers.specs.Starts.{ArePlaces};
 ghost use Rattle.frame_engine.specs.Flat.{cell_in};
 ghost use Rattle.schedule_commit.specs.strand.strand_pages.Logs.{filled_log, page_around};
@@ -10,13 +9,11 @@ ghost use Rattle.schedule_commit.specs.strand.Boards.{NeedsBoard};
 ghost use Rattle.schedule_commit.specs.strand.Going.{IsGoing};
 ghost use Rattle.schedule_commit.specs.strand.serial_stack.Shown.{item_here};
 ghost use Rattle.schedule_core.specs.Strands.{StrandFits, HasRoomFor, IsBegun, IsStrandOf, RunsNothing};
-ghost use Rattle.schedule_core.specs.Replaying.{IsMachine};
 ghost use Rattle.schedule_core.specs.Spots.{KeepsSpots};
 ghost use Rattle.schedule_core.specs.Stages.{program_of};
 ghost use Rattle.schedule_core.specs.FrameStrands.{TakesSteps};
 
 use crate::machine::Machine;
-use crate::stage::Stage;
 use frame_engine::{Places, most_moves};
 use lists::OutOfMemory;
 use schedule_commit::{Strand, StrandPause as Pause, has_no_child, page_around, publish};
@@ -90,22 +87,6 @@ pub fn fill_strand_ahead(
     strand.fill_ahead(verified.program(), places, &at, page)
 }
 
-/// A strand's steps, if the strand fits. The answer is whether it does; where it does not, nothing changes.
-fn publish_into(stage: &mut Stage<'_>, worker: u8, strand: &Strand) -> Result<bool, OutOfMemory>
-    requires machine { ∥ IsMachine stage.old ∥₁ }
-    requires made { IsStrandOf (program_of stage.old) strand.now }
-    ensures exactly { IfOk result (λ done. IsTrue done ↔ StrandFits stage.old worker strand.now) }
-    ensures does { result ≡ Ok true → TakesSteps stage.old stage.new worker strand.now.done }
-    ensures left { result ≡ Ok false → stage.new ≡ stage.old }
-    ensures refused { OnErr result (stage.new ≡ stage.old) }
-    ensures machine { ∥ IsMachine stage.new ∥₁ }
-    ensures follows { Follows stage.old.run.cactus stage.new.run.cactus }
-    ensures memory { stage.new.memory ≡ stage.old.memory }
-{
-    let program = stage.verified.program();
-    publish(&mut stage.run, program, stage.places.get(), worker, strand)
-}
-
 impl Machine<'_> {
     /// Publishes what a strand did as steps of the worker, if the worker runs the base as it was loaded, at its path, without children where it had
     /// none, and each cell that was read holds what was read. The answer is whether that is so; if not, nothing changes. The frames that the
@@ -123,7 +104,9 @@ impl Machine<'_> {
         ensures spots { KeepsSpots self.old.stage.run.cactus self.new.stage.run.cactus }
         ensures names { self.new.stage.memory ≡ self.old.stage.memory }
     {
-        publish_into(&mut self.stage, worker, strand)
+        let stage = &mut self.stage;
+        let program = stage.verified.program();
+        publish(&mut stage.run, program, stage.places.get(), worker, strand)
     }
 
     /// Loads the frame that the worker runs next as the base of the strand. The answer is whether there is such a frame; if not, the strand is as

@@ -1,4 +1,4 @@
-ghost use Rattle.std.specs.Prelude.{◌≡◌, ◌↔◌, ℕ, true, false, IfOk, IsTrue, Ok, OnErr, OnOk, length};
+ghost use Rattle.std.specs.Prelude.{◌≡◌, ◌↔◌, ℕ, true, false, IfOk, IsTrue, Ok, OnErr, length};
 ghost use Rattle.schedule_workers.specs.Follows.{Follows};
 ghost use Rattle.schedule_workers.specs.Going.{TextFits};
 ghost use Rattle.strand.specs.Along.{IsUnderWay};
@@ -13,32 +13,6 @@ use lists::OutOfMemory;
 use program::Program;
 use schedule_workers::Run;
 use strand::Strand;
-
-/// Makes the strand's frames, all or none, and then puts in what it did.
-fn publish_at(
-    run: &mut Run,
-    program: &Program,
-    places: &Places,
-    worker: u8,
-    slot: usize,
-    strand: &Strand,
-) -> Result<(), OutOfMemory>
-    requires text { TextFits program.now places.now (length run.old.moves.items) }
-    requires way { ∥ IsUnderWay program.now places.now strand.now ∥₁ }
-    requires safe { ∥ StandsForStrands program.now places.now run.old ∥₁ }
-    requires fits { FitsStrand program.now run.old worker strand.now slot }
-    ensures does { OnOk result ∥ DoesStrand program.now places.now run.old run.new worker strand.now ∥₁ }
-    ensures stalls { OnOk result (LeavesStallsByStrand program.now places.now run.old run.new worker strand.now) }
-    ensures refused { OnErr result (run.new ≡ run.old) }
-    ensures follows { Follows run.old.cactus run.new.cactus }
-    ensures workers { length run.new.hands.items ≡ length run.old.hands.items }
-    ensures moves { run.new.moves ≡ run.old.moves }
-{
-    let links = links_of(run.alloc, worker, strand)?;
-    let slots = run.cactus.add_chain(slot, links)?;
-    commit(run, worker, slot, slots.as_slice(), strand);
-    Ok(())
-}
 
 /// Publishes what the strand did as steps of the worker, if the worker runs the base as it was loaded, at its path, and each cell that was read holds
 /// what was read. The answer is whether that is so; if not, nothing changes.
@@ -68,6 +42,8 @@ pub fn publish(
     let Some(slot) = fitting_base(run, program, worker, strand) else {
         return Ok(false);
     };
-    publish_at(run, program, places, worker, slot, strand)?;
+    let links = links_of(run.alloc, worker, strand)?;
+    let slots = run.cactus.add_chain(slot, links)?;
+    commit(run, worker, slot, slots.as_slice(), strand);
     Ok(true)
 }
