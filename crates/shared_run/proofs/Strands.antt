@@ -21,8 +21,8 @@ use Rattle.schedule_core.specs.strand.declared.strand.Strand.{Strand}
 use Rattle.schedule_core.specs.strand.declared.going.Pause.{Pause}
 use Rattle.schedule_core.specs.strand.declared.going.Pause.TheVariants as pause
 use Rattle.schedule_core.specs.Strands.{HasRoomFor, IsStrandOf}
-use Rattle.shared_run.specs.declared.strand.Standing.{Standing}
-use Rattle.shared_run.specs.declared.strand.Standing.TheVariants.{Blank, Going, Border, Full, Need, Spoilt}
+use Rattle.shared_run.specs.declared.worker_strand.Standing.{Standing}
+use Rattle.shared_run.specs.declared.worker_strand.Standing.TheVariants.{Blank, Going, Border, Full, Need, Spoilt}
 use Rattle.shared_run.specs.Strands.{Apart, FillsAhead, Holds, IsUp, Onward, StandsSo, is_reattach}
 use Rattle.shared_run.specs.Story.{Story}
 

@@ -26,8 +26,8 @@ use Rattle.shared_run.specs.declared.answers.Loaded.{Loaded}
 use Rattle.shared_run.specs.declared.answers.Loaded.TheVariants as loaded
 use Rattle.shared_run.specs.declared.answers.Published.{Published}
 use Rattle.shared_run.specs.declared.answers.Published.TheVariants as published
-use Rattle.shared_run.specs.declared.strand.Standing.{Standing}
-use Rattle.shared_run.specs.declared.strand.Standing.TheVariants.{Blank, Going, Border, Full, Need, Spoilt}
+use Rattle.shared_run.specs.declared.worker_strand.Standing.{Standing}
+use Rattle.shared_run.specs.declared.worker_strand.Standing.TheVariants.{Blank, Going, Border, Full, Need, Spoilt}
 use Rattle.shared_run.specs.Calls.{Appends, Same, Stays}
 use Rattle.shared_run.specs.Story.{Place, Story, state_of}
 

@@ -2,7 +2,7 @@
 ghost use Rattle.std.specs.Prelude.{◌≡◌};
 
 use crate::bench::Bench;
-use crate::strand::WorkerStrand;
+use crate::worker_strand::WorkerStrand;
 use schedule_core::Frame;
 
 impl<L: Bench> WorkerStrand<'_, L> {

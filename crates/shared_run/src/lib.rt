@@ -23,9 +23,9 @@ mod rest;
 mod seat;
 mod shared;
 mod start;
-mod strand;
 mod ticket;
 pub mod turns;
+mod worker_strand;
 
 pub use answers::{Claimed, Committed, Fetched, Loaded, Published, Stepped};
 pub use bench::Bench;
@@ -40,5 +40,5 @@ pub use schedule_core::{
 pub use seat::Seat;
 pub use shared::{Shared, Unended};
 pub use start::Start;
-pub use strand::{MOST_INSTRUCTIONS, Standing, WorkerStrand};
 pub use ticket::Ticket;
+pub use worker_strand::{MOST_INSTRUCTIONS, Standing, WorkerStrand};

@@ -6,8 +6,8 @@ use crate::answers::{Loaded, Published};
 use crate::bench::Bench;
 use crate::board::Board;
 use crate::seat::Seat;
-use crate::strand::{Standing, WorkerStrand};
 use crate::ticket::Ticket;
+use crate::worker_strand::{Standing, WorkerStrand};
 use lists::OutOfMemory;
 
 impl<L: Bench> Board<'_, L> {

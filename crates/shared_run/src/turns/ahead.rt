@@ -1,6 +1,6 @@
 use crate::bench::Bench;
 use crate::board::Board;
-use crate::strand::WorkerStrand;
+use crate::worker_strand::WorkerStrand;
 
 /// The cells of a page.
 const PAGE: i64 = 64;

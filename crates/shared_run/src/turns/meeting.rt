@@ -2,10 +2,10 @@ use crate::answers::{Claimed, Loaded, Published, Stepped};
 use crate::bench::Bench;
 use crate::board::Board;
 use crate::seat::Seat;
-use crate::strand::{Standing, WorkerStrand};
 use crate::turns::habits::{Habits, Want};
 use crate::turns::heights::Heights;
 use crate::turns::tasks::{Reason, Tasks, Told};
+use crate::worker_strand::{Standing, WorkerStrand};
 
 /// A strand that begins behind a border and comes to another within so many instructions, as those that end a frame do, is put on the board before the lock
 /// is let go, so many one after the other with the first one; it may need the cells of so many pages.

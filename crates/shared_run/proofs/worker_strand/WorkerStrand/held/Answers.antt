@@ -1,5 +1,5 @@
 use Rattle.shared_run.proofs.Strands.{strand_held}
-use Rattle.shared_run.proofs.strand.WorkerStrand.held.Goals as goal
+use Rattle.shared_run.proofs.worker_strand.WorkerStrand.held.Goals as goal
 
 pub returns-then-is_up-clause-made : goal.returns-then-is_up-clause-made
 returns-then-is_up-clause-made g c =

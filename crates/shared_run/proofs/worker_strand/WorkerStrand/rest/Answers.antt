@@ -4,7 +4,7 @@ use Rattle.schedule_core.specs.frame_engine.declared.activation.Places.{Places}
 use Rattle.schedule_workers.specs.Starts.{ArePlaces}
 use Rattle.shared_run.specs.Strands.{Holds}
 use Rattle.shared_run.proofs.Resting.{same_places}
-use Rattle.shared_run.proofs.strand.WorkerStrand.rest.Goals as goal
+use Rattle.shared_run.proofs.worker_strand.WorkerStrand.rest.Goals as goal
 
 pub returns-clause-stays : goal.returns-clause-stays
 returns-clause-stays g c =

@@ -4,7 +4,7 @@ use Rattle.std.proofs.Props.{props}
 use Rattle.schedule_core.specs.strand.Along.{IsUnderWay}
 use Rattle.shared_run.specs.Strands.{Holds}
 use Rattle.shared_run.proofs.Strands.{holds_onward, stands_so}
-use Rattle.shared_run.proofs.strand.WorkerStrand.advance.Goals as goal
+use Rattle.shared_run.proofs.worker_strand.WorkerStrand.advance.Goals as goal
 
 pub invariant_of-self : goal.invariant_of-self
 invariant_of-self g c =
