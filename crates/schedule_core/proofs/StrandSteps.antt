@@ -3,6 +3,7 @@ use Rattle.std.proofs.Common.{◌≡◌, ◌∙◌, ℕ, ℤ, length, Some, None
 use Rattle.std.specs.Prelude.{Result, Ok, Err, OnErr}
 use Rattle.std.proofs.Math.Logic.{∥∥₁_map}
 use Rattle.lists.specs.declared.memory.OutOfMemory.{OutOfMemory}
+use Rattle.program.specs.declared.function.Program.{Program}
 use Rattle.cactus.specs.declared.node.Node.{Node}
 use Rattle.cactus.specs.Frames.{node_at}
 use Rattle.schedule_commit.specs.frame_strand.Standing.{IsCopy}
@@ -43,6 +44,17 @@ takes_strand old k many w x does stalls =
     takes_steps old k many w x.done
     (λ m s. ∥∥₁_map does (λ d. let a = d m s.shown s.well.safe (orderly_here old m s) (loads_here old m s) in (absorbed m w a.strand, a.steps, a.shown)))
     (λ m s. stalls m s.shown s.well.safe (orderly_here old m s) (loads_here old m s))
+
+-- the same, where program and places are known by other names
+pub takes_strand_of : (old : Stage) (k : Run) → length k.hands.items ≡ length old.run.hands.items → (w : ℕ) (x : Strand) →
+    (q : Program) (p : Places) → q ≡ program_of old → p ≡ old.places → ∥ DoesStrand q p old.run k w x ∥₁ →
+    LeavesStallsByStrand q p old.run k w x → TakesSteps old (with_run old k) w x.done
+takes_strand_of old k many w x q p is at does stalls =
+    takes_strand old k many w x
+    (subst (λ (r : Program). ∥ DoesStrand r old.places old.run k w x ∥₁) is
+    (subst (λ (s : Places). ∥ DoesStrand q s old.run k w x ∥₁) at does))
+    (subst (λ (r : Program). LeavesStallsByStrand r old.places old.run k w x) is
+    (subst (λ (s : Places). LeavesStallsByStrand q s old.run k w x) at stalls))
 
 -- ---- a stage stays a machine
 

@@ -1,15 +1,12 @@
-use Rattle.std.proofs.Common.{◌≡◌, length, ap, subst, sym, Vec, Global, ℤ}
-use Rattle.std.specs.Prelude.{Ok, true}
+use Rattle.std.proofs.Common.{length, ap, subst, sym, Vec, Global, ℤ}
 use Rattle.program.specs.declared.function.Program.{Program}
 use Rattle.frame_engine.specs.declared.activation.Places.{Places}
 use Rattle.schedule_workers.specs.Going.{TextFits}
 use Rattle.schedule_commit.specs.strand.Along.{IsUnderWay}
-use Rattle.schedule_commit.specs.strands.Absorbing.{DoesStrand, LeavesStallsByStrand, StandsForStrands}
-use Rattle.schedule_core.specs.Replaying.{IsMachine}
+use Rattle.schedule_commit.specs.strands.Absorbing.{StandsForStrands}
 use Rattle.schedule_core.specs.Stages.{program_of}
-use Rattle.schedule_core.specs.FrameStrands.{TakesSteps}
 use Rattle.schedule_core.proofs.Commits.{same_places}
-use Rattle.schedule_core.proofs.StrandSteps.{machine_taking, same_taking, stands_for_strands, takes_strand}
+use Rattle.schedule_core.proofs.StrandSteps.{machine_taking, same_taking, stands_for_strands, takes_strand_of}
 use Rattle.schedule_core.proofs.Promised.{text_fits}
 use Rattle.schedule_core.proofs.Replaying.{with_run}
 use Rattle.schedule_core.proofs.Spots.{spots_kept}
@@ -35,23 +32,11 @@ publish-requires-clause-safe c =
     subst (λ (p : Places). ∥ StandsForStrands c.program-program.result.now p old.run ∥₁) (sym c.get.ensures)
     (subst (λ (q : Program). ∥ StandsForStrands q old.places old.run ∥₁) (sym c.program-program.ensures.value) (stands_for_strands old c.args.self.now.kept))
 
-does : (c : goal.After-publish) → c.publish.result ≡ Ok true → TakesSteps c.args.self.now.stage (with_run c.args.self.now.stage c.publish.new.run) c.args.worker c.args.strand.now.done
-does c is =
+pub returns-clause-does : goal.returns-clause-does
+returns-clause-does c = λ is.
     let old = c.args.self.now.stage in
     let k = c.publish.new.run in
-    let x = c.args.strand.now in
-    takes_strand old k c.publish.ensures.workers c.args.worker x
-    (subst (λ (q : Program). ∥ DoesStrand q old.places old.run k c.args.worker x ∥₁) c.program-program.ensures.value (subst (λ (p : Places). ∥ DoesStrand c.program-program.result.now p old.run k c.args.worker x ∥₁) c.get.ensures (c.publish.ensures.does is)))
-    (subst (λ (q : Program). LeavesStallsByStrand q old.places old.run k c.args.worker x) c.program-program.ensures.value (subst (λ (p : Places). LeavesStallsByStrand c.program-program.result.now p old.run k c.args.worker x) c.get.ensures (c.publish.ensures.stalls is)))
-
-is_machine : (c : goal.After-publish) → ∥ IsMachine (with_run c.args.self.now.stage c.publish.new.run) ∥₁
-is_machine c =
-    let old = c.args.self.now.stage in
-    machine_taking old c.publish.new.run c.publish.ensures.workers (ap (λ (v : Vec ℤ Global). length v.items) c.publish.ensures.moves) c.publish.ensures.follows c.args.worker c.args.strand.now.done
-    c.publish.result c.publish.ensures.refused (does c) c.publish.ensures.left c.args.self.now.kept
-
-pub returns-clause-does : goal.returns-clause-does
-returns-clause-does c = does c
+    takes_strand_of old k c.publish.ensures.workers c.args.worker c.args.strand.now _ _ c.program-program.ensures.value c.get.ensures (c.publish.ensures.does is) (c.publish.ensures.stalls is)
 
 pub returns-clause-refused : goal.returns-clause-refused
 returns-clause-refused c =
@@ -60,9 +45,20 @@ returns-clause-refused c =
     c.publish.result c.publish.ensures.refused
 
 pub invariant_of-self : goal.invariant_of-self
-invariant_of-self c = record { kept = is_machine c }
+invariant_of-self c =
+    let old = c.args.self.now.stage in
+    let k = c.publish.new.run in
+    record { kept = machine_taking old k c.publish.ensures.workers (ap (λ (v : Vec ℤ Global). length v.items) c.publish.ensures.moves) c.publish.ensures.follows c.args.worker c.args.strand.now.done
+    c.publish.result c.publish.ensures.refused
+    (λ is. takes_strand_of old k c.publish.ensures.workers c.args.worker c.args.strand.now _ _ c.program-program.ensures.value c.get.ensures (c.publish.ensures.does is) (c.publish.ensures.stalls is))
+    c.publish.ensures.left c.args.self.now.kept }
 
 pub returns-clause-spots : goal.returns-clause-spots
 returns-clause-spots c =
     let old = c.args.self.now.stage in
-    spots_kept old (with_run old c.publish.new.run) c.args.self.now.kept (is_machine c) c.publish.ensures.follows
+    let k = c.publish.new.run in
+    spots_kept old (with_run old k) c.args.self.now.kept
+    (machine_taking old k c.publish.ensures.workers (ap (λ (v : Vec ℤ Global). length v.items) c.publish.ensures.moves) c.publish.ensures.follows c.args.worker c.args.strand.now.done
+    c.publish.result c.publish.ensures.refused
+    (λ is. takes_strand_of old k c.publish.ensures.workers c.args.worker c.args.strand.now _ _ c.program-program.ensures.value c.get.ensures (c.publish.ensures.does is) (c.publish.ensures.stalls is))
+    c.publish.ensures.left c.args.self.now.kept) c.publish.ensures.follows
