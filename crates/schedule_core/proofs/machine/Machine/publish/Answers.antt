@@ -48,10 +48,12 @@ pub invariant_of-self : goal.invariant_of-self
 invariant_of-self c =
     let old = c.args.self.now.stage in
     let k = c.publish.new.run in
-    record { kept = machine_taking old k c.publish.ensures.workers (ap (λ (v : Vec ℤ Global). length v.items) c.publish.ensures.moves) c.publish.ensures.follows c.args.worker c.args.strand.now.done
-    c.publish.result c.publish.ensures.refused
-    (λ is. takes_strand_of old k c.publish.ensures.workers c.args.worker c.args.strand.now _ _ c.program-program.ensures.value c.get.ensures (c.publish.ensures.does is) (c.publish.ensures.stalls is))
-    c.publish.ensures.left c.args.self.now.kept }
+    record {
+      kept = machine_taking old k c.publish.ensures.workers (ap (λ (v : Vec ℤ Global). length v.items) c.publish.ensures.moves) c.publish.ensures.follows c.args.worker c.args.strand.now.done
+          c.publish.result c.publish.ensures.refused
+          (λ is. takes_strand_of old k c.publish.ensures.workers c.args.worker c.args.strand.now _ _ c.program-program.ensures.value c.get.ensures (c.publish.ensures.does is) (c.publish.ensures.stalls is))
+          c.publish.ensures.left c.args.self.now.kept;
+    }
 
 pub returns-clause-spots : goal.returns-clause-spots
 returns-clause-spots c =
