@@ -177,17 +177,15 @@ class Expressions:
         return old if node.data.get("isPostfix") else new
 
     def of_UnaryOperator(self, node: Node) -> Value:
-        inner, type = node.inner[0], node.type
         if node.opcode in ("++", "--"):
             return self.of_CompoundAssignOperator(node)
         if node.opcode == "!":
             return self.chosen(partial(self.condition, node))
-        if node.opcode == "-":
-            return self.operation("-", 0, self.value(inner), type)
+        node.place.refuse(node.opcode not in ("+", "-", "~", "__extension__"), *NO_POINTER)
+        value = self.value(node.inner[0])
         if node.opcode == "~":
-            return self.build.binary("xor", self.value(inner), LOW if type.base == "uint" else -1)
-        node.place.refuse(node.opcode not in ("+", "__extension__"), *NO_POINTER)
-        return self.value(inner)
+            return self.build.binary("xor", value, LOW if node.type.base == "uint" else -1)
+        return self.operation("-", 0, value, node.type) if node.opcode == "-" else value
 
     def of_ConditionalOperator(self, node: Node) -> Value:
         test, *arms = node.inner

@@ -170,14 +170,12 @@ class Report:
                 return f"bound {names.of(x.args[0])} from both sides by {word}, so that {sum} cannot overflow"
         if any(x.predicate[:1] == "u" and registers & set(x.args) for x in self.f.instructions()):
             return "write int64_t in place of unsigned: unsigned compares tell nothing"
-        for value in [v for x in made for v, _ in x.incoming]:
-            if value in names.definitions and names.definitions[value].op == "load":
-                return f"test {names.of(value)} before the loop: memory may hold anything"
-        ops = {x.op: x for x in made}
-        ways = [names.definitions.get(value) for x in made for value, _ in x.incoming]
-        ops |= {x.op: x for x in ways if x and x.op in STRANGE}
+        ways = [names.definitions[value] for x in made for value, _ in x.incoming if value in names.definitions]
+        for x in [x for x in ways if x.op == "load"]:
+            return f"test {names.of(x.result)} before the loop: memory may hold anything"
+        ops = {x.op for x in made} | {x.op for x in ways if x.op in STRANGE}
         test, cells = f"test it before: if ({self.goal}) ..", self.f.extents.get(self.x and self.x.object, 0)
-        if ops.keys() & {"load", "and", "or", "xor", "srem", "urem", "mul"}:
+        if ops & {"load", "and", "or", "xor", "srem", "urem", "mul"}:
             return test + (f" , or mask the index with & {cells - 1}" if cells.bit_count() == 1 else "")
         if "phi" in ops and self.rule == 505:
             return "say more in INVARIANT, or test it in the loop"

@@ -344,9 +344,8 @@ class Statements(Expressions):
     def say(self, kind: str, node: Node) -> None:
         """Takes a claim."""
         said, f, block, place = self.claim(node), self.f, self.build.now, self.build.place
-        forms = [form for form, _ in said]
-        claims = [Claim(form, place) for form in forms]
-        registers = {register for form in forms for register in form.terms}
+        claims = [Claim(form, place) for form, _ in said]
+        registers = {register for form, _ in said for register in form.terms}
         if kind == "keeps":
             is_made_here = registers & {x.result for x in block.body}
             (self.build.shown if is_made_here else block.keeps).extend(claims)
@@ -357,8 +356,8 @@ class Statements(Expressions):
             place.refuse(not is_first, text, "write it first in the loop, before any if")
             heads[-1].head.keeps += claims
             phis = {phi.result for phi in heads[-1].head.phis}  # (of `i <= n` it is guessed that i is an index below n)
-            ends = [is_loose and any(form.terms[r] < 0 for r in form.terms.keys() & phis) for form, is_loose in said]
-            self.build.reaches += [form - int(is_end) for form, is_end in zip(forms, ends)]
+            for form, is_loose in said:
+                self.build.reaches.append(form - int(is_loose and any(form.terms.get(r, 0) < 0 for r in phis)))
         else:
             about, result = ("parameters and RESULT", ["%.ret"]) if kind == "ensures" else ("parameters", [])
             is_first = block is self.tasks[0].first and registers <= {*f.parameters, *result}

@@ -42,32 +42,30 @@ class Unit:
         self.initial |= {Cell(object, at): x for at, x in self.numbers(node.inner[-1], plain.lengths)} if is_set else {}
         self.extents[object], self.objects[node.id] = plain.cells, Cell(object, 0)
         cells = sum(self.extents.values())
-        text = f"with {name} the globals have {cells} cells"
-        place.refuse(cells > MOST_CELLS, text, f"a module has at most {MOST_CELLS}")
+        change = f"a module has at most {MOST_CELLS}"
+        place.refuse(cells > MOST_CELLS, f"with {name} the globals have {cells} cells", change)
 
     def numbers(self, node: Node, lengths: tuple[int, ...], at: int = 0) -> Iterator[tuple[int, Node]]:
         """The numbers of an initial value, each with its cell. (Those that are left out are 0.)"""
-        parts = node.inner or [Node(x, node.tree) for x in node.data.get("array_filler", [])[1:]]
-        for k, x in enumerate(parts if lengths else ()):
+        for k, x in enumerate(node.inner if lengths else ()):
             yield from self.numbers(x, lengths[1:], at + k * math.prod(lengths[1:]))
         if not lengths and node.kind != "ImplicitValueInitExpr":
             yield at, node
 
     def is_zero(self, node: Node) -> bool:
-        parts = node.inner + [Node(x, node.tree) for x in node.data.get("array_filler", [])]
-        return node.data.get("value", "0") == "0" and all(map(self.is_zero, parts))
+        return all(x.data.get("value", "0") == "0" for x in node.walk())
 
     def callees_first(self) -> list[Node]:
         """The functions that a run may call."""
         out: list[Node] = []
+        change = "make one function of them, with a parameter that says which"
 
         def visit(body: Node, above: list[str]) -> None:
             for x in [x for x in body.walk() if x.callee()]:
                 name, callee = x.callee(), self.bodies.get(x.callee())
-                is_there, change = callee or name.startswith(ALLOWED), "with a parameter that says which"
+                is_there = callee or name.startswith(ALLOWED)
                 x.place.refuse(not is_there, f"{name} is not in this file", "put its code here")
-                text = f"{body.name} and {name} call each other"
-                x.place.refuse(name in above, text, f"make one function of them, {change}")
+                x.place.refuse(name in above, f"{body.name} and {name} call each other", change)
                 if callee not in (None, body, *out):
                     visit(callee, [*above, body.name])
             out.append(body)
@@ -77,9 +75,8 @@ class Unit:
         visit(first, [])
         change = f"write int64_t {first.name}(..)"
         first.place.refuse(not self.returns(first).is_number, f"{first.name} returns no number", change)
-        for p in [p for p in first.inner if p.kind == "ParmVarDecl"]:
-            text = f"{p.name} is an array, and the host hands over globals alone"
-            first.place.refuse(p.type.is_pointer, text, "make it a global")
+        for p in [p for p in first.inner if p.kind == "ParmVarDecl" and p.type.is_pointer]:
+            first.place.refuse(True, f"{p.name} is an array, and the host hands over globals alone", "make it a global")
         return out
 
     def returns(self, node: Node) -> Type:

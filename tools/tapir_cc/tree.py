@@ -62,7 +62,7 @@ class Node:
 
     @cached_property
     def inner(self) -> list["Node"]:
-        return [Node(x, self.tree) for x in self.data.get("inner", [])]
+        return [Node(x, self.tree) for x in self.data.get("inner") or self.data.get("array_filler", [])[1:]]
 
     @cached_property
     def type(self) -> Type:
@@ -147,8 +147,7 @@ class Tree:
     def printed(self, word: str) -> str:
         done = subprocess.run([*self.command, word], capture_output=True, text=True)
         if done.returncode:
-            sys.stderr.write(done.stderr)
-            sys.exit(1)
+            sys.exit(done.stderr.rstrip())
         return done.stdout
 
     def filled(self, data: dict) -> dict:
