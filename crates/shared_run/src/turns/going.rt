@@ -4,7 +4,7 @@ use crate::turns::tasks::{Hunger, Reason};
 use crate::worker_strand::{MOST_INSTRUCTIONS, Standing, WorkerStrand};
 
 /// A strand looks for others' demand after so many instructions at first, then each time it has done twice as many, up to the longest slice.
-const SHORTEST_SLICE: u64 = 16;
+const SHORTEST_SLICE: u64 = 2;
 
 const LONGEST_SLICE: u64 = 1_000;
 
