@@ -29,7 +29,6 @@ class Cell(NamedTuple):
 class Expressions:
     """What a function's expressions come to. `self.objects` are the variables that lie in memory. What is made has the
     place of the node that is visited."""
-
     build: Builder
     f: Function
     objects: dict[str, Cell]
@@ -109,8 +108,8 @@ class Expressions:
         op, build = OPERATIONS[opcode], self.build
         if "u" in type.base:
             op = OF_UNSIGNED.get(op, op)
-        if op == "srem" and isinstance(a, str) and isinstance(b, str) and self.is_thorough:
-            return self.rest(a, b)
+        if op in ("sdiv", "srem") and isinstance(b, str) and self.is_thorough:
+            return self.rest(op, a, b)
         if isinstance(a, str) and isinstance(b, int):
             if op == "shl" and type.base == "long" and 0 < b < 62:
                 op, b = "mul", 1 << b
@@ -118,6 +117,8 @@ class Expressions:
                 op, b = "sdiv", 1 << b
             if op == "sdiv" and b == 2:
                 return self.half(a)
+            if op == "sdiv" and b > 1 and self.is_thorough:
+                return self.quotient(a, b)
         result = build.binary(op, a, b, op in ("add", "sub", "mul") and "u" not in type.base)
         is_narrow = op == "shl" and type.base == "int" or op in ("add", "sub", "mul", "shl") and type.base == "uint"
         return self.converted(result, Type("long"), type) if is_narrow else result
@@ -126,6 +127,7 @@ class Expressions:
         """Has the next instruction show that forms are 0 or more, unless that was refused."""
         choice = self.build.tries(word)
         self.build.shown += [Claim(form, self.build.place, choice) for form in forms if choice]
+        self.build.said += forms if choice else ()
         return choice is not None
 
     def half(self, a: str) -> Value:
@@ -141,22 +143,25 @@ class Expressions:
         if self.is_thorough and self.shown("less", form - 1):
             less = binary("sub", a, 1, True)
             return binary("sub", less, binary("sdiv", less, 2), True)
-        return binary("sdiv", a, 2)
+        return self.quotient(a, 2) if self.is_thorough else binary("sdiv", a, 2)
 
-    def rest(self, a: str, b: str) -> Value:
-        """a % b, which is from 0 to b - 1 where a >= 0 and b >= 1: two tests that always hold say so."""
-        build = self.build
-        rest, forms = build.binary("srem", a, b), (build.form(a), build.form(b) - 1)
-        for predicate, bound in (("sge", 0), ("slt", b)):
-            if self.shown("rest", *forms):
-                old = rest
-                rest = self.chosen(partial(build.branch, predicate, old, bound), lambda: old)
-        return rest
+    def held(self, value: Value, predicate: str, bound: Value, *forms: Form) -> Value:
+        """A value, with a test that always holds where forms are 0 or more, by which it is known."""
+        test = partial(self.build.branch, predicate, value, bound)
+        return self.chosen(test, lambda: value) if self.shown("held", *forms) else value
 
-    def guess(self, block: Block, *forms: Form) -> None:
-        """Tries that forms are 0 or more where a block begins."""
-        claims = [Claim(form, self.build.place, self.build.tries("guess")) for form in forms]
-        block.keeps += [claim for claim in claims if claim.choice]
+    def quotient(self, a: str, b: int) -> Value:
+        """a / b, with its bound, where a has one."""
+        form, quotient = self.build.form(a), self.build.binary("sdiv", a, b)
+        most = self.f.most(form, self.build.said)
+        self.build.said += [Form.of(quotient), form - Form.of(quotient) * b]
+        return quotient if most is None else self.held(quotient, "slt", most // b + 1, form, -form + most)
+
+    def rest(self, op: str, a: Value, b: str) -> Value:
+        """a % b or a / b, which is from 0 to b - 1 or to a, where a >= 0 and b >= 1."""
+        rest, forms = self.build.binary(op, a, b), (self.build.form(a), self.build.form(b) - 1)
+        bound = ("slt", b) if op == "srem" else ("sle", a)
+        return self.held(self.held(rest, "sge", 0, *forms), *bound, *forms)
 
     def of_CompoundAssignOperator(self, node: Node) -> Value:
         """Also ++ and --, which add 1, and of a bool are computed as those of an int."""
@@ -172,17 +177,15 @@ class Expressions:
         return old if node.data.get("isPostfix") else new
 
     def of_UnaryOperator(self, node: Node) -> Value:
-        inner, type = node.inner[0], node.type
         if node.opcode in ("++", "--"):
             return self.of_CompoundAssignOperator(node)
         if node.opcode == "!":
             return self.chosen(partial(self.condition, node))
-        if node.opcode == "-":
-            return self.operation("-", 0, self.value(inner), type)
+        node.place.refuse(node.opcode not in ("+", "-", "~", "__extension__"), *NO_POINTER)
+        value = self.value(node.inner[0])
         if node.opcode == "~":
-            return self.build.binary("xor", self.value(inner), LOW if type.base == "uint" else -1)
-        node.place.refuse(node.opcode not in ("+", "__extension__"), *NO_POINTER)
-        return self.value(inner)
+            return self.build.binary("xor", value, LOW if node.type.base == "uint" else -1)
+        return self.operation("-", 0, value, node.type) if node.opcode == "-" else value
 
     def of_ConditionalOperator(self, node: Node) -> Value:
         test, *arms = node.inner
@@ -226,7 +229,7 @@ class Expressions:
     def test(self, predicate: str, a: Value, b: Value, yes: Block, no: Block) -> None:
         """Branches on a compare. Of <= and >= both outcomes are facts, so they are tried for == and !=."""
         up = self.build.form(a) - self.build.form(b)
-        if predicate in SIDES and not {a, b} & self.build.strange and up.terms:
+        if predicate in SIDES and not self.build.is_strange(a, b) and up.terms:
             ways = zip(("up", "down"), (up, -up), SIDES[predicate])
             predicate = next((side for word, gap, side in ways if self.shown(word, gap)), predicate)
         self.build.branch(predicate, a, b, yes, no)
@@ -239,6 +242,7 @@ class Expressions:
             return self.clear(node)
         node.place.refuse(not name, "a call through a pointer is not taken", "name the function")
         args = [self.whole(x) if x.type.is_pointer else self.value(x) for x in node.inner[1:]]
+        self.unit.passed.setdefault(name, []).append(args)
         return self.build.put("call", *args, callee="@" + name, hint=name if node.type.base != "void" else "")
 
     def clear(self, node: Node) -> Value:
@@ -260,6 +264,8 @@ class Expressions:
     def load(self, target: Union[Cell, str], node: Node) -> Value:
         if isinstance(target, str):
             return self.build.read(target)
+        if target in self.unit.initial:
+            return self.value(self.unit.initial[target])
         object, index = target
         hint = node.bare.declared.name or "t"
         value = self.build.once(("load", *target), "load", hint=hint, object=object, index=index)

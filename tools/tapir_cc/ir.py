@@ -9,6 +9,7 @@ from typing import Callable, NamedTuple, Optional, Sequence, Union
 
 BINARY = {"add", "sub", "mul", "sdiv", "udiv", "srem", "urem", "shl", "lshr", "ashr", "and", "or", "xor"}
 PURE = BINARY | {"trunc", "sext", "icmp", "phi", "load", "alloca", "region"}
+MOST_STEPS = 6  # from a register to what bounds it
 MOST_NAME = 56  # letters of a name, before its number
 
 Value = Union[int, str]  # a number, or the name of a register (`%x`) or a global (`@a`)
@@ -17,9 +18,11 @@ Value = Union[int, str]  # a number, or the name of a register (`%x`) or a globa
 @dataclass(frozen=True)
 class Form:
     """A sum of registers with factors, none of which is 0, and a constant, as annotations have it: `3*%n-%i+2`."""
-
     terms: dict[str, int] = field(default_factory=dict)
     constant: int = 0
+
+    def __hash__(self) -> int:
+        return hash((frozenset(self.terms.items()), self.constant))
 
     @staticmethod
     def of(value: Value) -> Form:
@@ -51,9 +54,20 @@ class Form:
         return text + f"{self.constant:+d}" if text and self.constant else text or str(self.constant)
 
 
+def reach(form: Form, facts: list[Form], known: set[str] = frozenset(), gone: tuple = ()) -> list[tuple[Form, int]]:
+    """What a form is at most, over what is known, by facts, which are 0 or more, and how many that takes. What is gone
+    does not come again."""
+    register = next((r for r in reversed(form.terms) if r not in known), None)
+    if register is None or register in gone or len(gone) == MOST_STEPS:
+        return [(form, len(gone))] * (register is None and len(form.terms) <= 4)
+    factor, facts_of = form.terms[register], [x for x in reversed(facts) if register in x.terms]
+    ways = [(x, times) for x in facts_of for times in {1, abs(factor)} if x.terms[register] * times == -factor]
+    ends = {str(end): end for end in [form.plus(*way) for way in ways]}
+    return [most for end in ends.values() for most in reach(end, facts, known, (*gone, register))]
+
+
 class Place(NamedTuple):
     """A place in the C; line 0 where it is not known."""
-
     line: int = 0
     column: int = 0
     file: str = ""
@@ -70,7 +84,6 @@ class Fault(Exception):
 
 class Choice(NamedTuple):
     """A way that is only tried, the number of which is that of its kind in this place."""
-
     function: str
     word: str
     place: Place
@@ -79,7 +92,6 @@ class Choice(NamedTuple):
 
 class Claim(NamedTuple):
     """That a form is 0 or more: said by the author, or tried."""
-
     form: Form
     place: Place
     choice: Optional[Choice] = None
@@ -87,7 +99,6 @@ class Claim(NamedTuple):
 
 class Zone(NamedTuple):
     """Cells of an object from `low` to before `high`, and what is done to them: reads, writes or adds."""
-
     object: str
     mode: str
     low: Form
@@ -99,7 +110,6 @@ class Instruction:
     """An instruction or a terminator. Of LLVM's `br` has a target, `cbr` two (true, false), `switch` the default's
     first and its numbers behind its value. Tapir's are `detach` (child, continuation), `reattach` and `sync`. Ours:
     `region` (its start), `atomic` (addition), `zero` (of a whole object)."""
-
     op: str
     result: Optional[str] = None
     args: list[Value] = field(default_factory=list)
@@ -163,13 +173,12 @@ class Function:
     def definitions(self) -> dict[str, Instruction]:
         return {x.result: x for x in self.instructions() if x.result}
 
-    def most(self, form: Form) -> Optional[int]:
-        """The greatest value of a form, by what the function requires of its parameters one by one."""
-        total = form.constant
-        for register, factor in form.terms.items():
-            sign = -1 if factor > 0 else 1
-            ends = [c.form.constant * abs(factor) for c in self.requires if c.form.terms == {register: sign}]
-            if not ends:
-                return None
-            total += min(ends)
-        return total
+    def most(self, form: Form, facts: Sequence[Form] = ()) -> Optional[int]:
+        """The greatest value of a form, by what the function requires, and by facts."""
+        found = reach(form, [*[claim.form for claim in self.requires], *facts])
+        return min((most.constant for most, _ in found), default=None)
+
+    def shows(self, form: Form, facts: Sequence[Form]) -> bool:
+        """Whether a form is 0 or more."""
+        least = self.most(-form, facts)
+        return least is not None and least <= 0

@@ -60,7 +60,7 @@ class Judge:
             choices |= {x.nsw, *map(f.unset.get, [x.object, *x.args])}
         elif verdict.rule in (601, 604) and x:
             choices |= {f.tried.get(x.object)} if x.object else set(f.tried.values())
-        elif verdict.rule == 505:
+        elif verdict.rule in (505, 506, 507):
             asked = re.findall(r"asked by line (\d+)", self.ask("explain", "--annotate").stdout)
             choices |= {self.printed[int(number)].choice for number in asked}
         return choices - {None}

@@ -54,7 +54,8 @@ class Parts(Statements):
         first, last = map(self.build.form, ends)
         size, (lo, hi, depth) = self.f.most(last - first), map(Form.of, own)
         deepest = HALVINGS if size is None else max(1, min(HALVINGS, size.bit_length() - 3))
-        part.f.requires += [Claim(form, part.f.place) for form in (hi - lo, depth, -depth + deepest)]
+        own_forms = [hi - lo, depth, -depth + deepest] + [lo - hi + size for size in [size] if size is not None]
+        part.f.requires += [Claim(form, part.f.place) for form in own_forms]
         part.f.notes["measure"] = f"{depth} max {deepest}"
         self.make(part, args, {"lo": lo, "hi": hi}, [Form.of("lo") - first, last - Form.of("hi")])
         call = partial(self.build.put, "call", *args, *ends, deepest, callee=part.f.name)

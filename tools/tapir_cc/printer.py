@@ -7,28 +7,18 @@ from .ir import BINARY, Block, Choice, Claim, Function, Instruction, Place, Zone
 FORMATS = {
     **dict.fromkeys(BINARY, "{x.op}{nsw} i64 {0}, {1}"),
     **dict.fromkeys(("detach", "reattach", "sync"), "{x.op} within {0}, {labels}"),
-    "alloca": "alloca [{cells} x i64]",
-    "atomic": "atomicrmw add ptr {at}, i64 {0} seq_cst",
-    "br": "br {labels}",
-    "call": "call {type} {x.callee}({passed})",
-    "cbr": "br i1 {0}, {labels}",
-    "icmp": "icmp {x.predicate} i64 {0}, {1}",
-    "load": "load i64, ptr {at}",
-    "phi": "phi i64 {incoming}",
-    "region": "call token @llvm.syncregion.start()",
-    "ret": "ret i64 {0}",
-    "ret void": "ret void",
-    "sext": "sext i32 {0} to i64",
+    "alloca": "alloca [{cells} x i64]", "atomic": "atomicrmw add ptr {at}, i64 {0} seq_cst", "br": "br {labels}",
+    "call": "call {type} {x.callee}({passed})", "cbr": "br i1 {0}, {labels}", "load": "load i64, ptr {at}",
+    "icmp": "icmp {x.predicate} i64 {0}, {1}", "phi": "phi i64 {incoming}", "ret": "ret i64 {0}",
+    "region": "call token @llvm.syncregion.start()", "sext": "sext i32 {0} to i64", "ret void": "ret void",
     "store": "store i64 {0}, ptr {at}",
-    "switch": "switch i64 {0}, label %{x.targets[0]} [ {cases} ]",
-    "trunc": "trunc i64 {0} to i32",
+    "switch": "switch i64 {0}, label %{x.targets[0]} [ {cases} ]", "trunc": "trunc i64 {0} to i32",
     "zero": "store [{cells} x i64] zeroinitializer, ptr {0}",
-}
+}  # fmt: skip
 
 
 class Line(NamedTuple):
     """A line of the module, and the instruction that it is of or stands before; what an annotation tries."""
-
     text: str
     place: Place = Place()
     function: Optional[Function] = None

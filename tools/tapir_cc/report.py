@@ -7,6 +7,7 @@ import re
 from .expressions import OF_UNSIGNED, OPERATIONS
 from .ir import Function, Instruction, Place
 from .judge import Judge, Verdict
+from .ssa import STRANGE
 
 SIGNS = {op: sign for sign, signed in OPERATIONS.items() for op in (signed, OF_UNSIGNED.get(signed))}
 MOST_FACTS = 6  # that are shown of one goal
@@ -15,6 +16,8 @@ DOES = {"detach": "this SPAWN", "ret": "this return", "reattach": "the end of th
 VERBS = {"reads": "read", "writes": "write", "adds": "add to"}
 OUTSIDE = "{what} is outside the zones that are said or found"
 UNBOUND = "no bound is found for the rounds of a loop, or a round costs over 1,000,000"
+SPENT = "the search for what shows it is spent, or finds nothing; make functions of parts of this one"
+DEPTH = "let a depth fall, by 1 for each halving, in place of a length"
 OWN_CELLS = "let each SPAWN touch cells of its own, by its counter, or use ADD"
 RULES = {  # what one means, and what to change. {what} is refused, {goal} to be shown, {may} is what may be instead
     206: (UNBOUND, "let a round do less, or make a function of a part of it with a BUDGET"),
@@ -30,8 +33,9 @@ RULES = {  # what one means, and what to change. {what} is refused, {goal} to be
     603: ("race: {race}", OWN_CELLS),
     **dict.fromkeys((601, 604), (OUTSIDE, "name the cells in READS, WRITES or ADDS of the function")),
     702: (UNBOUND, "write `for (k = 0; k < N && ..; k++)` or WHILE_AT_MOST(N, ..); or make a function of the round"),
-    703: ("", "write MEASURE(depth, 20) for a parameter that falls with each call"),
+    703: ("", "pass a depth that falls, depth - 1, with REQUIRES(0 <= depth && depth <= 20), or write MEASURE"),
     704: ("", "write REQUIRES(depth <= 20) for what falls with each call"),
+    705: ("two calls of itself cost twice as much for each step of the measure: over 1,000,000,000,000", DEPTH),
 }
 
 
@@ -61,7 +65,8 @@ class Names:
 
     def cell(self, x: Instruction, deep: int = 4) -> str:
         is_single = x.index == 0 and self.f.extents.get(x.object) == 1
-        return x.object[1:] + ("" if is_single else "[" + re.sub(r"^[(](.*)[)]$", r"\1", self.of(x.index, deep)) + "]")
+        index = "[" + re.sub(r"^[(](.*)[)]$", r"\1", self.of(x.index, deep)) + "]"
+        return self.of(x.object) + ("" if is_single else index)
 
     def in_text(self, text: str) -> str:
         named = re.sub(r"%[\w.]+", lambda m: "RESULT" if m[0] == "%.ret" else self.of(m[0]), text)
@@ -92,7 +97,7 @@ class Report:
     def text(self) -> str:
         means, change = RULES.get(self.rule, ("", ""))
         if self.rule == 602 and self.x and self.x.op == "detach":
-            change = OWN_CELLS
+            change = self.cells_to_part()
         change = change or (self.claim_to_add() if self.goals else "")
         head = told(self.path, self.place(), self.meaning(means), f"{change} [{self.rule}]")
         return "\n".join([head.replace(";  [", " ["), *self.facts()])
@@ -119,7 +124,7 @@ class Report:
         if means and (self.goals or not re.search("{may}|{goal}", means)):
             return means.format(what=self.what(), goal=self.goal, may=may, race=self.race())
         said = "".join(re.findall(rf"^ *{self.rule}: (.*)", self.told, re.M)[:1])
-        return (f"{self.what()}: " if self.rule in (502, 503, 504) else "") + self.names.in_text(said) or "refused"
+        return (f"{self.what()}: " if self.rule in (502, 503, 504) else "") + self.names.in_text(said) or SPENT
 
     def race(self) -> str:
         touched = re.search(r"touched: (\w+) ([@%][\w.]+)", self.told)
@@ -130,14 +135,34 @@ class Report:
         object = f" of {self.names.in_text(pending[2])}" if pending else ""
         return "two SPAWNs that may run at once touch the same cells" + object
 
+    def cells_to_part(self) -> str:
+        """What to do where each of many SPAWNs touches all of an array, or one cell that is the same for all."""
+        for mode, object, low, high in (touched := re.findall(r"touched: (\w+) ([@%][\w.]+) (\S+) (\S+)", self.told)):
+            name, cell, own = self.names.in_text(object), self.names.in_text(low), set(re.findall(r"%[\w.]+", low))
+            if low == "0" and high == str(self.f.extents.get(object)) != "1":
+                return f"each may touch all of {name}: bound its index by its counter, or use ADD"
+            written = [re.findall(r"%[\w.]+", x[2]) for x in touched if x[:2] == ("writes", object)]
+            if mode == "reads" and high == f"{low}+1" and any(own.isdisjoint(registers) for registers in written):
+                return f"read {name}[{cell}] into a local before, if that is meant"
+        return OWN_CELLS
+
     def claim_to_add(self) -> str:
         """REQUIRES for parameters, INVARIANT for what a loop changes, a test for what comes from memory."""
-        names, function = self.names, self.f.name[1:].split(".halves")[0]
+        names, function = self.names, self.f.name[1:]
         parameters, registers = set(self.f.parameters), set(re.findall(r"%[\w.]+", self.goals[0]))
         required = self.requires_by_nearest() or (self.goal if registers <= parameters else "")
         if required:
-            return f"add REQUIRES({required}) to {function}"
+            is_range = ".halves" in self.f.name  # (its parameters are not the author's)
+            return f"let the range be such that {self.goal}" if is_range else f"add REQUIRES({required}) to {function}"
         made = [names.definitions[r] for r in sorted(registers & names.definitions.keys())]
+        parts = made[:]
+        for x in parts:  # (of a sum or a product in the end)
+            if x.op == "call":
+                return f"write ENSURES in {x.callee[1:]}: what its RESULT may be"
+            if x.op == "load" and x not in made:
+                return f"test {names.of(x.result)} before: memory may hold anything"
+            is_sum = x.op in ("add", "sub", "mul", "sext", "trunc")
+            parts += [names.definitions[value] for value in x.args if is_sum and value in names.definitions]
         for x in made:
             if x.op in ("add", "sub", "mul") and not x.nsw and isinstance(x.args[0], str):
                 word = "REQUIRES" if x.args[0] in parameters else "INVARIANT or a test"
@@ -145,15 +170,13 @@ class Report:
                 return f"bound {names.of(x.args[0])} from both sides by {word}, so that {sum} cannot overflow"
         if any(x.predicate[:1] == "u" and registers & set(x.args) for x in self.f.instructions()):
             return "write int64_t in place of unsigned: unsigned compares tell nothing"
-        for value in [v for x in made for v, _ in x.incoming]:
-            if value in names.definitions and names.definitions[value].op == "load":
-                return f"test {names.of(value)} before the loop: memory may hold anything"
-        ops = {x.op: x for x in made}
-        if "call" in ops:
-            return f"write ENSURES in {ops['call'].callee[1:]}: what its RESULT may be"
-        test = f"test it before: if ({self.goal}) .."
-        if ops.keys() & {"load", "and", "or", "xor", "srem", "urem", "mul"}:
-            return f"{test} , or mask an index with & 63"
+        ways = [names.definitions[value] for x in made for value, _ in x.incoming if value in names.definitions]
+        for x in [x for x in ways if x.op == "load"]:
+            return f"test {names.of(x.result)} before the loop: memory may hold anything"
+        ops = {x.op for x in made} | {x.op for x in ways if x.op in STRANGE}
+        test, cells = f"test it before: if ({self.goal}) ..", self.f.extents.get(self.x and self.x.object, 0)
+        if ops & {"load", "and", "or", "xor", "srem", "urem", "mul"}:
+            return test + (f" , or mask the index with & {cells - 1}" if cells.bit_count() == 1 else "")
         if "phi" in ops and self.rule == 505:
             return "say more in INVARIANT, or test it in the loop"
         return f"add INVARIANT({self.goal}) in the loop" if "phi" in ops else test

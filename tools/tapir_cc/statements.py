@@ -23,7 +23,6 @@ OUT = ("return, break, continue or goto leads out of a SPAWN", "set a variable i
 @dataclass(eq=False)
 class Task:
     """A function's own body, or a SPAWN."""
-
     first: Block
     region: str
     known: set[str]
@@ -39,8 +38,8 @@ class Statements(Expressions):
         self.in_memory = set(pointed).union(*(spawn.ways().keys() - spawn.own() for spawn in body.spawns()))
         self.loops = self.build.loops
         self.facts: list[Form] = []  # what is 0 or more, as loops are not over
-        self.reaches: list[Form] = []  # what probably is 0 or more, of what loops change
         self.is_child = False  # whether it is the body of a SPAWN
+        self.returned: list[tuple[Value, list[Form]]] = []  # and what compares say there
         self.labels: dict[str, tuple[Block, Task]] = {}
         self.tasks: list[Task] = []
         self.new_task()
@@ -61,11 +60,19 @@ class Statements(Expressions):
         self.value(self.body)
         self.sync()
         self.build.close("ret", *[0] * self.f.returns)
-        zones = Zones(self.f, self.unit, self.build.linear, self.reaches)
+        zones = Zones(self.f, self.unit, self.build.linear, self.build.reaches)
         self.f.zones = zones.of(self.tasks[0], set(self.f.parameters) - self.f.extents.keys(), False)
         for task in self.tasks[1:]:
             task.first.foot = zones.of(task, task.known, True)
         self.build.seal()
+        self.ensure()
+
+    def ensure(self) -> None:
+        """Tries as ENSURES what compares say of a result, where the author says nothing."""
+        f, tried = self.f, self.build.common("%.ret", self.returned) if self.f.returns else []
+        tried = [form for form in tried if form.terms.keys() <= {"%.ret", *f.parameters}]
+        claims = [Claim(form, f.place, Choice(f.name, f"ensures {form}", f.place)) for form in tried[:8]]
+        f.ensures += [claim for claim in claims if claim.choice not in self.unit.refused and not f.ensures]
 
     def sync(self) -> None:
         if self.build.read(self.task.is_open) != 0:
@@ -159,6 +166,7 @@ class Statements(Expressions):
         own = [id for id in test.ways(body, step) if id in build.values and id not in body.own()]
         starts, (first, end, counter) = {id: build.form(build.read(id)) for id in own}, self.bound(test, body, step)
         head, inside, latch, out = [build.block(hint) for hint in ("head", "body", "next", "end")]
+        self.enter(test, counters, out)
         loop = Loop(out, latch, self.task, above=build.now, head=head, inside=inside, known=set(self.f.names))
         build.close("br", to=[head])
         build.start(head, set(build.values))
@@ -166,13 +174,17 @@ class Statements(Expressions):
         made = dict(build.made)
         risen = {id: build.form(build.read(id)) - start for id, start in starts.items()}
         for id in [id for id in own if self.is_thorough and id not in counters]:
-            self.guess(head, risen[id], -risen[id])
+            build.guess(head, risen[id], -risen[id])
         if first:
             self.test_bound(first, end, counter, loop)
         self.condition(test, inside, out)
         build.start(inside)
         known = self.known_inside(test, counters, body, risen)
-        self.facts, self.reaches, loop.inside = self.facts + known, self.reaches + known, build.now
+        build.said = build.said + known
+        for own in [build.form(build.read(id)) for id in counters]:
+            most, least = self.f.most(own, build.said), self.f.most(-own, build.said)
+            build.guess(build.now, *[form + end for form, end in ((-own, most), (own, least)) if end is not None])
+        self.facts, build.reaches, loop.inside = self.facts + known, build.reaches + known, build.now
         self.value(body)
         build.jump(latch)
         build.start(latch)
@@ -185,7 +197,7 @@ class Statements(Expressions):
             self.condition(again, head, out)
         else:
             self.go_on(loop)
-        build.skip(loop.above, head)
+        build.skip(loop.above, head, False)
         build.start(out)
 
     def bound(self, test: Node, body: Node, step: Node) -> tuple[Optional[Node], int, str]:
@@ -207,6 +219,21 @@ class Statements(Expressions):
         self.build.write(counter, 0, "rounds")
         return (first, most + 1, counter) if most is not None and 0 <= most < MOST_ROUNDS else (None, 0, "")
 
+    def compare_of(self, test: Node) -> Node:
+        """What the header puts a `sync` beside, or a test as it stands."""
+        is_parallel = test.bare.opcode == "||" and test.calls_of("__tapir_sync")
+        return test.bare.inner[0].bare if is_parallel else test.bare
+
+    def enter(self, test: Node, counters: dict[str, str], out: Block) -> None:
+        """Tests before a loop, too, that its counter does not begin past its end, where that is not known."""
+        own = self.compare_of(test)
+        is_pure = not test.ways() and not any(x.callee() for x in own.walk())
+        is_known = self.is_simple(own) and self.f.shows(self.gaps(own)[0] + 1, self.build.said)
+        if self.is_thorough and is_pure and not is_known and counters.keys() & dict(own.named()):
+            inside = self.build.block("entered")
+            self.condition(test, inside, out)
+            self.build.start(inside)
+
     def test_bound(self, test: Node, end: int, counter: str, loop: Loop) -> None:
         """Tests that the value is below the end, if it is shown that else the test itself does not hold: that the gap
         is then -1, and no less."""
@@ -217,21 +244,22 @@ class Statements(Expressions):
             inside = self.build.block("rounds")
             self.build.branch("slt", value, end, inside, loop.out)
             self.build.start(inside)
-            self.guess(loop.head, gap + 1, room, risen)
+            self.build.guess(loop.head, gap + 1, room, risen)
 
     def is_simple(self, test: Node) -> bool:
-        return all(x.kind in SIMPLE and x.opcode in ("", "+", "-", "*", *COMPARES) for x in test.walk())
+        plain = {"", "+", "-", "*", *COMPARES}
+        return all(x.kind in SIMPLE and (x.opcode in plain or not x.named()) for x in test.walk())
 
     def known_inside(self, test: Node, counters: dict[str, str], body: Node, risen: dict[str, Form]) -> list[Form]:
         """What is 0 or more in a round: a counter has not passed its start, and a test without effects holds."""
         facts = [risen[id] if way == "++" else -risen[id] for id, way in counters.items()]
         for id in [id for id in risen if body.ways().get(id) == {"++"}]:  # (what is only raised now and then)
-            self.reaches += [risen[id], *[risen[i] - risen[id] for i, way in counters.items() if way == "++"]]
-        own = test.bare.inner[0].bare if test.bare.opcode == "||" and test.calls_of("__tapir_sync") else test.bare
+            self.build.reaches += [risen[id], *[risen[i] - risen[id] for i, way in counters.items() if way == "++"]]
+        own = self.compare_of(test)
         if own.opcode in ("<", "<=", ">", ">=") and self.is_simple(own):
             facts += self.gaps(own)
             if len(facts[-1].terms) > 2:
-                self.guess(self.build.now, facts[-1])
+                self.build.guess(self.build.now, facts[-1])
         return facts
 
     def go_on(self, loop: Loop) -> None:
@@ -239,7 +267,7 @@ class Statements(Expressions):
         build, made = self.build, {x.result for x in self.build.now.body}
         ends = {value: build.form(build.read(variable)) for variable, value, *_ in build.heads.get(loop.head.name, ())}
         forms = [claim.form.replaced(lambda r: ends.get(r, Form.of(r))) for claim in loop.head.keeps]
-        self.guess(build.now, *[form for form in forms if not made & form.terms.keys()])
+        build.guess(build.now, *[form for form in forms if not made & form.terms.keys()])
         build.jump(loop.head)
 
     def leave(self, task: Optional[Task]) -> None:
@@ -256,6 +284,7 @@ class Statements(Expressions):
     def of_ReturnStmt(self, node: Node) -> None:
         self.leave(None if self.is_child else self.tasks[0])
         values = [self.value(x) for x in node.inner]
+        self.returned += [(value, self.build.said) for value in values if self.build.is_reached]
         self.sync()
         self.build.close("ret", *values if self.f.returns else [])
 
@@ -315,9 +344,8 @@ class Statements(Expressions):
     def say(self, kind: str, node: Node) -> None:
         """Takes a claim."""
         said, f, block, place = self.claim(node), self.f, self.build.now, self.build.place
-        forms = [form for form, _ in said]
-        claims = [Claim(form, place) for form in forms]
-        registers = {register for form in forms for register in form.terms}
+        claims = [Claim(form, place) for form, _ in said]
+        registers = {register for form, _ in said for register in form.terms}
         if kind == "keeps":
             is_made_here = registers & {x.result for x in block.body}
             (self.build.shown if is_made_here else block.keeps).extend(claims)
@@ -328,8 +356,8 @@ class Statements(Expressions):
             place.refuse(not is_first, text, "write it first in the loop, before any if")
             heads[-1].head.keeps += claims
             phis = {phi.result for phi in heads[-1].head.phis}  # (of `i <= n` it is guessed that i is an index below n)
-            ends = [is_loose and any(form.terms[r] < 0 for r in form.terms.keys() & phis) for form, is_loose in said]
-            self.reaches += [form - int(is_end) for form, is_end in zip(forms, ends)]
+            for form, is_loose in said:
+                self.build.reaches.append(form - int(is_loose and any(form.terms.get(r, 0) < 0 for r in phis)))
         else:
             about, result = ("parameters and RESULT", ["%.ret"]) if kind == "ensures" else ("parameters", [])
             is_first = block is self.tasks[0].first and registers <= {*f.parameters, *result}

@@ -1,7 +1,10 @@
 """From the tree of a C file to functions of our language. In: the tree, the function where the run begins, and the ways
 that are not to be tried. Out: the functions that it needs, callees first, and the globals."""
+import math
+from typing import Iterator
+
 from .expressions import NO_BYTES, NO_POINTER, Cell
-from .ir import PURE, Choice, Form, Function, Place
+from .ir import PURE, Choice, Claim, Form, Function, Place
 from .parts import Parts
 from .tree import Node, Tree, Type
 
@@ -12,10 +15,12 @@ ALLOWED = ("__tapir_", "memset")
 class Unit:
     """What is made of a file."""
 
-    def __init__(self, tree: Tree, entry: str, refused: set[Choice], is_thorough: bool):
+    def __init__(self, tree: Tree, entry: str, refused: set[Choice], is_thorough: bool, known: dict[str, list]):
+        self.known, self.passed = known, {}  # a function -> what is passed to it: as was seen before, and now
         self.entry, self.refused, self.is_thorough = entry, refused, is_thorough
         self.objects: dict[str, Cell] = {}  # a global's id -> what it names
         self.extents: dict[str, int] = {}  # a global -> its cells
+        self.initial: dict[Cell, Node] = {}  # a cell of what is const -> its number
         self.functions: list[Function] = []
         named = [x for x in tree.declarations if x.kind == "FunctionDecl"]
         self.bodies = {x.name: x for x in named if x.inner and x.inner[-1].kind == "CompoundStmt"}
@@ -29,29 +34,38 @@ class Unit:
         place.refuse(type.is_pointer, *NO_POINTER)
         place.refuse(plain.bytes < 4, *NO_BYTES)
         place.refuse(node.data.get("storageClass") == "extern", f"{name} is not in this file", "define it here")
-        change = "fill it in a function, or from the host (--set, --load)"
-        place.refuse("init" in node.data and not self.is_zero(node), f"{name} has an initial value", change)
+        change = "make it const, or fill it in a function, or from the host (--set, --load)"
+        is_const = "const" in node.data["type"]["qualType"] and name == node.name
+        is_set = "init" in node.data and (is_const or not self.is_zero(node))
+        place.refuse(is_set and not is_const, f"{name} has an initial value", change)
         object = "@" + name
+        self.initial |= {Cell(object, at): x for at, x in self.numbers(node.inner[-1], plain.lengths)} if is_set else {}
         self.extents[object], self.objects[node.id] = plain.cells, Cell(object, 0)
         cells = sum(self.extents.values())
-        text = f"with {name} the globals have {cells} cells"
-        place.refuse(cells > MOST_CELLS, text, f"a module has at most {MOST_CELLS}")
+        change = f"a module has at most {MOST_CELLS}"
+        place.refuse(cells > MOST_CELLS, f"with {name} the globals have {cells} cells", change)
+
+    def numbers(self, node: Node, lengths: tuple[int, ...], at: int = 0) -> Iterator[tuple[int, Node]]:
+        """The numbers of an initial value, each with its cell. (Those that are left out are 0.)"""
+        for k, x in enumerate(node.inner if lengths else ()):
+            yield from self.numbers(x, lengths[1:], at + k * math.prod(lengths[1:]))
+        if not lengths and node.kind != "ImplicitValueInitExpr":
+            yield at, node
 
     def is_zero(self, node: Node) -> bool:
-        parts = node.inner + [Node(x, node.tree) for x in node.data.get("array_filler", [])]
-        return node.data.get("value", "0") == "0" and all(map(self.is_zero, parts))
+        return all(x.data.get("value", "0") == "0" for x in node.walk())
 
     def callees_first(self) -> list[Node]:
         """The functions that a run may call."""
         out: list[Node] = []
+        change = "make one function of them, with a parameter that says which"
 
         def visit(body: Node, above: list[str]) -> None:
             for x in [x for x in body.walk() if x.callee()]:
                 name, callee = x.callee(), self.bodies.get(x.callee())
-                is_there, change = callee or name.startswith(ALLOWED), "with a parameter that says which"
+                is_there = callee or name.startswith(ALLOWED)
                 x.place.refuse(not is_there, f"{name} is not in this file", "put its code here")
-                text = f"{body.name} and {name} call each other"
-                x.place.refuse(name in above, text, f"make one function of them, {change}")
+                x.place.refuse(name in above, f"{body.name} and {name} call each other", change)
                 if callee not in (None, body, *out):
                     visit(callee, [*above, body.name])
             out.append(body)
@@ -61,9 +75,8 @@ class Unit:
         visit(first, [])
         change = f"write int64_t {first.name}(..)"
         first.place.refuse(not self.returns(first).is_number, f"{first.name} returns no number", change)
-        for p in [p for p in first.inner if p.kind == "ParmVarDecl"]:
-            text = f"{p.name} is an array, and the host hands over globals alone"
-            first.place.refuse(p.type.is_pointer, text, "make it a global")
+        for p in [p for p in first.inner if p.kind == "ParmVarDecl" and p.type.is_pointer]:
+            first.place.refuse(True, f"{p.name} is an array, and the host hands over globals alone", "make it a global")
         return out
 
     def returns(self, node: Node) -> Type:
@@ -82,6 +95,15 @@ class Unit:
             change = f"write int64_t {p.name}[static N]"
             f.place.refuse(p.type.is_pointer and not rows, f"the size of {p.name} is not said", change)
             made.parameter(p.id, p.name, rows * p.type.cells)
+        for p, *values in zip(f.parameters, *self.known.get(node.name, ())):
+            if values and node.name != self.entry and all(isinstance(value, int) for value in values):
+                own = Form.of(p)
+                f.requires += [Claim(form, f.place) for form in (own - min(values), -own + max(values))]
+        table = [x for x in self.initial if node.name == self.entry and self.extents[x.object] > 1]
+        for object in dict.fromkeys(cell.object for cell in table):  # (whatever the host handed over)
+            made.build.put("zero", object, object=object)
+        for object, index in table:
+            made.build.put("store", made.value(self.initial[object, index]), object=object, index=index)
         made.run()
         calls = [x for x in f.instructions() if x.callee == f.name]
         for k, own in enumerate(map(Form.of, f.parameters) if calls else ()):  # (one that falls in each call of itself)
@@ -92,9 +114,9 @@ class Unit:
 
 
 def translate(tree: Tree, entry: str, refused: set[Choice], is_thorough: bool) -> Unit:
-    before = None
-    while refused != before:  # (until no variable changes in a loop that seems to)
-        before, unit = set(refused), Unit(tree, entry, refused, is_thorough)
+    before, unit = None, Unit(tree, entry, refused, is_thorough, {})
+    while (refused, unit.passed) != before:  # (until no variable changes in a loop that seems to)
+        before, unit = (set(refused), unit.passed), Unit(tree, entry, refused, is_thorough, unit.passed)
         for node in unit.callees_first():
             unit.lower(node)
     for f in unit.functions:
@@ -105,7 +127,7 @@ def translate(tree: Tree, entry: str, refused: set[Choice], is_thorough: bool) -
 def drop_unused(f: Function) -> None:
     """Takes out what no effect and no claim rests on, also what only uses itself round a loop."""
     definitions, blocks, live = f.definitions(), f.blocks.values(), set()
-    said = [claim.form for block in blocks for claim in block.keeps]
+    said = [claim.form for block in blocks for claim in block.keeps if not claim.choice]
     said += [form for block in blocks for zone in block.foot for form in (zone.low, zone.high)]
     work = [register for form in said for register in form.terms]
     work += [value for x in f.instructions() if x.op not in PURE for value in x.uses()]
@@ -117,3 +139,4 @@ def drop_unused(f: Function) -> None:
     for block in blocks:
         block.phis = [x for x in block.phis if x.result in live]
         block.body = [x for x in block.body if x.op not in PURE or x.result in live]
+        block.keeps = [claim for claim in block.keeps if not claim.form.terms.keys() & definitions.keys() - live]

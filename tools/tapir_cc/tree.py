@@ -32,7 +32,6 @@ NOT_TAKEN = [  # where a type has it: what is told, and what to write
 class Type(NamedTuple):
     """long, ulong, int, uint, bool or void, or the text of a type that is not taken; an array's lengths; whether it is
     a pointer to that."""
-
     base: str
     lengths: tuple[int, ...] = ()
     is_pointer: bool = False
@@ -63,7 +62,7 @@ class Node:
 
     @cached_property
     def inner(self) -> list["Node"]:
-        return [Node(x, self.tree) for x in self.data.get("inner", [])]
+        return [Node(x, self.tree) for x in self.data.get("inner") or self.data.get("array_filler", [])[1:]]
 
     @cached_property
     def type(self) -> Type:
@@ -148,8 +147,7 @@ class Tree:
     def printed(self, word: str) -> str:
         done = subprocess.run([*self.command, word], capture_output=True, text=True)
         if done.returncode:
-            sys.stderr.write(done.stderr)
-            sys.exit(1)
+            sys.exit(done.stderr.rstrip())
         return done.stdout
 
     def filled(self, data: dict) -> dict:

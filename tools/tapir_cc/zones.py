@@ -1,13 +1,13 @@
 """Zones and feet. In: what a function touches, in which SPAWNs, and what its loops show. Out: the cells that it may
 touch, over its parameters, and those of each SPAWN, over what is known at its start. What the author says of an object
 takes the place of what is found; where no bounds are found, a zone is the whole array."""
-from operator import attrgetter
+from itertools import product
+from operator import attrgetter, itemgetter
 from typing import Optional
 
-from .ir import Choice, Form, Function, Instruction, Zone
+from .ir import Choice, Form, Function, Instruction, Zone, reach
 
 MODES = {"load": "reads", "store": "writes", "zero": "writes", "atomic": "adds"}
-MOST_STEPS = 12  # from a register to what bounds it
 
 
 class Zones:
@@ -42,23 +42,15 @@ class Zones:
         return Form.of(value) if value in known else self.linear.get(value, Form.of(value))
 
     def over(self, known: set[str], zone: Zone) -> Zone:
-        """A zone over what is known: what it reaches at most."""
-        low, high = self.reach(zone.low, known, -1), self.reach(zone.high, known, 1)
+        """A zone over what is known: what it reaches at most, and the least that does not depend on more."""
         choice = self.f.tried.setdefault(zone.object, Choice(self.f.name, "zone of " + zone.object, self.f.place))
-        is_known = low is not None and high is not None and choice not in self.refused
-        return zone._replace(low=low, high=high) if is_known else self.whole(zone.object, zone.mode)
-
-    def reach(self, form: Form, known: set[str], sign: int) -> Optional[Form]:
-        """The greatest value of a form (the least where the sign is -1), over what is known."""
-        for _ in range(MOST_STEPS):
-            register = next((r for r in reversed(form.terms) if r not in known), None)
-            factor = form.terms.get(register, 0)
-            way = -sign if factor > 0 else sign
-            facts = [x for x in reversed(self.facts) if x.terms.get(register) == way]
-            if not facts:
-                break
-            form = form.plus(min(facts, key=lambda x: len(x.terms)), abs(factor) * sign)
-        return form if form.terms.keys() <= known and len(form.terms) <= 4 else None
+        lows, highs = reach(-zone.low, self.facts, known), reach(zone.high, self.facts, known)
+        ends = []
+        for (low, first), (high, last) in product(lows, highs) if choice not in self.refused else ():
+            size, terms = low + high, len(low.terms) + len(high.terms)
+            ends.append((len(size.terms), terms if size.terms else size.constant, first + last, low, high))
+        *_, low, high = min(ends, key=itemgetter(0, 1, 2), default=(None, None))
+        return zone._replace(low=-low, high=high) if low else self.whole(zone.object, zone.mode)
 
 
 def merged(zones: list[Zone]) -> list[Zone]:

@@ -1,4 +1,4 @@
-//! Runs at boards, all on one thread, whose calls seeds draw: workers step, do strands of single frames and private stacks of their own, and claim tasks, in
+//! Runs at boards, all on one thread, whose calls seeds draw: workers step, do strands and frame strands, and claim tasks, in
 //! any order. Each run comes to what is worked out by hand, to the serial run's answer, and to that of a replay of its events.
 //!
 //! What a call answers its contract says, but for one thing: by each contract a call may always be refused memory. So a call that was is named at the end.

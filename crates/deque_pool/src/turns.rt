@@ -26,7 +26,7 @@ pub(crate) fn met<L: Bench, R: Wait>(
         &mut board,
         &mut ends,
         &mut worker.seat,
-        &mut worker.stack,
+        &mut worker.strand,
         &mut worker.habits,
     );
     drop(board);

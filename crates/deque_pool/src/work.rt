@@ -34,7 +34,7 @@ const ALONE: u64 = 32_768;
 /// What a worker does next.
 #[derive(Clone, Copy)]
 enum Next {
-    Strand,
+    FrameStrand,
     Search,
     Rest {
         /// How often the bell was rung before the search.
@@ -64,7 +64,7 @@ pub(crate) fn work<L: Bench, G: Gate, R: Wait>(
             return;
         }
         match next {
-            Next::Strand => {
+            Next::FrameStrand => {
                 rests = 0;
                 next = match pass(gate, me, worker.figures.count_strand()) {
                     Go::On => do_strand(rt, shared, demand, worker),
@@ -98,7 +98,7 @@ pub(crate) fn work_alone<L: Bench, R: Wait>(
     let mut next = after(met(rt, shared, demand, worker), 0);
     for _ in rt.forever() {
         match next {
-            Next::Strand if worker.figures.instructions < ALONE || !demand.is_met() => {
+            Next::FrameStrand if worker.figures.instructions < ALONE || !demand.is_met() => {
                 let _before = worker.figures.count_strand();
                 next = do_strand(rt, shared, demand, worker);
             }
@@ -106,7 +106,7 @@ pub(crate) fn work_alone<L: Bench, R: Wait>(
                 worker.left = left;
                 return false;
             }
-            Next::Strand | Next::Search | Next::Rest { heard: _ } => break,
+            Next::FrameStrand | Next::Search | Next::Rest { heard: _ } => break,
         }
     }
     worker.habits.keep_quiet(0);
@@ -121,14 +121,14 @@ fn do_strand<L: Bench, R: Wait>(
     worker: &mut Worker<'_, L>,
 ) -> Next {
     for _meeting in 0..MOST_MEETINGS {
-        turn(&mut worker.stack, &mut worker.habits, demand);
+        turn(&mut worker.strand, &mut worker.habits, demand);
         let heard = demand.rings();
         match met(rt, shared, demand, worker) {
             Met::Work if !worker.habits.is_new() => {}
             met => return after(met, heard),
         }
     }
-    Next::Strand
+    Next::FrameStrand
 }
 
 /// What comes after a meeting.
@@ -136,7 +136,7 @@ fn after(met: Met, heard: u64) -> Next
     ensures { (result ≡ Next.Leave Left.Starved) ↔ (met ≡ Met.OutOfMemory) }
 {
     match met {
-        Met::Work => Next::Strand,
+        Met::Work => Next::FrameStrand,
         Met::Idle => Next::Rest { heard },
         Met::Ended => Next::Leave(Left::Over),
         Met::OutOfMemory => Next::Leave(Left::Starved),

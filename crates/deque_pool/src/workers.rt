@@ -7,15 +7,15 @@ use crate::outlook::Left;
 use deque_pool_tickets::{Hands, Thief};
 use lists::OutOfMemory;
 use shared_run::turns::Habits;
-use shared_run::{Bench, Places, PrivateStack, Seat, Verified};
+use shared_run::{Bench, Places, Seat, Verified, WorkerStrand};
 use std::alloc::Global;
 use std::sync::Mutex;
 
-/// A worker: its seat, its stack, its list of tickets, and its ends of the others' lists, from the next worker on; what it has done, and why it left.
+/// A worker: its seat, its strand, its list of tickets, and its ends of the others' lists, from the next worker on; what it has done, and why it left.
 #[derive(Drop)]
 pub(crate) struct Worker<'p, L: Bench> {
     pub(crate) seat: Seat<L>,
-    pub(crate) stack: PrivateStack<'p, L>,
+    pub(crate) strand: WorkerStrand<'p, L>,
     pub(crate) hands: Hands,
     pub(crate) thieves: Vec<Thief>,
     pub(crate) habits: Habits,
@@ -42,13 +42,13 @@ pub(crate) fn crew_of<'p, L: Bench>(
         let Some(hands) = own.pop() else {
             return Err(OutOfMemory);
         };
-        let stack = PrivateStack::new(alloc, verified, places)?;
+        let strand = WorkerStrand::new(alloc, verified, places)?;
         let me = seats.len();
         let thieves = thieves_from(alloc, &mut ends, me)?;
         let figures = figures.get(me).copied().unwrap_or(Figures::none());
         crew.push(Mutex::new(Worker {
             seat,
-            stack,
+            strand,
             hands,
             thieves,
             habits: Habits::new(alloc),

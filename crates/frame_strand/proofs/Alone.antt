@@ -14,8 +14,8 @@ use Rattle.program.specs.declared.instruction.Instruction.TheVariants as instruc
 use Rattle.linear.specs.declared.form.RegisterId.{RegisterId}
 use Rattle.std.specs.Prelude.{List}
 use Rattle.laws_strands.specs.Footprint.{memory_of}
-use Rattle.laws_strands.specs.Strands as strands
-use Rattle.laws_strands.specs.Strands.{Strand, Access, Nowhere, IsStrand, is_loaded, is_filled, is_advanced, is_border, item_access}
+use Rattle.laws_strands.specs.FrameStrands as frame_strands
+use Rattle.laws_strands.specs.FrameStrands.{FrameStrand, Access, Nowhere, IsFrameStrand, is_loaded, is_filled, is_advanced, is_border, item_access}
 use Rattle.laws_strands.proofs.Items.{Touches, touches}
 use Rattle.frame_engine.specs.Shows.{Layout, IsIn, PlainSteps, here, more, StaysSafe, memory_after}
 use Rattle.frame_strand.specs.Alone as alone
@@ -44,9 +44,9 @@ put_some false z v h = h
 
 touch_keeps : (a : Access) (e : Effect) → Touches a e → Keeps e
 touch_keeps Nowhere e t = unwritten e t.writes
-touch_keeps (strands.Loads c) e (r, w, d) = unwritten e w
-touch_keeps (strands.Adds c) e (z, r, w, d) = unwritten e w
-touch_keeps (strands.Stores c) e (z, r, w, d) = λ x v h. subst (λ (o : Option (Option ℤ)). IsSome (override o v)) (sym (w x)) (put_some (same_cell c x) z v h)
+touch_keeps (frame_strands.Loads c) e (r, w, d) = unwritten e w
+touch_keeps (frame_strands.Adds c) e (z, r, w, d) = unwritten e w
+touch_keeps (frame_strands.Stores c) e (z, r, w, d) = λ x v h. subst (λ (o : Option (Option ℤ)). IsSome (override o v)) (sym (w x)) (put_some (same_cell c x) z v h)
 
 abbrev KeepsBy : Action → Type 0
 KeepsBy (Plain e) = Keeps e
@@ -85,10 +85,10 @@ module _ (prog : Program) (p : Path) (f : Frame) (m : Memory) where
 
 -- ---- steps alone
 
-pub strand_alone : (prog : Program) (l : Layout) (s : Strand) → IsStrand prog s → AloneSteps prog l s.path s.loaded s.done s.present
-strand_alone prog l _ (is_loaded p f) = alone.here
-strand_alone prog l _ (is_filled s c v is paused) = strand_alone prog l s is
-strand_alone prog l _ (is_advanced s e is free act fine) = alone.more (memory_of s.footprint) e (strand_alone prog l s is) (λ c within. refl) act fine
+pub frame_strand_alone : (prog : Program) (l : Layout) (s : FrameStrand) → IsFrameStrand prog s → AloneSteps prog l s.path s.loaded s.done s.present
+frame_strand_alone prog l _ (is_loaded p f) = alone.here
+frame_strand_alone prog l _ (is_filled s c v is paused) = frame_strand_alone prog l s is
+frame_strand_alone prog l _ (is_advanced s e is free act fine) = alone.more (memory_of s.footprint) e (frame_strand_alone prog l s is) (λ c within. refl) act fine
 
 module _ (prog : Program) (l : Layout) (p : Path) (f g : Frame) (k : Memory) where
   alone_on : (i : ℕ) → AloneSteps prog l p f i g → IsFull l k → (n : ℕ) (h : Frame) (j : Memory) → PlainSteps prog p g k n h j → AloneSteps prog l p f (i + n) h × IsFull l j
@@ -100,7 +100,7 @@ module _ (prog : Program) (l : Layout) (p : Path) (f g : Frame) (k : Memory) whe
         λ c within. some_kept e j' (item_keeps prog p h' j' (item_at prog h'.function h'.block h'.index) e act fine) c (full' c within),
       )
 
-pub stays_safe : (prog : Program) (l : Layout) (s : Strand) (m : Memory) → IsStrand prog s → StaysSafeAlone prog l s.path s.loaded → IsFull l m → StaysSafe prog l s.path s.present m
+pub stays_safe : (prog : Program) (l : Layout) (s : FrameStrand) (m : Memory) → IsFrameStrand prog s → StaysSafeAlone prog l s.path s.loaded → IsFull l m → StaysSafe prog l s.path s.present m
 stays_safe prog l s m is stays full = λ n g k steps.
-    let (a, full') = alone_on prog l s.path s.loaded s.present m s.done (strand_alone prog l s is) full n g k steps in
+    let (a, full') = alone_on prog l s.path s.loaded s.present m s.done (frame_strand_alone prog l s is) full n g k steps in
     stays (s.done + n) g a k full'

@@ -8,8 +8,8 @@ use Rattle.semantics.specs.Cells.{Cell}
 use Rattle.semantics.specs.Frames.{Frame}
 use Rattle.program.specs.declared.function.Program.{Program}
 use Rattle.laws_strands.specs.Footprint.{Write, untouched}
-use Rattle.laws_strands.specs.Strands as strands
-use Rattle.laws_strands.specs.Strands.{IsStrand, is_loaded, pause_of}
+use Rattle.laws_strands.specs.FrameStrands as frame_strands
+use Rattle.laws_strands.specs.FrameStrands.{IsFrameStrand, is_loaded, pause_of}
 use Rattle.frame.specs.Reading.{role_of}
 use Rattle.frame_engine.specs.Activation.{FrameFits, ShowsFrame, allocas_of}
 use Rattle.frame_engine.specs.Fits.{PlaceFits}
@@ -84,7 +84,7 @@ module _ (prog : Program) (places : Places) (path : List ℕ) (f : machine.Frame
   module _ (l : Layout) (g : Frame) (goes : GoesAlone prog places l (reverse x.path.items) g x.loaded) where
     abbrev pub fresh : IsAlong prog places l (reverse x.path.items) g x
     fresh = record {
-      strand = strands.loaded (reverse x.path.items) g;
+      strand = frame_strands.loaded (reverse x.path.items) g;
       is = is_loaded (reverse x.path.items) g;
       path = refl;
       loaded = refl;
@@ -128,6 +128,6 @@ module _ (prog : Program) (places : Places) (path : List ℕ) (f : machine.Frame
         (copy_goes x.loaded f (copy_back f x.loaded loaded) prog places l (reverse y.path.items) g (subst (λ p. GoesAlone prog places l (reverse p) g x.loaded) (at ∙ sym at') goes)) in
         let a = way.along l g goes' in
         let free = first_free prog a.strand a.is (no_reads l a.strand.footprint.reads y.cells.reads a.shown.footprint.reads unread) (a.shown.done ∙ one) in
-        let same : strands.loaded a.strand.path a.strand.loaded ≡ strands.loaded (reverse x.path.items) g = λ i. strands.loaded ((a.path ∙ ap reverse (at' ∙ sym at)) i) (a.loaded i) in
-        stands_free prog l (strands.loaded (reverse x.path.items) g) (ap (pause_of prog) (sym same) ∙ free);
+        let same : frame_strands.loaded a.strand.path a.strand.loaded ≡ frame_strands.loaded (reverse x.path.items) g = λ i. frame_strands.loaded ((a.path ∙ ap reverse (at' ∙ sym at)) i) (a.loaded i) in
+        stands_free prog l (frame_strands.loaded (reverse x.path.items) g) (ap (pause_of prog) (sym same) ∙ free);
   }

@@ -12,14 +12,14 @@ use Rattle.semantics.specs.Arithmetic.{cell_sum}
 use Rattle.semantics.proofs.Actions.{same_cell_itself}
 use Rattle.laws_strands.specs.Footprint.{Delta, Footprint, Stored, Write, held, known, read_at, settled, with_read, write_at}
 use Rattle.laws_strands.proofs.Footprints.{lookup_new, lookup_with_write}
-use Rattle.laws_strands.specs.Strands as strands
-use Rattle.laws_strands.specs.Strands.{Access, IsStrand, is_filled, access_of, is_border, is_full, need, next_of, pause_at, pause_of}
+use Rattle.laws_strands.specs.FrameStrands as frame_strands
+use Rattle.laws_strands.specs.FrameStrands.{Access, IsFrameStrand, is_filled, access_of, is_border, is_full, need, next_of, pause_at, pause_of}
 use Rattle.frame_engine.specs.declared.activation.Places.{Places}
 use Rattle.frame_strand.specs.Alone.{GoesAlone}
-use Rattle.frame_strand.specs.Along.{IsAlong, IsGoing, IsStrandKept, NeedsLiving, PausesAt, pause_in}
+use Rattle.frame_strand.specs.Along.{IsAlong, IsGoing, IsFrameStrandKept, NeedsLiving, PausesAt, pause_in}
 use Rattle.frame_strand.specs.Buffers.{Buffers, held_in}
 use Rattle.frame_strand.specs.Showing.{AreApart}
-use Rattle.frame_strand.specs.Standing.{ShowsStrand}
+use Rattle.frame_strand.specs.Standing.{ShowsFrameStrand}
 use Rattle.frame_strand.specs.declared.standing.Course.{Course}
 use Rattle.frame_engine.specs.Shows.{Layout, IsIn, address}
 use Rattle.frame_strand.specs.declared.standing.Pause.{Pause}
@@ -28,40 +28,40 @@ use Rattle.frame_strand.proofs.Pausing.{stands_free}
 use Rattle.frame_strand.proofs.Showing.{held_is}
 
 -- what a strand that needs a cell has come to
-pub record NeedsCell (prog : Program) (l : Layout) (s : strands.Strand) (at : ℤ) : Type 0 where
+pub record NeedsCell (prog : Program) (l : Layout) (s : frame_strands.FrameStrand) (at : ℤ) : Type 0 where
   pub cell : Cell
-  pub pauses : pause_of prog s ≡ Some (strands.Need cell)
+  pub pauses : pause_of prog s ≡ Some (frame_strands.Need cell)
   pub is : at ≡ address l cell
   pub living : IsIn l cell
 
-pub needs_cell : (prog : Program) (l : Layout) (s : strands.Strand) (at : ℤ) → PausesAt prog l s (Some (Need at)) → NeedsCell prog l s at
+pub needs_cell : (prog : Program) (l : Layout) (s : frame_strands.FrameStrand) (at : ℤ) → PausesAt prog l s (Some (Need at)) → NeedsCell prog l s at
 needs_cell prog l s at p = from (pause_of prog s) refl p.is p.living
   where
-    from : (o : Option strands.Pause) → pause_of prog s ≡ o → option_map (pause_in l) o ≡ Some (Need at) → NeedsLiving l o → NeedsCell prog l s at
+    from : (o : Option frame_strands.Pause) → pause_of prog s ≡ o → option_map (pause_in l) o ≡ Some (Need at) → NeedsLiving l o → NeedsCell prog l s at
     from None is e living = absurd cc
-    from (Some strands.Blank) is e living = absurd cc
-    from (Some strands.Border) is e living = absurd cc
-    from (Some strands.Limit) is e living = absurd cc
-    from (Some strands.Full) is e living = absurd cc
-    from (Some (strands.Need c)) is e living = record { cell = c; pauses = is; is = cc; living = living }
+    from (Some frame_strands.Blank) is e living = absurd cc
+    from (Some frame_strands.Border) is e living = absurd cc
+    from (Some frame_strands.Limit) is e living = absurd cc
+    from (Some frame_strands.Full) is e living = absurd cc
+    from (Some (frame_strands.Need c)) is e living = record { cell = c; pauses = is; is = cc; living = living }
 
 -- ---- what it waits for
 
-pause_parts : (b1 b2 b3 : Bool) (o : Option strands.Pause) (c : Cell) → cond b1 (Some strands.Border) (cond b2 (Some strands.Limit) (cond b3 (Some strands.Full) o)) ≡ Some (strands.Need c) →
-    (b1 ≡ false) × (b2 ≡ false) × (b3 ≡ false) × (o ≡ Some (strands.Need c))
+pause_parts : (b1 b2 b3 : Bool) (o : Option frame_strands.Pause) (c : Cell) → cond b1 (Some frame_strands.Border) (cond b2 (Some frame_strands.Limit) (cond b3 (Some frame_strands.Full) o)) ≡ Some (frame_strands.Need c) →
+    (b1 ≡ false) × (b2 ≡ false) × (b3 ≡ false) × (o ≡ Some (frame_strands.Need c))
 pause_parts true b2 b3 o c e = absurd cc
 pause_parts false true b3 o c e = absurd cc
 pause_parts false false true o c e = absurd cc
 pause_parts false false false o c e = (refl, refl, refl, e)
 
-need_loads : (f : Footprint) (a : Access) (c : Cell) → need f a ≡ Some (strands.Need c) → (a ≡ strands.Loads c) × (held f c ≡ None)
-need_loads f strands.Nowhere c e = absurd cc
-need_loads f (strands.Stores d) c e = absurd cc
-need_loads f (strands.Adds d) c e = absurd cc
-need_loads f (strands.Loads d) c e = from (held f d) refl e
+need_loads : (f : Footprint) (a : Access) (c : Cell) → need f a ≡ Some (frame_strands.Need c) → (a ≡ frame_strands.Loads c) × (held f c ≡ None)
+need_loads f frame_strands.Nowhere c e = absurd cc
+need_loads f (frame_strands.Stores d) c e = absurd cc
+need_loads f (frame_strands.Adds d) c e = absurd cc
+need_loads f (frame_strands.Loads d) c e = from (held f d) refl e
   where
-    from : (o : Option ℤ) → held f d ≡ o → cond (is_some o) None (Some (strands.Need d)) ≡ Some (strands.Need c) → (strands.Loads d ≡ strands.Loads c) × (held f c ≡ None)
-    from None is h = let same : d ≡ c = cc in (ap strands.Loads same, ap (held f) (sym same) ∙ is)
+    from : (o : Option ℤ) → held f d ≡ o → cond (is_some o) None (Some (frame_strands.Need d)) ≡ Some (frame_strands.Need c) → (frame_strands.Loads d ≡ frame_strands.Loads c) × (held f c ≡ None)
+    from None is h = let same : d ≡ c = cc in (ap frame_strands.Loads same, ap (held f) (sym same) ∙ is)
     from (Some z) is h = absurd cc
 
 held_filled : (f : Footprint) (c : Cell) (v : ℤ) → held f c ≡ None → is_some (held (with_read f c v) c) ≡ true
@@ -72,11 +72,11 @@ held_filled f c v unheld = from (write_at f c) refl unheld
     from (Some (Stored z)) is e = absurd cc
     from (Some (Delta z)) is e = let put = lookup_with_write f.writes c (Stored (cell_sum v z)) c in let itself = same_cell_itself c in rw (put, itself) refl
 
-module _ (prog : Program) (s : strands.Strand) (c : Cell) (paused : pause_of prog s ≡ Some (strands.Need c)) where
-  parts : (is_border (next_of prog s.present) ≡ false) × (nat_le 65536 s.done ≡ false) × (is_full s.footprint (access_of prog s.present) ≡ false) × (need s.footprint (access_of prog s.present) ≡ Some (strands.Need c))
+module _ (prog : Program) (s : frame_strands.FrameStrand) (c : Cell) (paused : pause_of prog s ≡ Some (frame_strands.Need c)) where
+  parts : (is_border (next_of prog s.present) ≡ false) × (nat_le 65536 s.done ≡ false) × (is_full s.footprint (access_of prog s.present) ≡ false) × (need s.footprint (access_of prog s.present) ≡ Some (frame_strands.Need c))
   parts = pause_parts _ _ _ _ c paused
 
-  loads : (access_of prog s.present ≡ strands.Loads c) × (held s.footprint c ≡ None)
+  loads : (access_of prog s.present ≡ frame_strands.Loads c) × (held s.footprint c ≡ None)
   loads = need_loads s.footprint (access_of prog s.present) c parts.3
 
   pub not_held : held s.footprint c ≡ None
@@ -88,13 +88,13 @@ module _ (prog : Program) (s : strands.Strand) (c : Cell) (paused : pause_of pro
       let few : nat_le 256 (length s.footprint.reads) ≡ false = ap (λ (o : Option ℤ). is_none o && nat_le 256 (length s.footprint.reads)) (sym not_held) ∙ free in
       elim (leb_tells 256 (length s.footprint.reads)) [ inl q ↦ absurd (let r = sym q.0 ∙ few in cc) | inr q ↦ q.1 ]
 
-  pub free_after : (v : ℤ) → pause_of prog (strands.filled s c v) ≡ None
+  pub free_after : (v : ℤ) → pause_of prog (frame_strands.filled s c v) ≡ None
   free_after v =
       let there = held_filled s.footprint c v not_held in
       let border = parts.0 in
       let early = parts.1 in
       let roomy : is_full (with_read s.footprint c v) (access_of prog s.present) ≡ false = ap (is_full (with_read s.footprint c v)) loads.0 ∙ not_none (held (with_read s.footprint c v) c) there in
-      let known : need (with_read s.footprint c v) (access_of prog s.present) ≡ None = ap (need (with_read s.footprint c v)) loads.0 ∙ ap (λ (t : Bool). cond t None (Some (strands.Need c))) there in
+      let known : need (with_read s.footprint c v) (access_of prog s.present) ≡ None = ap (need (with_read s.footprint c v)) loads.0 ∙ ap (λ (t : Bool). cond t None (Some (frame_strands.Need c))) there in
       rw (border, early, roomy) known
     where
       not_none : (o : Option ℤ) → is_some o ≡ true → is_none o && nat_le 256 (length (s.footprint.reads ++ (c, v) ∷ [])) ≡ false
@@ -117,13 +117,13 @@ module _ (prog : Program) (places : Places) (x : Course) (at : ℤ) (going : IsG
       subst (λ (k : ℕ). k < 256) (sym (ap (λ xs. length xs) a.shown.footprint.reads ∙ length-map a.strand.footprint.reads _)) (has_place prog a.strand n.cell n.pauses)
 
   module _ (b : Buffers) (value : ℤ)
-      (fills : (l : Layout) (ps : Places) (s : strands.Strand) (c : Cell) → ShowsStrand l ps s x → AreApart l → IsIn l c → at ≡ address l c → ShowsStrand l ps (strands.filled s c value) (record x { cells = b })) where
+      (fills : (l : Layout) (ps : Places) (s : frame_strands.FrameStrand) (c : Cell) → ShowsFrameStrand l ps s x → AreApart l → IsIn l c → at ≡ address l c → ShowsFrameStrand l ps (frame_strands.filled s c value) (record x { cells = b })) where
     abbrev along_filled : (l : Layout) (g : Frame) → GoesAlone prog places l (reverse x.path.items) g x.loaded → IsAlong prog places l (reverse x.path.items) g (record x { cells = b })
     along_filled l g goes =
         let a = going.way.along l g goes in
         let n = needs_cell prog l a.strand at (going.pauses l g goes) in
         record {
-          strand = strands.filled a.strand n.cell value;
+          strand = frame_strands.filled a.strand n.cell value;
           is = is_filled a.strand n.cell value a.is n.pauses;
           path = a.path;
           loaded = a.loaded;
@@ -141,10 +141,10 @@ module _ (prog : Program) (places : Places) (x : Course) (at : ℤ) (going : IsG
       pauses = λ l g goes.
           let a = going.way.along l g goes in
           let n = needs_cell prog l a.strand at (going.pauses l g goes) in
-          stands_free prog l (strands.filled a.strand n.cell value) (free_after prog a.strand n.cell n.pauses value);
+          stands_free prog l (frame_strands.filled a.strand n.cell value) (free_after prog a.strand n.cell n.pauses value);
     }
 
-pub needed_going : (prog : Program) (places : Places) (x : Course) (pause : Option Pause) (at : ℤ) → pause ≡ Some (Need at) → IsStrandKept prog places x pause → IsGoing prog places x (Some (Need at))
+pub needed_going : (prog : Program) (places : Places) (x : Course) (pause : Option Pause) (at : ℤ) → pause ≡ Some (Need at) → IsFrameStrandKept prog places x pause → IsGoing prog places x (Some (Need at))
 needed_going prog places x pause at is kept = subst (IsGoing prog places x) is (kept.going (λ e. let bad = sym is ∙ e in cc))
 
 pub same_need : (at other : ℤ) → Some (Need at) ≡ Some (Need other) → at ≡ other
@@ -152,8 +152,8 @@ same_need at other e = cc
 
 -- and what came of it is kept
 pub filled_at : (prog : Program) (places : Places) (x y : Course) (at value : ℤ) → y ≡ record x { cells = y.cells } →
-    ((l : Layout) (ps : Places) (s : strands.Strand) (c : Cell) → ShowsStrand l ps s x → AreApart l → IsIn l c → at ≡ address l c → ShowsStrand l ps (strands.filled s c value) y) →
+    ((l : Layout) (ps : Places) (s : frame_strands.FrameStrand) (c : Cell) → ShowsFrameStrand l ps s x → AreApart l → IsIn l c → at ≡ address l c → ShowsFrameStrand l ps (frame_strands.filled s c value) y) →
     IsGoing prog places x (Some (Need at)) → IsGoing prog places y None
 filled_at prog places x y at value only fills going =
     subst (λ (z : Course). IsGoing prog places z None) (sym only)
-    (filled_going prog places x at going y.cells value (λ l ps s c shown apart here is. subst (ShowsStrand l ps (strands.filled s c value)) only (fills l ps s c shown apart here is)))
+    (filled_going prog places x at going y.cells value (λ l ps s c shown apart here is. subst (ShowsFrameStrand l ps (frame_strands.filled s c value)) only (fills l ps s c shown apart here is)))

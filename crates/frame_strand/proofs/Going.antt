@@ -7,8 +7,8 @@ use Rattle.semantics.specs.Paths.{Path}
 use Rattle.semantics.specs.Cells.{Memory}
 use Rattle.semantics.specs.Frames.{Frame, item_at}
 use Rattle.program.specs.declared.function.Program.{Program}
-use Rattle.laws_strands.specs.Strands as strands
-use Rattle.laws_strands.specs.Strands.{IsStrand, next_of, pause_of}
+use Rattle.laws_strands.specs.FrameStrands as frame_strands
+use Rattle.laws_strands.specs.FrameStrands.{IsFrameStrand, next_of, pause_of}
 use Rattle.frame_engine.specs.Accesses.{RefusedItem, RefusedOn, Touched, TouchedOn}
 use Rattle.frame_engine.specs.Activation.{FrameFits, LedFrame, SafeStanding, ShowsFrame}
 use Rattle.frame_engine.specs.Border.{IsBorderItem}
@@ -45,7 +45,7 @@ module _ (prog : Program) (places : Places) (x : Course) (differ : AreDifferent 
     abbrev pub along : IsAlong prog places l (here_is x) g x
     along = way.along l g goes
 
-    abbrev pub s : strands.Strand
+    abbrev pub s : frame_strands.FrameStrand
     s = along.strand
 
     abbrev pub m : Memory
@@ -107,7 +107,7 @@ module _ (prog : Program) (places : Places) (x : Course) (differ : AreDifferent 
 
       pub went : WentOn prog l (s l g goes) way_on.count way_on.frame b
       went =
-          advancing.accesses_are_strands prog l (s l g goes) x.cells (m l g goes) (along l g goes).is goes.apart (along l g goes).shown.footprint (reads l g goes) way_on.count b way_on.frame way_on.memory
+          advancing.accesses_are_frame_strands prog l (s l g goes) x.cells (m l g goes) (along l g goes).is goes.apart (along l g goes).shown.footprint (reads l g goes) way_on.count b way_on.frame way_on.memory
           (same_count (did l (s l g goes).path (s l g goes).present (seen l g goes) (along l g goes).shown.present (cells l g goes) (stays l g goes)))
           way_on.steps far
 
@@ -142,7 +142,7 @@ module _ (prog : Program) (places : Places) (x : Course) (differ : AreDifferent 
 
       pub pauses_on : (r : engine.Pause Stop) → IfBorder r (IsBorderItem (item_at prog f.function.0 f.place.block.0 f.place.index)) → IfLimit r (d ≡ limit) → IfStopped r (Refusing d b) → d ≢ limit → PausesAt prog l went.strand (Some (named r))
       pauses_on engine_pause.Border at all refuses other =
-          stands_at prog l went.strand strands.Border Border (pauses_there {S = Stop} prog l places went.strand f engine_pause.Border along_on.shown.present at) refl tt
+          stands_at prog l went.strand frame_strands.Border Border (pauses_there {S = Stop} prog l places went.strand f engine_pause.Border along_on.shown.present at) refl tt
       pauses_on engine_pause.Limit at all refuses other = absurd (other all)
       pauses_on (engine_pause.Stopped q) at all refuses other = stopped_at prog l goes.apart went.strand b went.shown (few other) q (refused_here q refuses)
 

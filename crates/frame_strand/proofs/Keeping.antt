@@ -6,7 +6,7 @@ use Rattle.frame_engine.specs.Activation.{FrameFits, ProgramFits}
 use Rattle.frame_engine.specs.declared.activation.Frame.{Frame}
 use Rattle.frame_engine.specs.declared.activation.Places.{Places}
 use Rattle.frame_engine.proofs.Turns.{there_is}
-use Rattle.frame_strand.specs.Along.{HasRegisters, HasRoom, IsGoing, IsStrandKept}
+use Rattle.frame_strand.specs.Along.{HasRegisters, HasRoom, IsGoing, IsFrameStrandKept}
 use Rattle.frame_strand.specs.declared.standing.Course.{Course}
 use Rattle.frame_strand.specs.declared.standing.Pause.{Pause}
 

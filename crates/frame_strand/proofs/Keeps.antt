@@ -8,7 +8,7 @@ use Rattle.frame_strand.specs.declared.cells.Read.{Read}
 use Rattle.frame_strand.specs.declared.cells.Written.{Written}
 use Rattle.frame_strand.specs.declared.cells.Change.{Change}
 use Rattle.frame_strand.specs.declared.cells.Change.TheVariants.{Stored, Delta}
-use Rattle.frame_strand.specs.declared.cells.StrandCells.TheInside.{Inside}
+use Rattle.frame_strand.specs.declared.cells.FrameStrandCells.TheInside.{Inside}
 use Rattle.frame_strand.proofs.Kept.{int_tells, different_push, keys_set, keys_push, set_changes, push_changes, change_with, change_unlisted, value_unlisted, value_push}
 
 -- the deltas after a change

@@ -9,8 +9,8 @@ use Rattle.program.specs.declared.function.Program.{Program}
 use Rattle.program.specs.declared.instruction.Instruction.{Instruction}
 use Rattle.program.specs.declared.instruction.Instruction.TheVariants as instruction
 use Rattle.laws_strands.specs.Footprint.{Footprint, Write, held, write_at}
-use Rattle.laws_strands.specs.Strands as strands
-use Rattle.laws_strands.specs.Strands.{Strand, Access, IsStrand, is_advanced, is_filled, is_loaded, access_of, is_border, is_full, item_access, loaded, need, next_of, pause_at, pause_of, to_cell}
+use Rattle.laws_strands.specs.FrameStrands as frame_strands
+use Rattle.laws_strands.specs.FrameStrands.{FrameStrand, Access, IsFrameStrand, is_advanced, is_filled, is_loaded, access_of, is_border, is_full, item_access, loaded, need, next_of, pause_at, pause_of, to_cell}
 use Rattle.frame_engine.specs.Access.{Loads}
 use Rattle.frame_engine.specs.Accesses.{RefusedItem}
 use Rattle.frame_engine.specs.Shows.{Layout, IsIn, address}
@@ -28,13 +28,13 @@ use Rattle.frame_strand.proofs.Showing.{change_is, held_is}
 
 -- ---- one pause is shown
 
-pub stands_at : (prog : Program) (l : Layout) (t : Strand) (p : strands.Pause) (q : Pause) → pause_of prog t ≡ Some p → pause_in l p ≡ q → NeedsLiving l (Some p) → PausesAt prog l t (Some q)
+pub stands_at : (prog : Program) (l : Layout) (t : FrameStrand) (p : frame_strands.Pause) (q : Pause) → pause_of prog t ≡ Some p → pause_in l p ≡ q → NeedsLiving l (Some p) → PausesAt prog l t (Some q)
 stands_at prog l t p q is same living = record {
   is = ap (option_map (pause_in l)) is ∙ ap (λ (x : Pause). Some x) same;
   living = subst (NeedsLiving l) (sym is) living;
 }
 
-pub stands_free : (prog : Program) (l : Layout) (t : Strand) → pause_of prog t ≡ None → PausesAt prog l t None
+pub stands_free : (prog : Program) (l : Layout) (t : FrameStrand) → pause_of prog t ≡ None → PausesAt prog l t None
 stands_free prog l t is = record { is = ap (option_map (pause_in l)) is; living = subst (NeedsLiving l) (sym is) tt }
 
 -- ---- at the limit
@@ -42,33 +42,33 @@ stands_free prog l t is = record { is = ap (option_map (pause_in l)) is; living 
 much : (n : ℕ) → n ≡ 65536 → nat_le 65536 n ≡ true
 much n e = elim (leb_tells 65536 n) [ inl q ↦ q.0 | inr q ↦ absurd (let r = q.1 in omega (arith, r, e)) ]
 
-pub limit_border : (prog : Program) (l : Layout) (t : Strand) → is_border (next_of prog t.present) ≡ true → PausesAt prog l t (Some Border)
-limit_border prog l t border = stands_at prog l t strands.Border Border (rw border refl) refl tt
+pub limit_border : (prog : Program) (l : Layout) (t : FrameStrand) → is_border (next_of prog t.present) ≡ true → PausesAt prog l t (Some Border)
+limit_border prog l t border = stands_at prog l t frame_strands.Border Border (rw border refl) refl tt
 
-pub limit_limit : (prog : Program) (l : Layout) (t : Strand) → is_border (next_of prog t.present) ≡ false → t.done ≡ 65536 → PausesAt prog l t (Some Limit)
-limit_limit prog l t border all = stands_at prog l t strands.Limit Limit (let far = much t.done all in rw (border, far) refl) refl tt
+pub limit_limit : (prog : Program) (l : Layout) (t : FrameStrand) → is_border (next_of prog t.present) ≡ false → t.done ≡ 65536 → PausesAt prog l t (Some Limit)
+limit_limit prog l t border all = stands_at prog l t frame_strands.Limit Limit (let far = much t.done all in rw (border, far) refl) refl tt
 
 -- ---- at an access
 
-module _ (prog : Program) (l : Layout) (apart : AreApart l) (t : Strand) (b : Buffers) (s : ShowsFootprint l t.footprint b) (few : t.done < 65536) where
+module _ (prog : Program) (l : Layout) (apart : AreApart l) (t : FrameStrand) (b : Buffers) (s : ShowsFootprint l t.footprint b) (few : t.done < 65536) where
   no_limit : nat_le 65536 t.done ≡ false
   no_limit = less t.done few
 
-  full_pause : (o : Option Item) (a : Access) → is_border o ≡ false → item_access t.present o ≡ a → is_full t.footprint a ≡ true → pause_at t.footprint t.done o (item_access t.present o) ≡ Some strands.Full
+  full_pause : (o : Option Item) (a : Access) → is_border o ≡ false → item_access t.present o ≡ a → is_full t.footprint a ≡ true → pause_at t.footprint t.done o (item_access t.present o) ≡ Some frame_strands.Full
   full_pause o a border at full = let early = no_limit in let here = ap (is_full t.footprint) at ∙ full in rw (border, early, here) refl
 
-  need_pause : (o : Option Item) (c : Cell) → is_border o ≡ false → item_access t.present o ≡ strands.Loads c → held t.footprint c ≡ None → nat_le 256 (length t.footprint.reads) ≡ false →
-      pause_at t.footprint t.done o (item_access t.present o) ≡ Some (strands.Need c)
+  need_pause : (o : Option Item) (c : Cell) → is_border o ≡ false → item_access t.present o ≡ frame_strands.Loads c → held t.footprint c ≡ None → nat_le 256 (length t.footprint.reads) ≡ false →
+      pause_at t.footprint t.done o (item_access t.present o) ≡ Some (frame_strands.Need c)
   need_pause o c border at unheld few =
       let early = no_limit in
       let free : is_full t.footprint (item_access t.present o) ≡ false = ap (is_full t.footprint) at ∙ (rw (unheld, few) refl) in
-      let asked : need t.footprint (item_access t.present o) ≡ Some (strands.Need c) = ap (need t.footprint) at ∙ (rw unheld refl) in
+      let asked : need t.footprint (item_access t.present o) ≡ Some (frame_strands.Need c) = ap (need t.footprint) at ∙ (rw unheld refl) in
       rw (border, early, free) asked
 
   abbrev StopsAt : Option Item → Stop → Type 0
-  StopsAt o q = (p : strands.Pause) × (pause_at t.footprint t.done o (item_access t.present o) ≡ Some p) × (pause_in l p ≡ named (engine_pause.Stopped q)) × NeedsLiving l (Some p)
+  StopsAt o q = (p : frame_strands.Pause) × (pause_at t.footprint t.done o (item_access t.present o) ≡ Some p) × (pause_in l p ≡ named (engine_pause.Stopped q)) × NeedsLiving l (Some p)
 
-  read_stop : (o : Option Item) (c : Cell) (q : Stop) → is_border o ≡ false → IsIn l c → item_access t.present o ≡ strands.Loads c → BuffersRefuse b (Loads (address l c)) q → StopsAt o q
+  read_stop : (o : Option Item) (c : Cell) (q : Stop) → is_border o ≡ false → IsIn l c → item_access t.present o ≡ frame_strands.Loads c → BuffersRefuse b (Loads (address l c)) q → StopsAt o q
   read_stop o c q border here at (unheld, is) = from (nat_le 256 (length b.reads)) refl is
     where
       unknown : held t.footprint c ≡ None
@@ -78,8 +78,8 @@ module _ (prog : Program) (l : Layout) (apart : AreApart l) (t : Strand) (b : Bu
       as_many = sym (ap (λ xs. length xs) s.reads ∙ length-map t.footprint.reads _)
 
       from : (full : Bool) → nat_le 256 (length b.reads) ≡ full → q ≡ cond full stop.Full (stop.Need (address l c)) → StopsAt o q
-      from true many e = (strands.Full, full_pause o (strands.Loads c) border at (let same = as_many in rw (unknown, same, many) refl), ap (λ x. named (engine_pause.Stopped x)) (sym e), tt)
-      from false many e = (strands.Need c, need_pause o c border at unknown (ap (nat_le 256) as_many ∙ many), ap (λ x. named (engine_pause.Stopped x)) (sym e), here)
+      from true many e = (frame_strands.Full, full_pause o (frame_strands.Loads c) border at (let same = as_many in rw (unknown, same, many) refl), ap (λ x. named (engine_pause.Stopped x)) (sym e), tt)
+      from false many e = (frame_strands.Need c, need_pause o c border at unknown (ap (nat_le 256) as_many ∙ many), ap (λ x. named (engine_pause.Stopped x)) (sym e), here)
 
   unmapped : (o : Option Write) → option_map change_of o ≡ None → o ≡ None
   unmapped None e = refl
@@ -93,14 +93,14 @@ module _ (prog : Program) (l : Layout) (apart : AreApart l) (t : Strand) (b : Bu
       rw (new, many) refl
 
   write_stop : (o : Option Item) (a : Access) (c : Cell) (q : Stop) → is_border o ≡ false → IsIn l c → item_access t.present o ≡ a → is_full t.footprint a ≡ is_none (write_at t.footprint c) && nat_le 256 (length t.footprint.writes) → LacksPlace b (address l c) q → StopsAt o q
-  write_stop o a c q border here at kind lacks = (strands.Full, full_pause o a border at (kind ∙ write_full c q here lacks), ap (λ x. named (engine_pause.Stopped x)) (sym lacks.is), tt)
+  write_stop o a c q border here at kind lacks = (frame_strands.Full, full_pause o a border at (kind ∙ write_full c q here lacks), ap (λ x. named (engine_pause.Stopped x)) (sym lacks.is), tt)
 
   refused_stop : (o : Option Item) (q : Stop) → RefusedItem BuffersRefuse l t.present b q o → StopsAt o q
   refused_stop None q h = absurd h
   refused_stop (Some (Ends e)) q h = absurd h
-  refused_stop (Some (Does (instruction.Load r a))) q (c, here, is, refuses) = read_stop (Some (Does (instruction.Load r a))) c q refl here (ap (to_cell strands.Loads) is) refuses
-  refused_stop (Some (Does (instruction.Store v a))) q (c, z, here, is, word, refuses) = write_stop (Some (Does (instruction.Store v a))) (strands.Stores c) c q refl here (ap (to_cell strands.Stores) is) refl refuses
-  refused_stop (Some (Does (instruction.AtomicAdd a v))) q (c, z, here, is, word, refuses) = write_stop (Some (Does (instruction.AtomicAdd a v))) (strands.Adds c) c q refl here (ap (to_cell strands.Adds) is) refl refuses
+  refused_stop (Some (Does (instruction.Load r a))) q (c, here, is, refuses) = read_stop (Some (Does (instruction.Load r a))) c q refl here (ap (to_cell frame_strands.Loads) is) refuses
+  refused_stop (Some (Does (instruction.Store v a))) q (c, z, here, is, word, refuses) = write_stop (Some (Does (instruction.Store v a))) (frame_strands.Stores c) c q refl here (ap (to_cell frame_strands.Stores) is) refl refuses
+  refused_stop (Some (Does (instruction.AtomicAdd a v))) q (c, z, here, is, word, refuses) = write_stop (Some (Does (instruction.AtomicAdd a v))) (frame_strands.Adds c) c q refl here (ap (to_cell frame_strands.Adds) is) refl refuses
   refused_stop (Some (Does (instruction.StoreZeros cells name))) q h = absurd h
   refused_stop (Some (Does (instruction.Call r callee arguments))) q h = absurd h
   refused_stop (Some (Does (instruction.Binary r op w x y))) q h = absurd h
@@ -121,19 +121,19 @@ no_push : {X : Type 0} (xs : List X) (x : X) → xs ++ x ∷ [] ≡ [] → ⊥
 no_push [] x e = cc
 no_push (y ∷ ys) x e = cc
 
-unstarted : (prog : Program) (t : Strand) → IsStrand prog t → t.footprint.reads ≡ [] → t.done ≡ 0 → t ≡ loaded t.path t.loaded
+unstarted : (prog : Program) (t : FrameStrand) → IsFrameStrand prog t → t.footprint.reads ≡ [] → t.done ≡ 0 → t ≡ loaded t.path t.loaded
 unstarted prog _ (is_loaded p f) none zero = refl
 unstarted prog _ (is_filled s c v is paused) none zero = absurd (no_push s.footprint.reads (c, v) none)
 unstarted prog _ (is_advanced s e is free act fine) none zero = absurd (omega (arith, zero))
 
 -- where one instruction was done with no cell read, the strand could go on from its start
-pub first_free : (prog : Program) (t : Strand) → IsStrand prog t → t.footprint.reads ≡ [] → t.done ≡ 1 → pause_of prog (loaded t.path t.loaded) ≡ None
+pub first_free : (prog : Program) (t : FrameStrand) → IsFrameStrand prog t → t.footprint.reads ≡ [] → t.done ≡ 1 → pause_of prog (loaded t.path t.loaded) ≡ None
 first_free prog _ (is_loaded p f) none one = absurd (omega (arith, one))
 first_free prog _ (is_filled s c v is paused) none one = absurd (no_push s.footprint.reads (c, v) none)
 first_free prog _ (is_advanced s e is free act fine) none one = ap (pause_of prog) (sym (unstarted prog s is none (omega (arith, one)))) ∙ free
 
 -- ---- a cell was filled
 
-held_none : (o : Option ℤ) (p : strands.Pause) → cond (is_some o) None (Some p) ≡ Some p → o ≡ None
+held_none : (o : Option ℤ) (p : frame_strands.Pause) → cond (is_some o) None (Some p) ≡ Some p → o ≡ None
 held_none None p e = refl
 held_none (Some z) p e = absurd cc

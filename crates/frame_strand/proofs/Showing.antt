@@ -11,7 +11,7 @@ use Rattle.std.proofs.lemmas.List.Elements.{All-cons, All-head, All-tail, All-pu
 use Rattle.semantics.specs.Cells.{Cell, same_cell}
 use Rattle.semantics.specs.Arithmetic.{cell_sum}
 use Rattle.semantics.proofs.Actions.{same_cell_itself}
-use Rattle.laws_strands.specs.Footprint as strands
+use Rattle.laws_strands.specs.Footprint as frame_strands
 use Rattle.laws_strands.specs.Footprint.{Footprint, Write, held, known, raised, read_at, settled, with_read, with_write, write_at}
 use Rattle.semantics.proofs.SameCells.{same_cell_tells}
 use Rattle.frame_engine.specs.Shows.{Layout, IsIn, address}
@@ -89,8 +89,8 @@ module _ (l : Layout) (apart : AreApart l) (c : Cell) (here : IsIn l c) where
 
     known_is : (u : Option Write) (r : Option ℤ) → known_value (option_map change_of u) r ≡ known u r
     known_is None r = refl
-    known_is (Some (strands.Stored z)) r = refl
-    known_is (Some (strands.Delta z)) r = refl
+    known_is (Some (frame_strands.Stored z)) r = refl
+    known_is (Some (frame_strands.Delta z)) r = refl
 
     pub held_is : held_in b (address l c) ≡ held f c
     held_is = (λ i. known_value (change_is i) (value_is i)) ∙ known_is (write_at f c) (read_at f c)
@@ -98,8 +98,8 @@ module _ (l : Layout) (apart : AreApart l) (c : Cell) (here : IsIn l c) where
     raised_is : (z : ℤ) (u : Option Write) (r : Option ℤ) → raised_change z (option_map change_of u) r ≡ change_of (raised z u r)
     raised_is z None None = refl
     raised_is z None (Some y) = refl
-    raised_is z (Some (strands.Stored y)) r = refl
-    raised_is z (Some (strands.Delta y)) r = refl
+    raised_is z (Some (frame_strands.Stored y)) r = refl
+    raised_is z (Some (frame_strands.Delta y)) r = refl
 
     shown_put : (after : Buffers) (u : Write) → IsPut b (address l c) (change_of u) after → ShowsFootprint l (record f { writes = with_write f.writes c u }) after
     shown_put after u p = record {
@@ -110,20 +110,20 @@ module _ (l : Layout) (apart : AreApart l) (c : Cell) (here : IsIn l c) where
     }
 
     pub shown_store : (after : Buffers) (z : ℤ) → IsPut b (address l c) (Stored z) after → ShowsFootprint l (with_store z f c) after
-    shown_store after z p = shown_put after (strands.Stored z) p
+    shown_store after z p = shown_put after (frame_strands.Stored z) p
 
     pub shown_add : (after : Buffers) (z : ℤ) → IsPut b (address l c) (raised_change z (change_in b.writes (address l c)) (value_in b.reads (address l c))) after → ShowsFootprint l (with_add z f c) after
     shown_add after z p = shown_put after (raised z (write_at f c) (read_at f c)) (subst (λ u. IsPut b (address l c) u after) ((λ i. raised_change z (change_is i) (value_is i)) ∙ raised_is z (write_at f c) (read_at f c)) p)
 
     settled_is : (v : ℤ) (o : Option Write) → settled_changes b.writes (address l c) v (option_map change_of o) ≡ map (written_of l) (settled f.writes c v o)
     settled_is v None = s.writes
-    settled_is v (Some (strands.Stored z)) = s.writes
-    settled_is v (Some (strands.Delta z)) = ap (λ x. with_change x (address l c) (Stored (cell_sum v z))) s.writes ∙ with_shown (strands.Stored (cell_sum v z)) f.writes s.writes_in
+    settled_is v (Some (frame_strands.Stored z)) = s.writes
+    settled_is v (Some (frame_strands.Delta z)) = ap (λ x. with_change x (address l c) (Stored (cell_sum v z))) s.writes ∙ with_shown (frame_strands.Stored (cell_sum v z)) f.writes s.writes_in
 
     settled_in : (v : ℤ) (o : Option Write) → All (λ (w : Cell × Write). IsIn l w.0) (settled f.writes c v o)
     settled_in v None = s.writes_in
-    settled_in v (Some (strands.Stored z)) = s.writes_in
-    settled_in v (Some (strands.Delta z)) = with_in (strands.Stored (cell_sum v z)) f.writes s.writes_in
+    settled_in v (Some (frame_strands.Stored z)) = s.writes_in
+    settled_in v (Some (frame_strands.Delta z)) = with_in (frame_strands.Stored (cell_sum v z)) f.writes s.writes_in
 
     pub shown_fill : (after : Buffers) (v : ℤ) → after.reads ≡ b.reads ++ record { at = address l c; value = v } ∷ [] → after.writes ≡ settled_changes b.writes (address l c) v (change_in b.writes (address l c)) → ShowsFootprint l (with_read f c v) after
     shown_fill after v rs ws = record {

@@ -3,8 +3,8 @@ use Rattle.std.specs.Prelude.{◌≡◌, ◌≢◌, ⊤, ℕ, ◌≤◌, List, l
 use Rattle.std.specs.Option.{option_map}
 use Rattle.semantics.specs.Paths.{Path}
 use Rattle.semantics.specs.Frames.{Frame}
-use Rattle.laws_strands.specs.Strands as strands
-use Rattle.laws_strands.specs.Strands.{IsStrand, pause_of}
+use Rattle.laws_strands.specs.FrameStrands as frame_strands
+use Rattle.laws_strands.specs.FrameStrands.{IsFrameStrand, pause_of}
 use Rattle.program.specs.declared.function.Function.{Function}
 use Rattle.program.specs.declared.function.Program.{Program}
 use Rattle.frame_engine.specs.Activation.{FrameFits, ProgramFits}
@@ -12,7 +12,7 @@ use Rattle.frame_engine.specs.Shows.{Layout, IsIn, address}
 use Rattle.frame_engine.specs.declared.activation.Frame as machine
 use Rattle.frame_engine.specs.declared.activation.Places.{Places}
 use Rattle.frame_strand.specs.Alone.{GoesAlone}
-use Rattle.frame_strand.specs.Standing.{ShowsStrand}
+use Rattle.frame_strand.specs.Standing.{ShowsFrameStrand}
 use Rattle.frame_strand.specs.declared.standing.Course.{Course}
 use Rattle.frame_strand.specs.declared.standing.Pause.{Pause}
 use Rattle.frame_strand.specs.declared.standing.Pause.TheVariants.{Blank, Border, Limit, Full, Need}
@@ -22,34 +22,34 @@ abbrev pub HasRegisters : Program → ℕ → Type 0
 HasRegisters prog n = (k : ℕ) (f : Function) → slice_get prog.functions k ≡ Some f → length f.registers ≤ n
 
 -- the pause, its cell by address
-abbrev pub pause_in : Layout → strands.Pause → Pause
-pause_in l strands.Blank = Blank
-pause_in l strands.Border = Border
-pause_in l strands.Limit = Limit
-pause_in l strands.Full = Full
-pause_in l (strands.Need c) = Need (address l c)
+abbrev pub pause_in : Layout → frame_strands.Pause → Pause
+pause_in l frame_strands.Blank = Blank
+pause_in l frame_strands.Border = Border
+pause_in l frame_strands.Limit = Limit
+pause_in l frame_strands.Full = Full
+pause_in l (frame_strands.Need c) = Need (address l c)
 
 -- the cell that is waited for is one of a living object
-abbrev pub NeedsLiving : Layout → Option strands.Pause → Type 0
+abbrev pub NeedsLiving : Layout → Option frame_strands.Pause → Type 0
 NeedsLiving l None = ⊤
-NeedsLiving l (Some strands.Blank) = ⊤
-NeedsLiving l (Some strands.Border) = ⊤
-NeedsLiving l (Some strands.Limit) = ⊤
-NeedsLiving l (Some strands.Full) = ⊤
-NeedsLiving l (Some (strands.Need c)) = IsIn l c
+NeedsLiving l (Some frame_strands.Blank) = ⊤
+NeedsLiving l (Some frame_strands.Border) = ⊤
+NeedsLiving l (Some frame_strands.Limit) = ⊤
+NeedsLiving l (Some frame_strands.Full) = ⊤
+NeedsLiving l (Some (frame_strands.Need c)) = IsIn l c
 
 -- the strand stands at this pause; None where it can go on
-pub record PausesAt (prog : Program) (l : Layout) (s : strands.Strand) (pause : Option Pause) : Type 0 where
+pub record PausesAt (prog : Program) (l : Layout) (s : frame_strands.FrameStrand) (pause : Option Pause) : Type 0 where
   pub is : option_map (pause_in l) (pause_of prog s) ≡ pause
   pub living : NeedsLiving l (pause_of prog s)
 
 -- a strand of the frame g, loaded at p, is shown
 pub record IsAlong (prog : Program) (places : Places) (l : Layout) (p : Path) (g : Frame) (x : Course) : Type 0 where
-  pub strand : strands.Strand
-  pub is : IsStrand prog strand
+  pub strand : frame_strands.FrameStrand
+  pub is : IsFrameStrand prog strand
   pub path : strand.path ≡ p
   pub loaded : strand.loaded ≡ g
-  pub shown : ShowsStrand l places strand x
+  pub shown : ShowsFrameStrand l places strand x
 
 -- some frame of the definitions that the loaded one shows may go on alone
 pub record MayGo (prog : Program) (places : Places) (x : Course) : Type 0 where
@@ -83,6 +83,6 @@ pub record HasRoom (prog : Program) (places : Places) (x : Course) : Type 0 wher
   pub loaded : HasRegisters prog (vec_capacity x.loaded.registers)
   pub present : HasRegisters prog (vec_capacity x.present.registers)
 
-pub record IsStrandKept (prog : Program) (places : Places) (x : Course) (pause : Option Pause) : Type 0 where
+pub record IsFrameStrandKept (prog : Program) (places : Places) (x : Course) (pause : Option Pause) : Type 0 where
   pub room : HasRoom prog places x
   pub going : pause ≢ Some Blank → IsGoing prog places x pause

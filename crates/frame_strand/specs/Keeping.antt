@@ -4,7 +4,7 @@ use Rattle.frame_strand.specs.Buffers.{Buffers, change_in, value_in}
 use Rattle.frame_strand.specs.declared.cells.Change.TheVariants.{Delta}
 use Rattle.frame_strand.specs.declared.cells.Read.{Read}
 use Rattle.frame_strand.specs.declared.cells.Written.{Written}
-use Rattle.frame_strand.specs.declared.cells.StrandCells.TheInside.{Inside}
+use Rattle.frame_strand.specs.declared.cells.FrameStrandCells.TheInside.{Inside}
 
 abbrev pub shown : Inside → Buffers
 shown x = record { reads = x.reads.items; writes = x.writes.items }

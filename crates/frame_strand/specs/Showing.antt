@@ -2,7 +2,7 @@
 use Rattle.std.specs.Prelude.{◌≡◌, map, ℤ}
 use Rattle.std.specs.List.{All}
 use Rattle.semantics.specs.Cells.{Cell}
-use Rattle.laws_strands.specs.Footprint as strands
+use Rattle.laws_strands.specs.Footprint as frame_strands
 use Rattle.laws_strands.specs.Footprint.{Footprint, with_write, raised, write_at, read_at}
 use Rattle.frame_engine.specs.Shows.{Layout, IsIn, address}
 use Rattle.frame_strand.specs.Buffers.{Buffers}
@@ -11,14 +11,14 @@ use Rattle.frame_strand.specs.declared.cells.Written.{Written}
 use Rattle.frame_strand.specs.declared.cells.Change.{Change}
 use Rattle.frame_strand.specs.declared.cells.Change.TheVariants.{Stored, Delta}
 
-abbrev pub change_of : strands.Write → Change
-change_of (strands.Stored z) = Stored z
-change_of (strands.Delta z) = Delta z
+abbrev pub change_of : frame_strands.Write → Change
+change_of (frame_strands.Stored z) = Stored z
+change_of (frame_strands.Delta z) = Delta z
 
 abbrev pub read_of : Layout → Cell × ℤ → Read
 read_of l r = record { at = address l r.0; value = r.1 }
 
-abbrev pub written_of : Layout → Cell × strands.Write → Written
+abbrev pub written_of : Layout → Cell × frame_strands.Write → Written
 written_of l w = record { at = address l w.0; change = change_of w.1 }
 
 -- cells of living objects have addresses of their own
@@ -39,7 +39,7 @@ Becomes change b a after =
 
 -- a store of the definitions, and an addition
 abbrev pub with_store : ℤ → Footprint → Cell → Footprint
-with_store z f c = record f { writes = with_write f.writes c (strands.Stored z) }
+with_store z f c = record f { writes = with_write f.writes c (frame_strands.Stored z) }
 
 abbrev pub with_add : ℤ → Footprint → Cell → Footprint
 with_add z f c = record f { writes = with_write f.writes c (raised z (write_at f c) (read_at f c)) }

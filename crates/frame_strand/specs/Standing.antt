@@ -1,6 +1,6 @@
 -- A strand of the machine, as one of the definitions.
 use Rattle.std.specs.Prelude.{◌≡◌, reverse}
-use Rattle.laws_strands.specs.Strands as strands
+use Rattle.laws_strands.specs.FrameStrands as frame_strands
 use Rattle.frame_engine.specs.Activation.{ShowsFrame}
 use Rattle.frame_engine.specs.Shows.{Layout}
 use Rattle.frame_engine.specs.declared.activation.Frame.{Frame}
@@ -20,7 +20,7 @@ pub record IsCopy (f g : Frame) : Type 0 where
   pub depth : g.depth ≡ f.depth
 
 -- the path with the root's number first, both frames in words, and the cells by address
-pub record ShowsStrand (l : Layout) (places : Places) (s : strands.Strand) (x : Course) : Type 0 where
+pub record ShowsFrameStrand (l : Layout) (places : Places) (s : frame_strands.FrameStrand) (x : Course) : Type 0 where
   pub path : s.path ≡ reverse x.path.items
   pub loaded : ShowsFrame l places s.path s.loaded x.loaded
   pub present : ShowsFrame l places s.path s.present x.present

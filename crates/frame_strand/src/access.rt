@@ -1,9 +1,9 @@
 ghost use Rattle.frame_strand.specs.Buffers.{BuffersDo, BuffersRefuse, any_address, may_hold};
 
-use crate::cells::{Change, Stop, StrandCells};
+use crate::cells::{Change, FrameStrandCells, Stop};
 use frame_engine::Cells;
 
-impl Cells for StrandCells {
+impl Cells for FrameStrandCells {
     type Stop = Stop;
 
     ghost reaches = { any_address };

@@ -45,14 +45,14 @@ pub enum Stop {
 
 /// The cells that a strand read and wrote, at most 256 of each.
 #[derive(Drop)]
-pub struct StrandCells {
+pub struct FrameStrandCells {
     read_places: Index,
     reads: Vec<Read>,
     write_places: Index,
     writes: Vec<Written>,
 }
 
-impl Model for StrandCells {
+impl Model for FrameStrandCells {
     ghost use Rattle.frame_strand.specs.Buffers.{Buffers};
 
     ghost Value = { Buffers };
@@ -78,16 +78,16 @@ fn read_at(reads: &[Read], place: usize) -> Read
     reads[place]
 }
 
-impl StrandCells {
+impl FrameStrandCells {
     /// No cells, and room for 256 of each kind.
-    pub fn new(alloc: Global) -> Result<StrandCells, OutOfMemory>
+    pub fn new(alloc: Global) -> Result<FrameStrandCells, OutOfMemory>
         ensures { IfOk result (λ made. made ≡ record { reads = []; writes = [] }) }
     {
         let read_places = Index::new(alloc)?;
         let reads = Vec::with_capacity(alloc, PLACES)?;
         let write_places = Index::new(alloc)?;
         let writes = Vec::with_capacity(alloc, PLACES)?;
-        Ok(StrandCells {
+        Ok(FrameStrandCells {
             read_places,
             reads,
             write_places,

@@ -1,7 +1,7 @@
 //! What a worker does outside of the machine, on a copy of a frame: plain instructions over the cells that it has read and written itself.
 //!
-//! - `Strand`: a copy of a frame, with its path, what it has done and its cells.
-//! - `StrandCells`: the cells that a strand read, with what they held, and those that it wrote. No call but `new` takes memory.
+//! - `FrameStrand`: a copy of a frame, with its path, what it has done and its cells.
+//! - `FrameStrandCells`: the cells that a strand read, with what they held, and those that it wrote. No call but `new` takes memory.
 #![tactic(auto)]
 
 mod access;
@@ -11,7 +11,7 @@ mod law;
 mod outside;
 mod standing;
 
-pub use cells::{Change, Read, Stop, StrandCells, Written};
-pub use law::accesses_are_strands;
-pub use outside::Strand;
+pub use cells::{Change, FrameStrandCells, Read, Stop, Written};
+pub use law::accesses_are_frame_strands;
+pub use outside::FrameStrand;
 pub use standing::{Course, MOST, Pause, copy_frame};

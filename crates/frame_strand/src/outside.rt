@@ -1,6 +1,6 @@
 ghost use Rattle.std.specs.Prelude.{◌≡◌, ◌≢◌, ◌≤◌, [], map, ◌++◌, ◌∷◌, ℕ, ℤ, IfOk, None, Some, length, vec_capacity};
 ghost use Rattle.frame_engine.specs.Activation.{FrameFits, ProgramFits};
-ghost use Rattle.frame_strand.specs.Along.{HasRegisters, IsGoing, IsStrandKept, MayBegin};
+ghost use Rattle.frame_strand.specs.Along.{HasRegisters, IsGoing, IsFrameStrandKept, MayBegin};
 ghost use Rattle.frame_strand.specs.Keeping.{AreDifferent};
 ghost use Rattle.frame_strand.specs.Standing.{IsCopy};
 
@@ -12,19 +12,19 @@ use program::Program;
 use std::alloc::Global;
 
 /// What a worker does outside of the machine with a copy of a frame, up to a pause.
-pub struct Strand<'p> {
+pub struct FrameStrand<'p> {
     pub(crate) program: &'p Program,
     pub(crate) places: &'p Places,
     pub(crate) course: Course,
     /// Where it stands; None where it can go on.
     pub(crate) pause: Option<Pause>,
-    pub ghost kept: { ∥ IsStrandKept program.now places.now course pause ∥₁ },
+    pub ghost kept: { ∥ IsFrameStrandKept program.now places.now course pause ∥₁ },
 }
 
 /// Written out, so that no crate above proves it anew.
-impl Drop for Strand<'_> {
+impl Drop for FrameStrand<'_> {
     fn drop(self) {
-        let Strand {
+        let FrameStrand {
             program: _,
             places: _,
             course: _,
@@ -44,7 +44,7 @@ fn most_registers(program: &Program) -> usize
     most
 }
 
-impl<'p> Strand<'p> {
+impl<'p> FrameStrand<'p> {
     /// A blank strand, with room for any frame of the program at a path of so many numbers, and for 256 cells read and 256 written.
     ///
     /// # Errors
@@ -55,7 +55,7 @@ impl<'p> Strand<'p> {
         program: &'p Program,
         places: &'p Places,
         depth: usize,
-    ) -> Result<Strand<'p>, OutOfMemory>
+    ) -> Result<FrameStrand<'p>, OutOfMemory>
         requires { (moves : ℕ) → HasRegisters program.now moves → ProgramFits program.now places.now moves }
         ensures program { IfOk result (λ s. s.program.now ≡ program.now) }
         ensures places { IfOk result (λ s. s.places.now ≡ places.now) }
@@ -64,7 +64,7 @@ impl<'p> Strand<'p> {
     {
         let registers = most_registers(program);
         let course = Course::new(alloc, registers, depth, registers)?;
-        Ok(Strand {
+        Ok(FrameStrand {
             program,
             places,
             course,

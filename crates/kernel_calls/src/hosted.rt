@@ -1,4 +1,4 @@
-//! A run whose host brings the threads and the lock: a board at rest, and workers with stacks of their own. No call here waits.
+//! A run whose host brings the threads and the lock: a board at rest, and workers with their strands. No call here waits.
 //!
 //! `HostedRun::meet` needs the board and a worker, so a host calls it under its lock; `HostedWorker::turn` needs the worker alone. Whatever calls are made,
 //! in whatever order, an answer of `HostedRun::finish` is that of the serial meaning.

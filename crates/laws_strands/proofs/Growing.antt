@@ -11,7 +11,7 @@ use Rattle.semantics.specs.Effect.{Effect}
 use Rattle.semantics.specs.State.{override, sum_in, added}
 use Rattle.semantics.proofs.Actions.{same_cell_itself}
 use Rattle.laws_strands.specs.Footprint.{Write, Stored, Delta, Footprint, read_at, write_at, known, held, raised, settled, with_read, put}
-use Rattle.laws_strands.specs.Strands.{Access, Nowhere, Loads, Stores, Adds, footprint_after}
+use Rattle.laws_strands.specs.FrameStrands.{Access, Nowhere, Loads, Stores, Adds, footprint_after}
 use Rattle.semantics.proofs.SameCells.{same_cell_is, same_cell_tells, same_cell_back}
 use Rattle.laws_strands.proofs.Footprints.{lookup_with_write}
 use Rattle.laws_strands.proofs.Items.{Touches}

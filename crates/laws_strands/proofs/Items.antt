@@ -6,7 +6,7 @@ use Rattle.semantics.specs.Cells.{Object, Cell, Memory, same_cell}
 use Rattle.semantics.specs.Arithmetic.{Trap, Undefined, BadIndex, Answer, Gives, Traps, binary}
 use Rattle.semantics.specs.Frames.{Pointer, Frame, Item, Does, Ends, word_at, cell_at, object_at, truth_of, cells_of}
 use Rattle.semantics.specs.Effect.{Effect, Action, Plain, Detach, Reattach, Sync, Call, Return, stops, given, loads, stores, adds_to, sets, answers, points, jumps, registers_along, instruction_action, terminator_action, item_action}
-use Rattle.laws_strands.specs.Strands.{Access, Nowhere, Loads, Stores, Adds, to_cell, item_access, is_border}
+use Rattle.laws_strands.specs.FrameStrands.{Access, Nowhere, Loads, Stores, Adds, to_cell, item_access, is_border}
 use Rattle.semantics.specs.linear.declared.form.RegisterId.{RegisterId}
 use Rattle.semantics.specs.program.declared.function.Program.{Program}
 use Rattle.semantics.specs.program.declared.instruction.Instruction.{Instruction}

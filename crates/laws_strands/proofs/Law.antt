@@ -13,8 +13,8 @@ use Rattle.semantics.proofs.Actions.{reads_of, adds_of, action_kept, same_cell_i
 use Rattle.semantics.proofs.Places.{only_here, same_path_is}
 use Rattle.semantics.proofs.Steps.{plain, change_is}
 use Rattle.laws_strands.specs.Footprint.{Write, Stored, Delta, Footprint, read_at, write_at, held, memory_of, with_write, stored, raised, added_to, settled, with_read, put}
-use Rattle.laws_strands.specs.Strands.{Strand, Access, Nowhere, Loads, Stores, Adds, is_border, next_of, access_of, most_done, Pause, Border, Limit, Full, Need, is_full, need, pause_at, pause_of, loaded, filled, footprint_after, advanced, next_action, IsStrand, is_loaded, is_filled, is_advanced}
-use Rattle.laws_strands.specs.Law.{steps_by, Happen, Fits, absorbed, IsSteps, StrandsAreSteps, ReadsAgree, ReadsAreThere, HasValues, StrandsAreStepsWhereDefined, StrandsGoOverBorders}
+use Rattle.laws_strands.specs.FrameStrands.{FrameStrand, Access, Nowhere, Loads, Stores, Adds, is_border, next_of, access_of, most_done, Pause, Border, Limit, Full, Need, is_full, need, pause_at, pause_of, loaded, filled, footprint_after, advanced, next_action, IsFrameStrand, is_loaded, is_filled, is_advanced}
+use Rattle.laws_strands.specs.Law.{steps_by, Happen, Fits, absorbed, IsSteps, FrameStrandsAreSteps, ReadsAgree, FrameReadsAreThere, HasValues, FrameStrandsAreStepsWhereDefined, FrameStrandsGoOverBorders}
 use Rattle.semantics.specs.Replay.{NeverTraps}
 use Rattle.semantics.proofs.SameCells.{same_cell_is}
 use Rattle.laws_strands.proofs.Footprints.{lookup_with_write}
@@ -69,7 +69,7 @@ loads_needed f (Loads d) c e = from (held f d) refl e
 
 -- ---- one instruction more
 
-module _ (prog : Program) (workers : ℕ) (m : Machine) (w : ℕ) (s : Strand) (fits : Fits m w s) (sound : m.trapped ≡ None) where
+module _ (prog : Program) (workers : ℕ) (m : Machine) (w : ℕ) (s : FrameStrand) (fits : Fits m w s) (sound : m.trapped ≡ None) where
   abbrev now : Machine
   now = absorbed m s
 
@@ -219,12 +219,12 @@ starts m w p f fits = λ i. record { core = record { frames = λ x. same x i; me
     zeroth n = omega arith
 
 -- what a fill asks of the machine
-unfilled : (m : Machine) (w : ℕ) (s : Strand) (c : Cell) (v : ℤ) → Fits m w (filled s c v) → Fits m w s × (m.core.memory c ≡ Some v)
+unfilled : (m : Machine) (w : ℕ) (s : FrameStrand) (c : Cell) (v : ℤ) → Fits m w (filled s c v) → Fits m w s × (m.core.memory c ≡ Some v)
 unfilled m w s c v fits =
     let (all, here) = All-pop (λ r. m.core.memory r.0 ≡ Some r.1) (s.footprint.reads ++ (c, v) ∷ []) s.footprint.reads (Some (c, v)) refl fits.reads in
     (record { hand = fits.hand; frame = fits.frame; reads = all }, here)
 
-absorbs_fill : (m : Machine) (s : Strand) (c : Cell) (v : ℤ) → m.core.memory c ≡ Some v → absorbed m (filled s c v) ≡ absorbed m s
+absorbs_fill : (m : Machine) (s : FrameStrand) (c : Cell) (v : ℤ) → m.core.memory c ≡ Some v → absorbed m (filled s c v) ≡ absorbed m s
 absorbs_fill m s c v has = λ i. record { core = record (absorbed m s).core { memory = λ x. put_read m.core.memory s.footprint c v x has i }; hands = m.hands; trapped = m.trapped }
 
 -- ---- what deltas are added to
@@ -268,10 +268,10 @@ module _ (m : Memory) (f : Footprint) (x : Cell) (y : ℤ) (before : (z : ℤ) �
   deltas_after (Adds c) e there h = after_add c (e.adds c) (there c refl) h
 
 module _ (prog : Program) (workers : ℕ) (m : Machine) (w : ℕ) where
-  happens_too : (s : Strand) (next : Machine) → Happen prog workers (steps_by w s.done) m (absorbed m s) → event prog workers (Step w) (absorbed m s) ≡ Some next → Happen prog workers (steps_by w (suc s.done)) m next
+  happens_too : (s : FrameStrand) (next : Machine) → Happen prog workers (steps_by w s.done) m (absorbed m s) → event prog workers (Step w) (absorbed m s) ≡ Some next → Happen prog workers (steps_by w (suc s.done)) m next
   happens_too s next steps is = subst (λ es. Happen prog workers es m next) (steps_more w s.done) (happen_more prog workers (steps_by w s.done) (Step w) m (absorbed m s) next steps is)
 
-  never_law : (s : Strand) → IsStrand prog s → Fits m w s → NeverTraps prog workers m → IsSteps prog workers m w s
+  never_law : (s : FrameStrand) → IsFrameStrand prog s → Fits m w s → NeverTraps prog workers m → IsSteps prog workers m w s
   never_law _ (is_loaded p f) fits never = record { steps = starts m w p f fits; deltas = λ x z e. absurd (cc) }
   never_law _ (is_filled s c v is paused) fits never =
       let (fits2, has) = unfilled m w s c v fits in
@@ -291,8 +291,8 @@ module _ (prog : Program) (workers : ℕ) (m : Machine) (w : ℕ) where
         deltas = λ x z h. deltas_after m.core.memory s.footprint x z (λ y k. law.deltas x y k) (access_of prog s.present) e values h;
       }
 
-pub strands_are_steps : StrandsAreSteps
-strands_are_steps prog workers m w s is fits never = never_law prog workers m w s is fits never
+pub frame_strands_are_steps : FrameStrandsAreSteps
+frame_strands_are_steps prog workers m w s is fits never = never_law prog workers m w s is fits never
 
 -- ---- reads that the machine need not hold yet
 
@@ -305,14 +305,14 @@ module _ (prog : Program) (workers : ℕ) (m : Machine) (w : ℕ) (never : Never
   Agrees r = (z : ℤ) → m.core.memory r.0 ≡ Some z → z ≡ r.1
 
   -- the load that asked for the cell does not trap
-  filled_there : (s : Strand) (c : Cell) → IsStrand prog s → pause_of prog s ≡ Some (Need c) → Fits m w s → is_some (m.core.memory c) ≡ true
+  filled_there : (s : FrameStrand) (c : Cell) → IsFrameStrand prog s → pause_of prog s ≡ Some (Need c) → Fits m w s → is_some (m.core.memory c) ≡ true
   filled_there s c is paused fits =
       let law = never_law prog workers m w s is fits never in
       let later = never_later prog workers (steps_by w s.done) m (absorbed m s) law.steps never in
       let load = loads_needed s.footprint (access_of prog s.present) c (paused_by_need s.footprint s.done (next_of prog s.present) (access_of prog s.present) (Some (Need c)) tt paused).1 in
       value_beneath (write_at s.footprint c) (read_at s.footprint c) (m.core.memory c) load.1 (value_now prog workers m w s fits (never []) later c load.0)
 
-  reads_there : (s : Strand) → IsStrand prog s → m.hands w ≡ Some s.path → m.core.frames s.path ≡ Some s.loaded → ReadsAgree m s → Fits m w s
+  reads_there : (s : FrameStrand) → IsFrameStrand prog s → m.hands w ≡ Some s.path → m.core.frames s.path ≡ Some s.loaded → ReadsAgree m s → Fits m w s
   reads_there _ (is_loaded p f) hand frame agree = record { hand = hand; frame = frame; reads = All-nil (λ r. m.core.memory r.0 ≡ Some r.1) }
   reads_there _ (is_filled s c v is paused) hand frame agree =
       let (all, here) = All-pop Agrees (s.footprint.reads ++ (c, v) ∷ []) s.footprint.reads (Some (c, v)) refl agree in
@@ -323,8 +323,8 @@ module _ (prog : Program) (workers : ℕ) (m : Machine) (w : ℕ) (never : Never
       let fits = reads_there s is hand frame agree in
       record { hand = fits.hand; frame = fits.frame; reads = fits.reads }
 
-pub reads_are_there : ReadsAreThere
-reads_are_there prog workers m w s is hand frame never agree = reads_there prog workers m w never s is hand frame agree
+pub frame_reads_are_there : FrameReadsAreThere
+frame_reads_are_there prog workers m w s is hand frame never agree = reads_there prog workers m w never s is hand frame agree
 
 -- ---- of any machine
 
@@ -368,13 +368,13 @@ module _ (prog : Program) (workers : ℕ) (m : Machine) (w : ℕ) where
   free_after None e p n = refl
   free_after (Some t) e p n = absurd (cc)
 
-  goes_on : (s : Strand) → IsStrand prog s → Fits m w s → HasValues m s → may_go (absorbed m s).core s.path s.present.made s.present.waits ≡ true
+  goes_on : (s : FrameStrand) → IsFrameStrand prog s → Fits m w s → HasValues m s → may_go (absorbed m s).core s.path s.present.made s.present.waits ≡ true
   goes_on _ (is_loaded p f) fits has = subst (λ (x : Machine). may_go x.core p f.made f.waits ≡ true) (starts m w p f fits) has.goes
   goes_on _ (is_filled s c v is paused) fits has =
       goes_on s is (unfilled m w s c v fits).0 (record { sound = has.sound; goes = has.goes; values = λ x h. has.values x (some_settled s.footprint x h c v (write_at s.footprint c)) })
   goes_on _ (is_advanced s e is free at fine) fits has = rw fine
 
-  any_law : (s : Strand) → IsStrand prog s → Fits m w s → HasValues m s → Happen prog workers (steps_by w s.done) m (absorbed m s)
+  any_law : (s : FrameStrand) → IsFrameStrand prog s → Fits m w s → HasValues m s → Happen prog workers (steps_by w s.done) m (absorbed m s)
   any_law _ (is_loaded p f) fits has = starts m w p f fits
   any_law _ (is_filled s c v is paused) fits has =
       let (fits2, here) = unfilled m w s c v fits in
@@ -388,13 +388,13 @@ module _ (prog : Program) (workers : ℕ) (m : Machine) (w : ℕ) where
       (step_more prog workers m w s fits2 has.sound e free at fine (goes_on s is fits2 has2)
       (λ c acc. put_some (write_at s.footprint c) (m.core.memory c) (has.values c (subst (λ a. is_some (write_at (footprint_after s.footprint a e) c) ≡ true) (sym acc) (adds_written s.footprint c e (subst (λ a. Touches a e) acc t))))))
 
-pub strands_are_steps_where_defined : StrandsAreStepsWhereDefined
-strands_are_steps_where_defined prog workers m w s is fits has = any_law prog workers m w s is fits has
+pub frame_strands_are_steps_where_defined : FrameStrandsAreStepsWhereDefined
+frame_strands_are_steps_where_defined prog workers m w s is fits has = any_law prog workers m w s is fits has
 
 -- ---- with the border's instruction
 
-pub strands_go_over_borders : StrandsGoOverBorders
-strands_go_over_borders prog workers m w s is fits never =
+pub frame_strands_go_over_borders : FrameStrandsGoOverBorders
+frame_strands_go_over_borders prog workers m w s is fits never =
     let law = never_law prog workers m w s is fits never in
     let border = step_is prog workers m w s fits (never []) (change_of prog (absorbed m s).core s.path) refl in
     record {

@@ -1,4 +1,4 @@
--- What a strand knows of memory: the cells that it read, and what it keeps for those that it wrote.
+-- What a frame strand knows of memory: the cells that it read, and what it keeps for those that it wrote.
 use Rattle.std.specs.Prelude.{List, [], ◌∷◌, ◌++◌, Option, Some, None, cond, ℤ}
 use Rattle.std.specs.Map.{lookup}
 use Rattle.semantics.specs.Cells.{Cell, Memory, same_cell, or_zero}

@@ -1,4 +1,4 @@
--- A strand whose frame and reads are those of a machine is steps of the worker that runs the frame.
+-- A frame strand whose frame and reads are those of a machine is steps of the worker that runs the frame.
 use Rattle.std.specs.Prelude.{◌≡◌, ℕ, zero, suc, ◌+◌, List, [], ◌∷◌, Some, None, true, is_some, ℤ}
 use Rattle.std.specs.List.{All}
 use Rattle.semantics.specs.Cells.{Cell}
@@ -6,7 +6,7 @@ use Rattle.semantics.specs.State.{override, only, may_go}
 use Rattle.semantics.specs.Events.{Machine, Event, Step, event}
 use Rattle.semantics.specs.Replay.{NeverTraps, replay}
 use Rattle.laws_strands.specs.Footprint.{Delta, write_at, put}
-use Rattle.laws_strands.specs.Strands.{Strand, IsStrand}
+use Rattle.laws_strands.specs.FrameStrands.{FrameStrand, IsFrameStrand}
 use Rattle.semantics.specs.program.declared.function.Program.{Program}
 
 abbrev pub steps_by : ℕ → ℕ → List Event
@@ -19,13 +19,13 @@ Happen prog workers [] m after = m ≡ after
 Happen prog workers (e ∷ events) m after = (next : Machine) × (event prog workers e m ≡ Some next) × Happen prog workers events next after
 
 -- the worker runs the loaded frame at its path, and each cell that was read holds what was read
-pub record Fits (m : Machine) (w : ℕ) (s : Strand) : Type 0 where
+pub record Fits (m : Machine) (w : ℕ) (s : FrameStrand) : Type 0 where
   pub hand : m.hands w ≡ Some s.path
   pub frame : m.core.frames s.path ≡ Some s.loaded
   pub reads : All (λ r. m.core.memory r.0 ≡ Some r.1) s.footprint.reads
 
 -- the machine with the strand's frame, writes and count; deltas are added to what its cells hold
-abbrev pub absorbed : Machine → Strand → Machine
+abbrev pub absorbed : Machine → FrameStrand → Machine
 absorbed m s =
     record m {
       core = record m.core {
@@ -37,53 +37,53 @@ absorbed m s =
 
 -- ---- of a machine that never traps, as the schedule theorem says of each machine that a schedule of a checked program leads to
 
-pub record IsSteps (prog : Program) (workers : ℕ) (m : Machine) (w : ℕ) (s : Strand) : Type 0 where
+pub record IsSteps (prog : Program) (workers : ℕ) (m : Machine) (w : ℕ) (s : FrameStrand) : Type 0 where
   pub steps : Happen prog workers (steps_by w s.done) m (absorbed m s)
   -- what a delta is added to is there
   pub deltas : (x : Cell) (z : ℤ) → write_at s.footprint x ≡ Some (Delta z) → is_some (m.core.memory x) ≡ true
 
-abbrev pub StrandsAreSteps : Type 0
-StrandsAreSteps =
-    (prog : Program) (workers : ℕ) (m : Machine) (w : ℕ) (s : Strand) → IsStrand prog s → Fits m w s → NeverTraps prog workers m →
+abbrev pub FrameStrandsAreSteps : Type 0
+FrameStrandsAreSteps =
+    (prog : Program) (workers : ℕ) (m : Machine) (w : ℕ) (s : FrameStrand) → IsFrameStrand prog s → Fits m w s → NeverTraps prog workers m →
     IsSteps prog workers m w s
 
 -- ---- reads that the machine need not hold yet
 
 -- a cell that was read holds what was read, where it holds a number
-abbrev pub ReadsAgree : Machine → Strand → Type 0
+abbrev pub ReadsAgree : Machine → FrameStrand → Type 0
 ReadsAgree m s = All (λ r. (z : ℤ) → m.core.memory r.0 ≡ Some z → z ≡ r.1) s.footprint.reads
 
 -- then it does hold a number: a machine that never traps loads it
-abbrev pub ReadsAreThere : Type 0
-ReadsAreThere =
-    (prog : Program) (workers : ℕ) (m : Machine) (w : ℕ) (s : Strand) → IsStrand prog s → m.hands w ≡ Some s.path →
+abbrev pub FrameReadsAreThere : Type 0
+FrameReadsAreThere =
+    (prog : Program) (workers : ℕ) (m : Machine) (w : ℕ) (s : FrameStrand) → IsFrameStrand prog s → m.hands w ≡ Some s.path →
     m.core.frames s.path ≡ Some s.loaded → NeverTraps prog workers m → ReadsAgree m s → Fits m w s
 
 -- ---- of any machine
 
 -- it has not trapped, the loaded frame may go on, and each cell that was written holds a value
-pub record HasValues (m : Machine) (s : Strand) : Type 0 where
+pub record HasValues (m : Machine) (s : FrameStrand) : Type 0 where
   pub sound : m.trapped ≡ None
   pub goes : may_go m.core s.path s.loaded.made s.loaded.waits ≡ true
   pub values : (x : Cell) → is_some (write_at s.footprint x) ≡ true → is_some (m.core.memory x) ≡ true
 
-abbrev pub StrandsAreStepsWhereDefined : Type 0
-StrandsAreStepsWhereDefined =
-    (prog : Program) (workers : ℕ) (m : Machine) (w : ℕ) (s : Strand) → IsStrand prog s → Fits m w s → HasValues m s →
+abbrev pub FrameStrandsAreStepsWhereDefined : Type 0
+FrameStrandsAreStepsWhereDefined =
+    (prog : Program) (workers : ℕ) (m : Machine) (w : ℕ) (s : FrameStrand) → IsFrameStrand prog s → Fits m w s → HasValues m s →
     Happen prog workers (steps_by w s.done) m (absorbed m s)
 
 -- ---- with the border's instruction
 
 -- the strand's steps and one more of the worker, which is enabled and does not trap
-pub record IsStepsWithBorder (prog : Program) (workers : ℕ) (m : Machine) (w : ℕ) (s : Strand) : Type 0 where
+pub record IsStepsWithBorder (prog : Program) (workers : ℕ) (m : Machine) (w : ℕ) (s : FrameStrand) : Type 0 where
   pub after : Machine
   pub border : event prog workers (Step w) (absorbed m s) ≡ Some after
   pub steps : Happen prog workers (steps_by w (suc s.done)) m after
   pub sound : after.trapped ≡ None
 
-abbrev pub StrandsGoOverBorders : Type 0
-StrandsGoOverBorders =
-    (prog : Program) (workers : ℕ) (m : Machine) (w : ℕ) (s : Strand) → IsStrand prog s → Fits m w s → NeverTraps prog workers m →
+abbrev pub FrameStrandsGoOverBorders : Type 0
+FrameStrandsGoOverBorders =
+    (prog : Program) (workers : ℕ) (m : Machine) (w : ℕ) (s : FrameStrand) → IsFrameStrand prog s → Fits m w s → NeverTraps prog workers m →
     IsStepsWithBorder prog workers m w s
 
 -- ---- where a schedule leads

@@ -12,10 +12,10 @@ use Rattle.semantics.specs.Events.{Machine}
 use Rattle.semantics.proofs.ChildCounts.{count_at}
 use Rattle.semantics.proofs.Places.{only_here, only_off, same_path_tells}
 use Rattle.program.specs.declared.function.Program.{Program}
-use Rattle.laws_strands.specs.Footprint as strands
+use Rattle.laws_strands.specs.Footprint as frame_strands
 use Rattle.laws_strands.specs.Footprint.{Footprint, Write, put, write_at}
 use Rattle.laws_strands.specs.Law.{absorbed}
-use Rattle.laws_strands.specs.Strands.{Strand, IsStrand, is_advanced, is_filled, is_loaded}
+use Rattle.laws_strands.specs.FrameStrands.{FrameStrand, IsFrameStrand, is_advanced, is_filled, is_loaded}
 use Rattle.frame_engine.specs.Activation.{ShowsFrame, allocas_of}
 use Rattle.frame_engine.specs.Flat.{cell_in, is_cell}
 use Rattle.frame_engine.specs.Shows.{Layout, IsIn, ShowsBases, ShowsCells, ShowsRegisters, address}
@@ -38,7 +38,7 @@ pub record IsSameFrame (f g : frames.Frame) : Type 0 where
   pub role : g.role ≡ f.role
   pub home : g.home ≡ f.home
 
-pub same_frame : (prog : Program) (s : Strand) → IsStrand prog s → IsSameFrame s.loaded s.present
+pub same_frame : (prog : Program) (s : FrameStrand) → IsFrameStrand prog s → IsSameFrame s.loaded s.present
 same_frame prog _ (is_loaded p f) = record { function = refl; made = refl; role = refl; home = refl }
 same_frame prog _ (is_filled s c v is paused) = same_frame prog s is
 same_frame prog _ (is_advanced s e is free act fine) =
@@ -46,13 +46,13 @@ same_frame prog _ (is_advanced s e is free act fine) =
     record { function = same.function; made = same.made; role = same.role; home = same.home }
 
 -- one that did an instruction waits for nothing
-pub waits_free : (prog : Program) (s : Strand) → IsStrand prog s → s.done ≢ 0 → s.present.waits ≡ Free
+pub waits_free : (prog : Program) (s : FrameStrand) → IsFrameStrand prog s → s.done ≢ 0 → s.present.waits ≡ Free
 waits_free prog _ (is_loaded p f) more = absurd (more refl)
 waits_free prog _ (is_filled s c v is paused) more = waits_free prog s is more
 waits_free prog _ (is_advanced s e is free act fine) more = ap wait_after fine
 
 -- one that did none stands where it was loaded
-pub unmoved : (prog : Program) (s : Strand) → IsStrand prog s → s.done ≡ 0 → s.present ≡ s.loaded
+pub unmoved : (prog : Program) (s : FrameStrand) → IsFrameStrand prog s → s.done ≡ 0 → s.present ≡ s.loaded
 unmoved prog _ (is_loaded p f) none = refl
 unmoved prog _ (is_filled s c v is paused) none = unmoved prog s is none
 unmoved prog _ (is_advanced s e is free act fine) none = absurd cc
@@ -76,7 +76,7 @@ module _ (s t : State) (r : ℕ) (told : (x : Path) → outside r (t.frames x) �
 
 -- ---- the machine
 
-module _ (prog : Program) (m : Machine) (s : Strand) (is : IsStrand prog s) (stands : m.core.frames s.path ≡ Some s.loaded) where
+module _ (prog : Program) (m : Machine) (s : FrameStrand) (is : IsFrameStrand prog s) (stands : m.core.frames s.path ≡ Some s.loaded) where
   abbrev next : Machine
   next = absorbed m s
 
@@ -132,8 +132,8 @@ module _ (l : Layout) (f : Footprint) (b : Buffers) (shown : ShowsFootprint l f 
 
   value_put : (c : Cell) (z : ℤ) (u : Option Write) → put u (m c) ≡ Some z → put_change (option_map change_of u) (cell_in old (address l c)) ≡ Some z
   value_put c z None e = were.values c z e
-  value_put c z (Some (strands.Stored y)) e = e
-  value_put c z (Some (strands.Delta y)) e = from (m c) refl e
+  value_put c z (Some (frame_strands.Stored y)) e = e
+  value_put c z (Some (frame_strands.Delta y)) e = from (m c) refl e
     where
       from : (o : Option ℤ) → m c ≡ o → sum_in y o ≡ Some z → sum_in y (cell_in old (address l c)) ≡ Some z
       from None is h = absurd cc

@@ -8,8 +8,8 @@ use Rattle.program.specs.declared.instruction.Instruction.TheVariants as instruc
 use Rattle.program.specs.declared.instruction.Terminator.{Terminator}
 use Rattle.program.specs.declared.instruction.Terminator.TheVariants as terminator
 use Rattle.laws_strands.specs.Footprint.{Footprint, held}
-use Rattle.laws_strands.specs.Strands as strands
-use Rattle.laws_strands.specs.Strands.{Access, Nowhere, Loads, Stores, Adds, access_of, is_border, is_full, most_done, need, next_of, pause_of}
+use Rattle.laws_strands.specs.FrameStrands as frame_strands
+use Rattle.laws_strands.specs.FrameStrands.{Access, Nowhere, Loads, Stores, Adds, access_of, is_border, is_full, most_done, need, next_of, pause_of}
 use Rattle.frame_engine.specs.Border.{IsBorder, IsBorderEnding, IsBorderItem}
 use Rattle.frame_engine.specs.Shows.{Layout}
 use Rattle.frame_strand.specs.Along.{PausesAt, pause_in}
@@ -43,35 +43,35 @@ item_border (Some (Does i)) h = does_border i h
 item_border (Some (Ends t)) h = ends_border t h
 
 -- no other pause is shown as a border
-is_it : (l : Layout) (o : Option strands.Pause) → option_map (pause_in l) o ≡ Some Border → o ≡ Some strands.Border
+is_it : (l : Layout) (o : Option frame_strands.Pause) → option_map (pause_in l) o ≡ Some Border → o ≡ Some frame_strands.Border
 is_it l None h = absurd cc
-is_it l (Some strands.Blank) h = absurd cc
-is_it l (Some strands.Border) h = refl
-is_it l (Some strands.Limit) h = absurd cc
-is_it l (Some strands.Full) h = absurd cc
-is_it l (Some (strands.Need c)) h = absurd cc
+is_it l (Some frame_strands.Blank) h = absurd cc
+is_it l (Some frame_strands.Border) h = refl
+is_it l (Some frame_strands.Limit) h = absurd cc
+is_it l (Some frame_strands.Full) h = absurd cc
+is_it l (Some (frame_strands.Need c)) h = absurd cc
 
-needs_no_border : (f : Footprint) (a : Access) → need f a ≡ Some strands.Border → ⊥
+needs_no_border : (f : Footprint) (a : Access) → need f a ≡ Some frame_strands.Border → ⊥
 needs_no_border f Nowhere h = cc
 needs_no_border f (Stores c) h = cc
 needs_no_border f (Adds c) h = cc
 needs_no_border f (Loads c) h = from (is_some (held f c)) h
   where
-    from : (b : Bool) → cond b None (Some (strands.Need c)) ≡ Some strands.Border → ⊥
+    from : (b : Bool) → cond b None (Some (frame_strands.Need c)) ≡ Some frame_strands.Border → ⊥
     from true e = cc
     from false e = cc
 
-pub border_next : (prog : Program) (l : Layout) (s : strands.Strand) → PausesAt prog l s (Some Border) → is_border (next_of prog s.present) ≡ true
+pub border_next : (prog : Program) (l : Layout) (s : frame_strands.FrameStrand) → PausesAt prog l s (Some Border) → is_border (next_of prog s.present) ≡ true
 border_next prog l s pauses = at_border (access_of prog s.present) (is_border (next_of prog s.present)) (is_it l (pause_of prog s) pauses.is)
   where
-    at_full : (access : Access) (b : Bool) → cond b (Some strands.Full) (need s.footprint access) ≡ Some strands.Border → ⊥
+    at_full : (access : Access) (b : Bool) → cond b (Some frame_strands.Full) (need s.footprint access) ≡ Some frame_strands.Border → ⊥
     at_full access true h = cc
     at_full access false h = needs_no_border s.footprint access h
 
-    at_limit : (access : Access) (b : Bool) → cond b (Some strands.Limit) (cond (is_full s.footprint access) (Some strands.Full) (need s.footprint access)) ≡ Some strands.Border → ⊥
+    at_limit : (access : Access) (b : Bool) → cond b (Some frame_strands.Limit) (cond (is_full s.footprint access) (Some frame_strands.Full) (need s.footprint access)) ≡ Some frame_strands.Border → ⊥
     at_limit access true h = cc
     at_limit access false h = at_full access (is_full s.footprint access) h
 
-    at_border : (access : Access) (b : Bool) → cond b (Some strands.Border) (cond (nat_le most_done s.done) (Some strands.Limit) (cond (is_full s.footprint access) (Some strands.Full) (need s.footprint access))) ≡ Some strands.Border → b ≡ true
+    at_border : (access : Access) (b : Bool) → cond b (Some frame_strands.Border) (cond (nat_le most_done s.done) (Some frame_strands.Limit) (cond (is_full s.footprint access) (Some frame_strands.Full) (need s.footprint access))) ≡ Some frame_strands.Border → b ≡ true
     at_border access true h = refl
     at_border access false h = absurd (at_limit access (nat_le most_done s.done) h)

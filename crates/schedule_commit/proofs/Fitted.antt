@@ -15,9 +15,9 @@ use Rattle.program.specs.declared.function.Program.{Program}
 use Rattle.program.specs.declared.identifier.FunctionId.{FunctionId}
 use Rattle.laws_strands.specs.Footprint.{Write}
 use Rattle.laws_strands.specs.Law.{Fits, Happen, absorbed, steps_by}
-use Rattle.laws_strands.specs.Strands as strands
-use Rattle.laws_strands.specs.Strands.{is_border, next_of}
-use Rattle.laws_strands.proofs.Law.{reads_are_there, strands_are_steps}
+use Rattle.laws_strands.specs.FrameStrands as frame_strands
+use Rattle.laws_strands.specs.FrameStrands.{is_border, next_of}
+use Rattle.laws_strands.proofs.Law.{frame_reads_are_there, frame_strands_are_steps}
 use Rattle.cactus.specs.declared.node.Node.{Node}
 use Rattle.cactus.specs.Frames.{node_at}
 use Rattle.frame_engine.specs.Activation.{FrameFits}
@@ -30,7 +30,7 @@ use Rattle.frame_strand.specs.Alone.{GoesAlone}
 use Rattle.frame_strand.specs.Along.{IsAlong, IsGoing, PausesAt}
 use Rattle.frame_strand.specs.Showing.{read_of, written_of}
 use Rattle.frame_strand.specs.declared.cells.Written.{Written}
-use Rattle.frame_strand.specs.declared.outside.Strand.{Strand}
+use Rattle.frame_strand.specs.declared.outside.FrameStrand.{FrameStrand}
 use Rattle.frame_strand.specs.declared.standing.Pause.TheVariants.{Border}
 use Rattle.frame_strand.proofs.Beginning.{copy_back, copy_shows}
 use Rattle.schedule_workers.specs.declared.activation.Activation.{Activation}
@@ -49,7 +49,7 @@ use Rattle.schedule_commit.proofs.Noting.{happen_replay}
 use Rattle.schedule_commit.proofs.Sound.{never_traps}
 
 -- a slot has one node
-abbrev pub fits_at : (k : Run) (worker slot : ℕ) (x : Strand) → FitsRun k worker x slot → (n : Node Activation) → node_at k.cactus slot ≡ Some n → FitsRun k worker x slot
+abbrev pub fits_at : (k : Run) (worker slot : ℕ) (x : FrameStrand) → FitsRun k worker x slot → (n : Node Activation) → node_at k.cactus slot ≡ Some n → FitsRun k worker x slot
 fits_at k worker slot x fits n stands =
     let same : fits.node ≡ n = same_Some fits.node n (sym fits.stands ∙ stands) in
     record {
@@ -85,7 +85,7 @@ writes_within l row m shown (u ∷ writes) all zero w at =
     subst (λ (x : Written). IsTrue (is_cell row x.at)) (same_Some (written_of l u) w at) (shown.reached u.0 (All-head (λ w. IsIn l w.0) u writes all))
 writes_within l row m shown (u ∷ writes) all (suc i) w at = writes_within l row m shown writes (All-tail (λ w. IsIn l w.0) u writes all) i w at
 
-module _ (prog : Program) (places : Places) (k : Run) (worker slot : ℕ) (x : Strand) (fits : FitsRun k worker x slot) (going : IsGoing prog places x.course x.pause)
+module _ (prog : Program) (places : Places) (k : Run) (worker slot : ℕ) (x : FrameStrand) (fits : FitsRun k worker x slot) (going : IsGoing prog places x.course x.pause)
     (m : Machine) (shown : IsShown prog places m k) (safe : RunsSafely prog (length k.hands.items) m) (alone : GoesAloneIn prog m) where
   abbrev node : Node Activation
   node = fits.node
@@ -115,7 +115,7 @@ module _ (prog : Program) (places : Places) (k : Run) (worker slot : ℕ) (x : S
   abbrev pub along : IsAlong prog places l (reverse x.course.path.items) g x.course
   along = going.way.along l g goes
 
-  abbrev pub s : strands.Strand
+  abbrev pub s : frame_strands.FrameStrand
   s = along.strand
 
   pub path_is : s.path ≡ p
@@ -129,11 +129,11 @@ module _ (prog : Program) (places : Places) (k : Run) (worker slot : ℕ) (x : S
 
   pub fits_machine : Fits m worker s
   fits_machine =
-      reads_are_there prog (length k.hands.items) m worker s along.is (hand ∙ ap Some (sym path_is)) frame_is never
+      frame_reads_are_there prog (length k.hands.items) m worker s along.is (hand ∙ ap Some (sym path_is)) frame_is never
       (reads_agree l k.cells.cells.items m.core.memory shown.shows.cells s.footprint.reads (subst (λ rs. HoldReads rs k.cells.cells.items) along.shown.footprint.reads fits.reads))
 
   pub steps : Happen prog (length k.hands.items) (steps_by worker x.course.done) m (absorbed m s)
-  steps = subst (λ n. Happen prog (length k.hands.items) (steps_by worker n) m (absorbed m s)) along.shown.done (strands_are_steps prog (length k.hands.items) m worker s along.is fits_machine never).steps
+  steps = subst (λ n. Happen prog (length k.hands.items) (steps_by worker n) m (absorbed m s)) along.shown.done (frame_strands_are_steps prog (length k.hands.items) m worker s along.is fits_machine never).steps
 
   pub hand_kept : (replay prog (length k.hands.items) (steps_by worker x.course.done) m).hands worker ≡ m.hands worker
   hand_kept = ap (λ (y : Machine). y.hands worker) (happen_replay prog (length k.hands.items) (steps_by worker x.course.done) m (absorbed m s) steps)

@@ -4,7 +4,7 @@ use Rattle.std.proofs.lemmas.Option.{same_Some}
 use Rattle.semantics.specs.Events.{Machine, Event, Step, event}
 use Rattle.program.specs.declared.function.Program.{Program}
 use Rattle.laws_strands.specs.Law.{Happen, absorbed, steps_by}
-use Rattle.laws_strands.specs.Strands.{is_border, next_of}
+use Rattle.laws_strands.specs.FrameStrands.{is_border, next_of}
 use Rattle.laws_strands.proofs.Happening.{happen_more, steps_more}
 use Rattle.cactus.specs.declared.node.Node.{Node}
 use Rattle.cactus.specs.Frames.{node_at}
@@ -12,7 +12,7 @@ use Rattle.cactus.specs.Lending.{with_frame}
 use Rattle.cactus.proofs.FramesLemmas.{node_at-with_frame}
 use Rattle.frame_engine.specs.declared.activation.Places.{Places}
 use Rattle.frame_strand.specs.Along.{IsGoing}
-use Rattle.frame_strand.specs.declared.outside.Strand.{Strand}
+use Rattle.frame_strand.specs.declared.outside.FrameStrand.{FrameStrand}
 use Rattle.frame_strand.specs.declared.standing.Pause.TheVariants.{Border}
 use Rattle.schedule_workers.specs.declared.activation.Activation.{Activation}
 use Rattle.schedule_workers.specs.declared.run.Run.{Run}
@@ -33,7 +33,7 @@ use Rattle.schedule_commit.proofs.Put.{put_item, shown_put, stalls_put}
 
 -- ---- the strand's instructions
 
-module _ (prog : Program) (places : Places) (k new : Run) (worker slot : ℕ) (x : Strand) (left : x.course.done ≡ 0 → new ≡ k) (put : x.course.done ≢ 0 → IsPut k new slot x) where
+module _ (prog : Program) (places : Places) (k new : Run) (worker slot : ℕ) (x : FrameStrand) (left : x.course.done ≡ 0 → new ≡ k) (put : x.course.done ≢ 0 → IsPut k new slot x) where
   -- nothing was done, or it was put
   by_count : (P : Run → Type 0) → (x.course.done ≡ 0 → P k) → (x.course.done ≢ 0 → (p : IsPut k new slot x) → P new) → P new
   by_count P none some = from x.course.done refl
@@ -92,7 +92,7 @@ module _ (prog : Program) (places : Places) (k new : Run) (worker slot : ℕ) (x
         subst (λ (y : Node Activation). is_border (item_here prog y.frame.frame) ≡ true) same
         (ap is_border (put_item prog places k worker slot x f going m shown safe alone more p.frame p.only p.registers) ∙ border_ahead prog places k worker slot x f going m shown safe alone border))
 
-pub keeps_hand : (prog : Program) (places : Places) (k : Run) (worker slot : ℕ) (x : Strand) → FitsRun k worker x slot → IsGoing prog places x.course x.pause → KeepsHand prog places k worker x
+pub keeps_hand : (prog : Program) (places : Places) (k : Run) (worker slot : ℕ) (x : FrameStrand) → FitsRun k worker x slot → IsGoing prog places x.course x.pause → KeepsHand prog places k worker x
 keeps_hand prog places k worker slot x fits going m shown safe alone = hand_kept prog places k worker slot x fits going m shown safe alone
 
 -- ---- the border's instruction

@@ -12,4 +12,4 @@ pub mod Taken
 pub mod Undone
 -- for the crates above
 pub use Rattle.frame_strand.proofs as frame_strand
-pub use Rattle.private_stack.proofs as private_stack
+pub use Rattle.strand.proofs as strand

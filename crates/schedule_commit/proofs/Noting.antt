@@ -8,9 +8,9 @@ use Rattle.semantics.specs.Replay.{NeverTraps, or_unchanged, replay}
 use Rattle.semantics.proofs.Places.{same_path_apart}
 use Rattle.program.specs.declared.function.Program.{Program}
 use Rattle.laws_strands.specs.Law.{Fits, Happen, absorbed, steps_by}
-use Rattle.laws_strands.specs.Strands.{Strand, IsStrand, is_advanced, is_filled, is_loaded}
+use Rattle.laws_strands.specs.FrameStrands.{FrameStrand, IsFrameStrand, is_advanced, is_filled, is_loaded}
 use Rattle.laws_strands.proofs.Happening.{steps_more}
-use Rattle.laws_strands.proofs.Law.{strands_are_steps}
+use Rattle.laws_strands.proofs.Law.{frame_strands_are_steps}
 use Rattle.schedule_workers.specs.Stalls.{Blocks, block_of, if_enabled, last_blocks, noted}
 
 module _ (prog : Program) (workers : ℕ) where
@@ -43,14 +43,14 @@ module _ (prog : Program) (workers : ℕ) where
             ap (λ o. cond (running.is_place o q) (block_of (mid.core.frames q)) (before q)) hand
             ∙ ap (λ b. cond b (block_of (mid.core.frames q)) (before q)) (same_path_apart p q away)
 
-    pub last_off : (s : Strand) → IsStrand prog s → Fits m w s → s.path ≢ q → last_blocks prog workers (steps_by w s.done) m last q ≡ last q
+    pub last_off : (s : FrameStrand) → IsFrameStrand prog s → Fits m w s → s.path ≢ q → last_blocks prog workers (steps_by w s.done) m last q ≡ last q
     last_off _ (is_loaded p f) fits away = refl
     last_off _ (is_filled s c v is paused) fits away =
         let all = (All-pop (λ r. m.core.memory r.0 ≡ Some r.1) (s.footprint.reads ++ (c, v) ∷ []) s.footprint.reads (Some (c, v)) refl fits.reads).0 in
         last_off s is (record { hand = fits.hand; frame = fits.frame; reads = all }) away
     last_off _ (is_advanced s e is free at fine) fits away =
         let fits2 : Fits m w s = record { hand = fits.hand; frame = fits.frame; reads = fits.reads } in
-        let steps = (strands_are_steps prog workers m w s is fits2 never).steps in
+        let steps = (frame_strands_are_steps prog workers m w s is fits2 never).steps in
         ap (λ (l : Blocks). l q) (last_step w s.done m (absorbed m s) last steps)
         ∙ (step_off s.path away (absorbed m s) fits.hand (last_blocks prog workers (steps_by w s.done) m last)
         ∙ last_off s is fits2 away)

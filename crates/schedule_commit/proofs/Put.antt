@@ -7,8 +7,8 @@ use Rattle.semantics.specs.Frames.{item_at}
 use Rattle.program.specs.declared.function.Program.{Program}
 use Rattle.program.specs.declared.identifier.FunctionId.{FunctionId}
 use Rattle.laws_strands.specs.Law.{absorbed, steps_by}
-use Rattle.laws_strands.specs.Strands as strands
-use Rattle.laws_strands.specs.Strands.{next_of}
+use Rattle.laws_strands.specs.FrameStrands as frame_strands
+use Rattle.laws_strands.specs.FrameStrands.{next_of}
 use Rattle.frame.specs.declared.frame.Wait.{Wait}
 use Rattle.frame.specs.declared.frame.Wait.TheVariants.{Nothing}
 use Rattle.frame.specs.Reading.{wait_of}
@@ -21,7 +21,7 @@ use Rattle.frame_engine.specs.declared.turning.Place.{Place}
 use Rattle.frame_engine.specs.declared.activation.Places.{Places}
 use Rattle.frame_engine.specs.declared.flat.Flat.{Flat}
 use Rattle.frame_strand.specs.Along.{IsAlong, IsGoing}
-use Rattle.frame_strand.specs.declared.outside.Strand.{Strand}
+use Rattle.frame_strand.specs.declared.outside.FrameStrand.{FrameStrand}
 use Rattle.schedule_workers.specs.declared.activation.Activation.{Activation}
 use Rattle.schedule_workers.specs.declared.run.Run.{Run}
 use Rattle.schedule_workers.specs.Going.{RunsSafely}
@@ -38,12 +38,12 @@ use Rattle.schedule_commit.proofs.Absorbed.{IsWritten, cells_later, counts, live
 use Rattle.schedule_commit.proofs.Fitted.{along, callee_none, fits_machine, frame_is, g, l, never, path_is, s}
 use Rattle.schedule_commit.proofs.Noting.{last_off}
 
-module _ (prog : Program) (places : Places) (k : Run) (worker slot : ℕ) (x : Strand) (fits : FitsRun k worker x slot) (going : IsGoing prog places x.course x.pause)
+module _ (prog : Program) (places : Places) (k : Run) (worker slot : ℕ) (x : FrameStrand) (fits : FitsRun k worker x slot) (going : IsGoing prog places x.course x.pause)
     (m : Machine) (shown : IsShown prog places m k) (safe : RunsSafely prog (length k.hands.items) m) (alone : GoesAloneIn prog m) (more : x.course.done ≢ 0) where
   abbrev node : Node Activation
   node = fits.node
 
-  abbrev t : strands.Strand
+  abbrev t : frame_strands.FrameStrand
   t = s prog places k worker slot x fits going m shown safe alone
 
   abbrev is_along : IsAlong prog places (l prog places k worker slot x fits going m shown safe alone) (reverse x.course.path.items) (g prog places k worker slot x fits going m shown safe alone) x.course

@@ -11,7 +11,7 @@ use Rattle.frame_engine.specs.Flat.{is_cell}
 use Rattle.frame_engine.specs.declared.activation.Places.{Places}
 use Rattle.frame_strand.specs.Along.{IsGoing}
 use Rattle.frame_strand.specs.declared.cells.Written.{Written}
-use Rattle.frame_strand.specs.declared.outside.Strand.{Strand}
+use Rattle.frame_strand.specs.declared.outside.FrameStrand.{FrameStrand}
 use Rattle.frame_strand.specs.declared.standing.Pause.{Pause}
 use Rattle.frame_strand.specs.declared.standing.Pause.TheVariants.{Blank, Border, Full, Limit, Need}
 use Rattle.schedule_workers.specs.declared.activation.Activation.{Activation}
@@ -38,17 +38,17 @@ steps_before (Some (Need at)) done off = refl
 
 -- ---- what the strand's type keeps
 
-pub going_of : (x : Strand) (prog : Program) (places : Places) → x.program.now ≡ prog → x.places.now ≡ places → x.pause ≢ Some Blank → ∥ IsGoing prog places x.course x.pause ∥₁
+pub going_of : (x : FrameStrand) (prog : Program) (places : Places) → x.program.now ≡ prog → x.places.now ≡ places → x.pause ≢ Some Blank → ∥ IsGoing prog places x.course x.pause ∥₁
 going_of x prog places same also off =
     ∥∥₁_map x.kept (λ h. subst (λ (p : Program). IsGoing p places x.course x.pause) same (subst (λ (q : Places). IsGoing x.program.now q x.course x.pause) also (h.going off)))
 
 -- one that stands at a border is not blank
-pub going_at : (x : Strand) (prog : Program) (places : Places) → x.program.now ≡ prog → x.places.now ≡ places → x.pause ≡ Some Border → ∥ IsGoing prog places x.course x.pause ∥₁
+pub going_at : (x : FrameStrand) (prog : Program) (places : Places) → x.program.now ≡ prog → x.places.now ≡ places → x.pause ≡ Some Border → ∥ IsGoing prog places x.course x.pause ∥₁
 going_at x prog places same also border = going_of x prog places same also (λ blank. (let e : Some Border ≡ Some Blank = sym border ∙ blank in cc))
 
 -- ---- what putting it asks for
 
-module _ (prog : Program) (places : Places) (k : Run) (worker slot : ℕ) (x : Strand) (fits : FitsRun k worker x slot) (going : ∥ IsGoing prog places x.course x.pause ∥₁) (safe : ∥ StandsAlone prog places k ∥₁) where
+module _ (prog : Program) (places : Places) (k : Run) (worker slot : ℕ) (x : FrameStrand) (fits : FitsRun k worker x slot) (going : ∥ IsGoing prog places x.course x.pause ∥₁) (safe : ∥ StandsAlone prog places k ∥₁) where
   pub put_lives : Lives k.cactus slot
   put_lives = rw fits.stands refl
 
@@ -64,13 +64,13 @@ module _ (prog : Program) (places : Places) (k : Run) (worker slot : ℕ) (x : S
 
 -- ---- what is so whichever strand of the definitions it is
 
-keeps_hand_prop : (prog : Program) (places : Places) (k : Run) (worker : ℕ) (x : Strand) → IsProp (KeepsHand prog places k worker x)
+keeps_hand_prop : (prog : Program) (places : Places) (k : Run) (worker : ℕ) (x : FrameStrand) → IsProp (KeepsHand prog places k worker x)
 keeps_hand_prop prog places k worker x = hlevel props
 
 stalls_prop : (prog : Program) (places : Places) (k new : Run) (worker n : ℕ) → IsProp (LeavesStallsBy prog places k new worker n)
 stalls_prop prog places k new worker n = hlevel props
 
-module _ (prog : Program) (places : Places) (k : Run) (worker slot : ℕ) (x : Strand) (fits : FitsRun k worker x slot) (going : ∥ IsGoing prog places x.course x.pause ∥₁) where
+module _ (prog : Program) (places : Places) (k : Run) (worker slot : ℕ) (x : FrameStrand) (fits : FitsRun k worker x slot) (going : ∥ IsGoing prog places x.course x.pause ∥₁) where
   pub hand_stays : KeepsHand prog places k worker x
   hand_stays = ∥∥₁_elim going (keeps_hand_prop prog places k worker x) (λ goes. keeps_hand prog places k worker slot x fits goes)
 

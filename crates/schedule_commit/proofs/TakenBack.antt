@@ -14,7 +14,7 @@ use Rattle.cactus.proofs.FramesLemmas.{node_at-with_frame}
 use Rattle.frame_engine.specs.declared.activation.Frame.{Frame}
 use Rattle.frame_engine.specs.declared.flat.Flat.{Flat}
 use Rattle.frame_strand.specs.Standing.{IsCopy}
-use Rattle.frame_strand.specs.declared.outside.Strand.{Strand}
+use Rattle.frame_strand.specs.declared.outside.FrameStrand.{FrameStrand}
 use Rattle.schedule_workers.specs.declared.activation.Activation.{Activation}
 use Rattle.schedule_workers.specs.declared.run.Run.{Run}
 use Rattle.schedule_workers.specs.Rooms.{IsRoomier, empty_at}
@@ -56,7 +56,7 @@ frame_again frames slot node a stands =
 -- ---- the run
 
 -- a strand that fits was put, and a border's refusal left more room at most
-pub was_put : (before between late : Run) (worker slot : ℕ) (x : Strand) (numbers : List ℤ) → FitsRun before worker x slot → IsPut before between slot x →
+pub was_put : (before between late : Run) (worker slot : ℕ) (x : FrameStrand) (numbers : List ℤ) → FitsRun before worker x slot → IsPut before between slot x →
     IsRoomier between late → AreNumbersOf before.cells.cells.items x.course.cells.writes numbers → WasPut before late slot x numbers
 was_put before between late worker slot x numbers fits put roomier are = record {
   between = between;
@@ -66,7 +66,7 @@ was_put before between late worker slot x numbers fits put roomier are = record 
   numbers_are = are;
 }
 
-module _ (before late : Run) (slot : ℕ) (x : Strand) (numbers : List ℤ) (was : WasPut before late slot x numbers) where
+module _ (before late : Run) (slot : ℕ) (x : FrameStrand) (numbers : List ℤ) (was : WasPut before late slot x numbers) where
   abbrev node : Node Activation
   node = was.put.node
 

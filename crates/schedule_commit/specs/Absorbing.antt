@@ -1,4 +1,4 @@
--- What a run comes to that takes over a strand.
+-- What a run comes to that takes over a frame strand.
 use Rattle.std.specs.Prelude.{ℕ, suc, length, Option, Some, None}
 use Rattle.semantics.specs.Paths.{Path}
 use Rattle.semantics.specs.Cells.{Object}
@@ -10,7 +10,7 @@ use Rattle.std.specs.Prelude.{◌≡◌, ℤ}
 use Rattle.laws_strands.specs.Law.{Happen, steps_by}
 use Rattle.frame_engine.specs.declared.activation.Places.{Places}
 use Rattle.frame_strand.specs.Alone.{StaysSafeAlone}
-use Rattle.frame_strand.specs.declared.outside.Strand.{Strand}
+use Rattle.frame_strand.specs.declared.outside.FrameStrand.{FrameStrand}
 use Rattle.frame_strand.specs.declared.standing.Pause.{Pause}
 use Rattle.frame_strand.specs.declared.standing.Pause.TheVariants.{Blank, Border, Limit, Full, Need}
 use Rattle.schedule_workers.specs.declared.run.Run.{Run}
@@ -48,11 +48,11 @@ DoesSteps prog places old new worker steps =
     (after : Machine) × Happen prog (length old.hands.items) (steps_by worker steps) m after × IsShown prog places after new
 
 -- the strand's steps are done
-abbrev pub DoesStrand : Program → Places → Run → Run → ℕ → Strand → Type 0
-DoesStrand prog places old new worker x = DoesSteps prog places old new worker (steps_in x.pause x.course.done)
+abbrev pub DoesFrameStrand : Program → Places → Run → Run → ℕ → FrameStrand → Type 0
+DoesFrameStrand prog places old new worker x = DoesSteps prog places old new worker (steps_in x.pause x.course.done)
 
 -- whatever machine is shown, the worker runs the same frame after the strand's instructions, before the border's
-abbrev pub KeepsHand : Program → Places → Run → ℕ → Strand → Type 0
+abbrev pub KeepsHand : Program → Places → Run → ℕ → FrameStrand → Type 0
 KeepsHand prog places old worker x =
     (m : Machine) → IsShown prog places m old → RunsSafely prog (length old.hands.items) m → GoesAloneIn prog m →
     (replay prog (length old.hands.items) (steps_by worker x.course.done) m).hands worker ≡ m.hands worker

@@ -1,4 +1,4 @@
--- What a strand's frame and writes make of a run.
+-- What a frame strand's frame and writes make of a run.
 use Rattle.std.specs.Prelude.{◌≡◌, ℕ, ◌+◌, ℤ, List, Option, Some, None, length}
 use Rattle.std.specs.Vec.{with_items}
 use Rattle.semantics.specs.State.{sum_in}
@@ -12,7 +12,7 @@ use Rattle.frame_strand.specs.Buffers.{change_in}
 use Rattle.frame_strand.specs.declared.cells.Change.{Change}
 use Rattle.frame_strand.specs.declared.cells.Change.TheVariants.{Stored, Delta}
 use Rattle.frame_strand.specs.declared.cells.Written.{Written}
-use Rattle.frame_strand.specs.declared.outside.Strand.{Strand}
+use Rattle.frame_strand.specs.declared.outside.FrameStrand.{FrameStrand}
 use Rattle.schedule_workers.specs.declared.activation.Activation.{Activation}
 use Rattle.schedule_workers.specs.declared.run.Run.{Run}
 
@@ -27,7 +27,7 @@ pub record IsPutInto (writes : List Written) (old new : List ℤ) : Type 0 where
   pub cells : (a : ℤ) → cell_in new a ≡ put_change (change_in writes a) (cell_in old a)
 
 -- the strand's frame, which waits for nothing, and its writes stand in the run, and its instructions are counted
-pub record IsPut (old new : Run) (slot : ℕ) (x : Strand) : Type 0 where
+pub record IsPut (old new : Run) (slot : ℕ) (x : FrameStrand) : Type 0 where
   pub node : Node Activation
   pub stood : node_at old.cactus slot ≡ Some node
   pub frame : Frame

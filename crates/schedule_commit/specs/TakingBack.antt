@@ -1,10 +1,10 @@
--- A strand that was put into a run, and is to be taken back.
+-- A frame strand that was put into a run, and is to be taken back.
 use Rattle.std.specs.Prelude.{◌≡◌, ℕ, ℤ, List, None, Some, length, slice_get}
 use Rattle.frame_engine.specs.Flat.{cell_in}
 use Rattle.frame_strand.specs.Buffers.{change_in}
 use Rattle.frame_strand.specs.Standing.{IsCopy}
 use Rattle.frame_strand.specs.declared.cells.Written.{Written}
-use Rattle.frame_strand.specs.declared.outside.Strand.{Strand}
+use Rattle.frame_strand.specs.declared.outside.FrameStrand.{FrameStrand}
 use Rattle.schedule_workers.specs.Rooms.{IsRoomier}
 use Rattle.schedule_workers.specs.declared.run.Run.{Run}
 use Rattle.schedule_commit.specs.Putting.{IsPut}
@@ -21,7 +21,7 @@ pub record IsRestored (writes : List Written) (numbers old new : List ℤ) : Typ
   pub others : (a : ℤ) → change_in writes a ≡ None → cell_in new a ≡ cell_in old a
 
 -- the strand was put into a run, whose cells held the numbers, and since then the run got more room at most
-pub record WasPut (before late : Run) (slot : ℕ) (x : Strand) (numbers : List ℤ) : Type 0 where
+pub record WasPut (before late : Run) (slot : ℕ) (x : FrameStrand) (numbers : List ℤ) : Type 0 where
   pub between : Run
   pub put : IsPut before between slot x
   pub copy : IsCopy x.course.loaded put.node.frame.frame

@@ -6,7 +6,7 @@ ghost use Rattle.schedule_commit.specs.Fitting.{FitsRun, HoldReads};
 use crate::cells::cell;
 use frame::{Role, Wait};
 use frame_engine::{Frame, Place};
-use frame_strand::{Read, Strand};
+use frame_strand::{FrameStrand, Read};
 use program::FunctionId;
 use schedule_workers::Run;
 
@@ -86,7 +86,7 @@ pub fn hold_reads(reads: &[Read], row: &[i64]) -> bool
 }
 
 /// The slot of the worker's frame, where that is the one that the strand was loaded from, and what was read is there.
-pub fn fitting_slot(run: &Run, worker: u8, strand: &Strand) -> Option<usize>
+pub fn fitting_slot(run: &Run, worker: u8, strand: &FrameStrand) -> Option<usize>
     ensures fits { IfSome result (FitsRun run.now worker strand.now) }
     ensures only { IfNone result ((slot : ℕ) → FitsRun run.now worker strand.now slot → ⊥) }
 {

@@ -11,7 +11,7 @@ ghost use Rattle.schedule_workers.specs.Rooms.{IsRoomier};
 ghost use Rattle.schedule_workers.specs.declared.run.Run.{Run as ShownRun};
 ghost use Rattle.frame_strand.specs.declared.cells.Written.{Written as ShownWritten};
 ghost use Rattle.frame_strand.specs.declared.standing.Pause.TheVariants.{Blank, Border};
-ghost use Rattle.schedule_commit.specs.Absorbing.{DoesSteps, DoesStrand, KeepsHand, LeavesStallsBy, StandsAlone, steps_in};
+ghost use Rattle.schedule_commit.specs.Absorbing.{DoesSteps, DoesFrameStrand, KeepsHand, LeavesStallsBy, StandsAlone, steps_in};
 ghost use Rattle.schedule_commit.specs.Fitting.{FitsRun};
 ghost use Rattle.schedule_commit.specs.Putting.{IsPut};
 ghost use Rattle.schedule_commit.specs.TakingBack.{WasPut};
@@ -21,7 +21,7 @@ use crate::fitting::fitting_slot;
 use crate::taking_back::{numbers_before, take_back};
 use frame::Wait;
 use frame_engine::{Frame, Place, Places};
-use frame_strand::{Pause, Strand};
+use frame_strand::{FrameStrand, Pause};
 use lists::OutOfMemory;
 use program::Program;
 use schedule_workers::Run;
@@ -45,7 +45,7 @@ pub(crate) fn write_frame(target: &mut Frame, source: &Frame, waits: Wait)
 }
 
 /// Puts the strand's frame and writes into the run, and counts its instructions.
-fn put_strand(run: &mut Run, slot: usize, strand: &Strand)
+fn put_frame_strand(run: &mut Run, slot: usize, strand: &FrameStrand)
     requires lives { Lives run.old.cactus slot }
     requires registers { (node : Node Living) → node_at run.old.cactus slot ≡ Some node →
         length strand.now.course.present.registers.items ≡ length node.frame.frame.registers.items }
@@ -63,14 +63,14 @@ fn put_strand(run: &mut Run, slot: usize, strand: &Strand)
 }
 
 /// Whether the strand stands at the pause.
-fn is_at(strand: &Strand, pause: Pause) -> bool
+fn is_at(strand: &FrameStrand, pause: Pause) -> bool
     ensures { IsTrue result ↔ (strand.now.pause ≡ Some pause) }
 {
     strand.pause() == Some(pause)
 }
 
 /// Does the strand's instructions as steps of a worker whose frame it fits.
-fn go_on(run: &mut Run, slot: usize, strand: &Strand)
+fn go_on(run: &mut Run, slot: usize, strand: &FrameStrand)
     requires fits { (worker : ℕ) × FitsRun run.old worker strand.now slot }
     requires going { strand.now.pause ≢ Some Blank }
     requires safe { ∥ StandsAlone strand.now.program.now strand.now.places.now run.old ∥₁ }
@@ -78,12 +78,12 @@ fn go_on(run: &mut Run, slot: usize, strand: &Strand)
     ensures put { strand.now.course.done ≢ 0 → IsPut run.old run.new slot strand.now }
 {
     if strand.done() > 0 {
-        put_strand(run, slot, strand);
+        put_frame_strand(run, slot, strand);
     }
 }
 
 /// Takes back what `go_on` did, where the run got more room at most since then.
-fn undo(run: &mut Run, slot: usize, strand: &Strand, numbers: &[i64])
+fn undo(run: &mut Run, slot: usize, strand: &FrameStrand, numbers: &[i64])
     requires put { strand.now.course.done ≢ 0 → (before : ShownRun) × WasPut before run.old slot strand.now numbers.now }
     ensures left { strand.now.course.done ≡ 0 → run.new ≡ run.old }
     ensures back { strand.now.course.done ≢ 0 → (before : ShownRun) → WasPut before run.old slot strand.now numbers.now →
@@ -105,7 +105,7 @@ fn go_over(
     places: &Places,
     worker: u8,
     slot: usize,
-    strand: &Strand,
+    strand: &FrameStrand,
 ) -> Result<(), OutOfMemory>
     requires text { TextFits program.now places.now (length run.old.moves.items) }
     requires program { strand.now.program.now ≡ program.now }
@@ -131,7 +131,7 @@ fn go_over(
     }
 }
 
-/// Does what a strand did as steps of the worker, and the border's with them where it stands at one, if the worker runs the loaded
+/// Does what a frame strand did as steps of the worker, and the border's with them where it stands at one, if the worker runs the loaded
 /// frame at its path and each cell that was read holds what was read. The answer is whether that is so; if not, nothing changes.
 ///
 /// # Errors
@@ -142,7 +142,7 @@ pub fn absorb(
     program: &Program,
     places: &Places,
     worker: u8,
-    strand: &Strand,
+    strand: &FrameStrand,
 ) -> Result<bool, OutOfMemory>
     requires text { TextFits program.now places.now (length run.old.moves.items) }
     requires program { strand.now.program.now ≡ program.now }
@@ -150,7 +150,7 @@ pub fn absorb(
     requires safe { ∥ StandsAlone program.now places.now run.old ∥₁ }
     ensures exactly { IfOk result (λ done. IsTrue done
         ↔ ((strand.now.pause ≢ Some Blank) × ((slot : ℕ) × FitsRun run.old worker strand.now slot))) }
-    ensures does { result ≡ Ok true → ∥ DoesStrand program.now places.now run.old run.new worker strand.now ∥₁ }
+    ensures does { result ≡ Ok true → ∥ DoesFrameStrand program.now places.now run.old run.new worker strand.now ∥₁ }
     ensures left { result ≡ Ok false → run.new ≡ run.old }
     ensures hand { result ≡ Ok true → KeepsHand program.now places.now run.old worker strand.now }
     ensures stalls { result ≡ Ok true →

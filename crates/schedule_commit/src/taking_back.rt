@@ -8,7 +8,7 @@ ghost use Rattle.schedule_commit.specs.TakingBack.{AreNumbersOf, IsRestored, Was
 
 use crate::cells::{number_in, set};
 use crate::taking::write_frame;
-use frame_strand::{Strand, Written};
+use frame_strand::{FrameStrand, Written};
 use lists::OutOfMemory;
 use schedule_workers::Run;
 
@@ -31,7 +31,7 @@ fn put_number(row: &mut [i64], written: &Written, number: &i64)
 }
 
 /// What the cells hold that the strand wrote.
-pub(crate) fn numbers_before(run: &Run, strand: &Strand) -> Result<Vec<i64>, OutOfMemory>
+pub(crate) fn numbers_before(run: &Run, strand: &FrameStrand) -> Result<Vec<i64>, OutOfMemory>
     requires { (i : ℕ) (w : ShownWritten) → slice_get strand.now.course.cells.writes i ≡ Some w → IsTrue (is_cell run.now.cells.cells.items w.at) }
     ensures { IfOk result (λ numbers. AreNumbersOf run.now.cells.cells.items strand.now.course.cells.writes numbers.items) }
 {
@@ -57,7 +57,7 @@ fn restore(row: &mut [i64], writes: &[Written], numbers: &[i64])
 }
 
 /// Takes a strand back that was put into the run: the loaded frame and the numbers that the written cells held are there again.
-pub(crate) fn take_back(run: &mut Run, slot: usize, strand: &Strand, numbers: &[i64])
+pub(crate) fn take_back(run: &mut Run, slot: usize, strand: &FrameStrand, numbers: &[i64])
     requires { (before : ShownRun) × WasPut before run.old slot strand.now numbers.now }
     ensures { (before : ShownRun) → WasPut before run.old slot strand.now numbers.now → IsRoomier before run.new }
 {

@@ -1,4 +1,4 @@
--- A worker's frame of a stage may be the base of a stack of its own.
+-- A worker's frame of a stage may be the base of a strand.
 use Rattle.std.proofs.Common.{◌≡◌, ◌∙◌, ℕ, ◌+◌, ◌<◌, [], length, Some, Bool, true, sym, arith}
 use Rattle.std.proofs.Math.Logic.{∥∥₁_map}
 use Rattle.semantics.specs.Events.{Machine}
@@ -15,9 +15,9 @@ use Rattle.schedule_workers.proofs.Lending.{free_outside, free_small}
 use Rattle.schedule_workers.proofs.Onward.{seen}
 use Rattle.laws_strands.specs.stacks.Law.{IsOrderly}
 use Rattle.laws_strands.proofs.stacks.Reached.{orderly}
-use Rattle.schedule_commit.specs.private_stack.Along.{IsLent, LoadsGoDeep, MayBegin}
-use Rattle.schedule_commit.specs.private_stack.Layouts.{Segment}
-use Rattle.schedule_core.proofs.laws_workers.strands.Loading.{loads_go_deep}
+use Rattle.schedule_commit.specs.strand.Along.{IsLent, LoadsGoAsStrands, MayBegin}
+use Rattle.schedule_commit.specs.strand.Layouts.{Segment}
+use Rattle.schedule_core.proofs.laws_workers.strands.Loading.{loads_go_as_strands}
 use Rattle.schedule_core.specs.declared.stage.Stage.{Stage}
 use Rattle.schedule_core.specs.Replaying.{IsMachine, state_after}
 use Rattle.schedule_core.specs.Stages.{IsState, program_of, workers_of}
@@ -32,8 +32,8 @@ module _ (stage : Stage) (m : Machine) (s : IsState stage m) where
   few_done : m.core.done + 65538 < 18446744073709551616
   few_done = let counted = (s.well.safe []).counted in omega (arith, counted)
 
-  pub loads_here : LoadsGoDeep (program_of stage) stage.places (living (program_of stage) m.core) m
-  loads_here = loads_go_deep (program_of stage) m orderly_here (s.well.deep []) few_done stage.places
+  pub loads_here : LoadsGoAsStrands (program_of stage) stage.places (living (program_of stage) m.core) m
+  loads_here = loads_go_as_strands (program_of stage) m orderly_here (s.well.strands []) few_done stage.places
 
 module _ (stage : Stage) (kept : ∥ IsMachine stage ∥₁) (worker slot : ℕ) (node : Node Activation) (hand : hand_of stage.run.hands.items worker ≡ Some slot) (stands : node_at stage.run.cactus slot ≡ Some node)
     (childless : Bool) (none : childless ≡ true → (region : ℕ) → counted_in node.frame region ≡ 0) (part : Block) (free : IsFree (program_of stage) stage.run part)

@@ -91,7 +91,7 @@ module _ (stage : Stage) (accepted : IsAccepted (program_of stage)) (arguments :
     shown = begins stage.places (given stage.memory) places (row_is (program_of stage) stage.memory made);
     manned = omega (arith, some, many);
     reached = record { arguments = arguments; memory = given stage.memory; events = []; after = refl };
-    well = record { safe = from.safe; deep = from.deep; full = from.full };
+    well = record { safe = from.safe; strands = from.strands; full = from.full };
   }
 
   pub begun_replays : Replays (program_of stage) arguments stage.memory workers [] stage

@@ -1,4 +1,4 @@
--- What steps that are done at once make of a stage: those of a strand, plain or deep.
+-- What steps that are done at once make of a stage: those of a strand, or of a frame's.
 use Rattle.std.proofs.Common.{◌≡◌, ℕ, zero, suc, ◌≤◌, List, [], ◌∷◌, ◌++◌, length, map, Bool, true, false, replicate, refl, sym, ap, ◌∙◌, subst, ℤ}
 use Rattle.std.specs.Prelude.{IsSome, Result, Ok, Err, OnErr}
 use Rattle.std.proofs.Math.Logic.{∥∥₁_elim, ∥∥₁_map}
@@ -14,8 +14,8 @@ use Rattle.semantics.specs.Events.{Machine, start}
 use Rattle.semantics.specs.Replay.{or_unchanged, replay}
 use Rattle.program.specs.declared.function.Program.{Program}
 use Rattle.serial_machine.specs.store.Cells.{NamedCells}
-use Rattle.schedule_commit.specs.Absorbing.{DoesStrand, GoesAloneIn, KeepsHand, LeavesStallsBy, StandsAlone, steps_in}
-use Rattle.schedule_commit.specs.frame_strand.declared.outside.Strand.{Strand}
+use Rattle.schedule_commit.specs.Absorbing.{DoesFrameStrand, GoesAloneIn, KeepsHand, LeavesStallsBy, StandsAlone, steps_in}
+use Rattle.schedule_commit.specs.frame_strand.declared.outside.FrameStrand.{FrameStrand}
 use Rattle.schedule_commit.specs.laws_strands.Law.{Happen, steps_by}
 use Rattle.schedule_workers.specs.declared.run.Run.{Run}
 use Rattle.schedule_workers.specs.Follows.{Follows}
@@ -30,7 +30,7 @@ use Rattle.schedule_core.proofs.laws_workers.strands.Law.{alone_too}
 use Rattle.schedule_core.specs.declared.stage.Stage.{Stage}
 use Rattle.schedule_core.specs.Replaying.{AreEnabled, IsMachine, LeavesAsBefore, Replays, ReplaysMore, event_of, first_state, state_after}
 use Rattle.schedule_core.specs.Stages.{GoesWell, IsReached, IsState, program_of, workers_of}
-use Rattle.schedule_core.specs.Strands.{Absorbs, TakesSteps}
+use Rattle.schedule_core.specs.FrameStrands.{Absorbs, TakesSteps}
 use Rattle.schedule_core.proofs.Again.{shown_again}
 use Rattle.schedule_core.proofs.Promised.{machine_of, machine_same}
 use Rattle.schedule_core.proofs.Replaying.{leaves_as_before, with_run}
@@ -69,7 +69,7 @@ module _ (prog : Program) (workers : ℕ) where
   well_all [] m w = w
   well_all (e ∷ events) m w =
       well_all events (or_unchanged (running.event prog workers e m) m)
-      (record { safe = λ more. w.safe (e ∷ more); deep = λ more. w.deep (e ∷ more); full = λ more. w.full (e ∷ more) })
+      (record { safe = λ more. w.safe (e ∷ more); strands = λ more. w.strands (e ∷ more); full = λ more. w.full (e ∷ more) })
 
   reached_all : (events : List running.Event) (m : Machine) → IsReached prog workers m → IsReached prog workers (replay prog workers events m)
   reached_all events m r = record {
@@ -152,9 +152,9 @@ stands_alone stage kept =
     ∥∥₁_map kept (λ k.
     let m = state_after (program_of stage) k.arguments stage.memory (workers_of stage) k.events in
     let s = k.replays.state in
-    record { machine = m; shown = s.shown; safe = s.well.safe; alone = alone_too (program_of stage) m (s.well.deep []) })
+    record { machine = m; shown = s.shown; safe = s.well.safe; alone = alone_too (program_of stage) m (s.well.strands []) })
 
-pub absorbs : (old : Stage) (k : Run) → length k.hands.items ≡ length old.run.hands.items → (w : ℕ) (x : Strand) → ∥ DoesStrand (program_of old) old.places old.run k w x ∥₁ →
+pub absorbs : (old : Stage) (k : Run) → length k.hands.items ≡ length old.run.hands.items → (w : ℕ) (x : FrameStrand) → ∥ DoesFrameStrand (program_of old) old.places old.run k w x ∥₁ →
     LeavesStallsBy (program_of old) old.places old.run k w (steps_in x.pause x.course.done) → KeepsHand (program_of old) old.places old.run w x → Absorbs old (with_run old k) w x
 absorbs old k many w x does stalls hand = record {
   steps = takes_steps old k many w (steps_in x.pause x.course.done) (λ m s. ∥∥₁_map does (λ d. d m s.shown s.well.safe (alone m s))) (λ m s. stalls m s.shown s.well.safe (alone m s));
@@ -162,7 +162,7 @@ absorbs old k many w x does stalls hand = record {
 }
   where
     alone : (m : Machine) → IsState old m → GoesAloneIn (program_of old) m
-    alone m s = alone_too (program_of old) m (s.well.deep [])
+    alone m s = alone_too (program_of old) m (s.well.strands [])
 
 -- ---- a stage stays a machine
 

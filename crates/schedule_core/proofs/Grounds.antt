@@ -19,8 +19,8 @@ use Rattle.serial_machine.proofs.laws_schedule.safe.Safe.{schedules_are_safe}
 use Rattle.schedule_core.specs.laws_workers.Safe.{StartFits}
 use Rattle.schedule_core.proofs.laws_workers.Going.{runs_are_safe}
 use Rattle.schedule_core.proofs.laws_workers.Texts.{texts_fit, starts_fit}
-use Rattle.schedule_core.specs.laws_workers.strands.Promise.{StaysSafeDeep}
-use Rattle.schedule_core.proofs.laws_workers.strands.Law.{frames_go_deep}
+use Rattle.schedule_core.specs.laws_workers.strands.Promise.{StaysSafeAsStrands}
+use Rattle.schedule_core.proofs.laws_workers.strands.Law.{frames_go_as_strands}
 use Rattle.schedule_workers.specs.Going.{RunsSafely, TextFits}
 use Rattle.frame_engine.specs.Fits.{HasMoves}
 use Rattle.schedule_workers.specs.Starts.{ArePlaces}
@@ -34,8 +34,8 @@ use Rattle.frame.specs.declared.event.Event.{Event as MachineEvent}
 pub record FromStart (program : Program) (arguments : List ℤ) (globals : List NamedCells) (workers : ℕ) : Type 0 where
   -- no worker's step traps, and each frame in a worker's hand can do its step (crew_promise)
   pub safe : RunsSafely program workers (start program arguments (given globals))
-  -- a worker's frame may go deep apart, with other numbers in the cells (strand_promise)
-  pub deep : (events : List Event) → StaysSafeDeep program (replay program workers events (start program arguments (given globals)))
+  -- a worker's frame may go on as a strand, with other numbers in the cells (strand_promise)
+  pub strands : (events : List Event) → StaysSafeAsStrands program (replay program workers events (start program arguments (given globals)))
   -- globals keep their numbers (schedule_theorem's `schedules_are_safe`)
   pub full : (events : List Event) → AreFull program (replay program workers events (start program arguments (given globals))).core.memory
   -- the schedule theorem (schedule_theorem's `accepted_programs_keep_their_promise`)
@@ -87,7 +87,7 @@ module _ (program : Program) (a : IsAccepted program) (arguments : List ℤ) (no
     from : FromStart program arguments globals workers
     from = record {
       safe = runs_are_safe a.text program a.means arguments (given globals) taken valued workers some;
-      deep = λ events. frames_go_deep a.text program a.means arguments (given globals) taken valued workers some events;
+      strands = λ events. frames_go_as_strands a.text program a.means arguments (given globals) taken valued workers some events;
       full = λ events g i global is low.
           (schedules_are_safe a.text program a.means arguments (given globals) taken valued workers some events).globals g i (subst (λ o. i < global_cells o) (sym is) low);
       keeps = λ events.

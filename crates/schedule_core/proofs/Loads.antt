@@ -18,13 +18,13 @@ use Rattle.schedule_commit.specs.Fitting.{FitsRun, HoldReads}
 use Rattle.schedule_commit.specs.frame_strand.Along.{IsGoing, MayBegin, MayGo, pause_in}
 use Rattle.schedule_commit.specs.frame_strand.Standing.{IsCopy}
 use Rattle.schedule_commit.specs.frame_strand.declared.cells.Read.{Read}
-use Rattle.schedule_commit.specs.frame_strand.declared.outside.Strand.{Strand}
+use Rattle.schedule_commit.specs.frame_strand.declared.outside.FrameStrand.{FrameStrand}
 use Rattle.schedule_commit.specs.frame_strand.declared.standing.Course.{Course}
 use Rattle.schedule_commit.specs.frame_strand.declared.standing.Pause.{Pause}
 use Rattle.schedule_commit.specs.frame_strand.declared.standing.Pause.TheVariants.{Blank}
 use Rattle.schedule_commit.specs.laws_strands.Footprint.{Footprint, held}
-use Rattle.schedule_commit.specs.laws_strands.Strands as strands
-use Rattle.schedule_commit.specs.laws_strands.Strands.{Access, Nowhere, Loads, Stores, Adds, access_of, is_border, is_full, most_done, need, next_of, pause_of}
+use Rattle.schedule_commit.specs.laws_strands.FrameStrands as frame_strands
+use Rattle.schedule_commit.specs.laws_strands.FrameStrands.{Access, Nowhere, Loads, Stores, Adds, access_of, is_border, is_full, most_done, need, next_of, pause_of}
 use Rattle.std.specs.Prelude.{is_some, nat_le}
 use Rattle.schedule_workers.specs.declared.activation.Activation.{Activation}
 use Rattle.schedule_workers.specs.Layouts.{layout_of, object_at}
@@ -35,7 +35,7 @@ use Rattle.schedule_core.proofs.laws_workers.strands.Law.{alone_too}
 use Rattle.schedule_core.specs.declared.stage.Stage.{Stage}
 use Rattle.schedule_core.specs.Replaying.{IsMachine, KeepsItsSchedule, state_after}
 use Rattle.schedule_core.specs.Stages.{program_of, workers_of}
-use Rattle.schedule_core.specs.Strands.{HasRoomFor, IsLoaded}
+use Rattle.schedule_core.specs.FrameStrands.{HasRoomFor, IsLoaded}
 use Rattle.schedule_core.proofs.Grounds.{laws}
 use Rattle.schedule_core.proofs.Views.{hand_is}
 
@@ -58,7 +58,7 @@ module _ (stage : Stage) (kept : ∥ IsMachine stage ∥₁) (worker slot : ℕ)
         goes = record {
           shown = g.shows.shown;
           apart = s.shown.shows.cells.apart;
-          stays = alone_too (program_of stage) m (s.well.deep []) worker (place_of node) g.frame (hand_is stage m s worker slot node hand stands) g.is (object_at stage.places stage.run.cactus);
+          stays = alone_too (program_of stage) m (s.well.strands []) worker (place_of node) g.frame (hand_is stage m s worker slot node hand stands) g.is (object_at stage.places stage.run.cactus);
         };
       })
 
@@ -77,28 +77,28 @@ module _ (stage : Stage) (kept : ∥ IsMachine stage ∥₁) (worker slot : ℕ)
 
 -- ---- a loaded strand is not blank
 
-blank_never : (l : Layout) (o : Option strands.Pause) → o ≢ Some strands.Blank → option_map (pause_in l) o ≡ Some Blank → ⊥
+blank_never : (l : Layout) (o : Option frame_strands.Pause) → o ≢ Some frame_strands.Blank → option_map (pause_in l) o ≡ Some Blank → ⊥
 blank_never l None off e = absurd (cc)
-blank_never l (Some strands.Blank) off e = off refl
-blank_never l (Some strands.Border) off e = absurd (cc)
-blank_never l (Some strands.Limit) off e = absurd (cc)
-blank_never l (Some strands.Full) off e = absurd (cc)
-blank_never l (Some (strands.Need c)) off e = absurd (cc)
+blank_never l (Some frame_strands.Blank) off e = off refl
+blank_never l (Some frame_strands.Border) off e = absurd (cc)
+blank_never l (Some frame_strands.Limit) off e = absurd (cc)
+blank_never l (Some frame_strands.Full) off e = absurd (cc)
+blank_never l (Some (frame_strands.Need c)) off e = absurd (cc)
 
-need_never : (f : Footprint) (a : Access) → need f a ≡ Some strands.Blank → ⊥
+need_never : (f : Footprint) (a : Access) → need f a ≡ Some frame_strands.Blank → ⊥
 need_never f Nowhere e = absurd (cc)
 need_never f (Stores c) e = absurd (cc)
 need_never f (Adds c) e = absurd (cc)
 need_never f (Loads c) e = by (is_some (held f c)) e
   where
-    by : (b : Bool) → cond b None (Some (strands.Need c)) ≡ Some strands.Blank → ⊥
+    by : (b : Bool) → cond b None (Some (frame_strands.Need c)) ≡ Some frame_strands.Blank → ⊥
     by true e = cc
     by false e = cc
 
-pause_never : (prog : Program) (s : strands.Strand) → pause_of prog s ≡ Some strands.Blank → ⊥
+pause_never : (prog : Program) (s : frame_strands.FrameStrand) → pause_of prog s ≡ Some frame_strands.Blank → ⊥
 pause_never prog s = by (is_border (next_of prog s.present)) (nat_le most_done s.done) (is_full s.footprint (access_of prog s.present))
   where
-    by : (a b c : Bool) → cond a (Some strands.Border) (cond b (Some strands.Limit) (cond c (Some strands.Full) (need s.footprint (access_of prog s.present)))) ≡ Some strands.Blank → ⊥
+    by : (a b c : Bool) → cond a (Some frame_strands.Border) (cond b (Some frame_strands.Limit) (cond c (Some frame_strands.Full) (need s.footprint (access_of prog s.present)))) ≡ Some frame_strands.Blank → ⊥
     by true b c e = cc
     by false true c e = cc
     by false false true e = cc
@@ -128,7 +128,7 @@ copy_back f g copy = record {
   depth = sym copy.depth;
 }
 
-pub is_loaded : (stage : Stage) (worker slot : ℕ) (node : Node Activation) (x : Strand) → hand_of stage.run.hands.items worker ≡ Some slot → node_at stage.run.cactus slot ≡ Some node →
+pub is_loaded : (stage : Stage) (worker slot : ℕ) (node : Node Activation) (x : FrameStrand) → hand_of stage.run.hands.items worker ≡ Some slot → node_at stage.run.cactus slot ≡ Some node →
     x.course.path.items ≡ node.path.numbers → IsCopy node.frame.frame x.course.loaded → x.course.done ≡ 0 → x.course.cells.reads ≡ [] → x.pause ≢ Some Blank → IsLoaded stage worker x
 is_loaded stage worker slot node x hand stands path copy done reads going = record { fits = (going, (slot, fits)); done = done; reads = reads }
   where

@@ -41,7 +41,7 @@ module _ (prog : Program) (workers : ℕ) where
   well_next : (m next : Machine) (e : running.Event) → GoesWell prog workers m → running.event prog workers e m ≡ Some next → GoesWell prog workers next
   well_next m next e w is =
       let after : or_unchanged (running.event prog workers e m) m ≡ next = ap (λ o. or_unchanged o m) is in
-      subst (λ x. GoesWell prog workers x) after (record { safe = λ events. w.safe (e ∷ events); deep = λ events. w.deep (e ∷ events); full = λ events. w.full (e ∷ events) })
+      subst (λ x. GoesWell prog workers x) after (record { safe = λ events. w.safe (e ∷ events); strands = λ events. w.strands (e ∷ events); full = λ events. w.full (e ∷ events) })
 
 -- ---- one event
 

@@ -6,8 +6,8 @@ pub mod Replaying
 pub mod Parents
 pub mod Spots
 pub mod Over
+pub mod FrameStrands
 pub mod Strands
-pub mod Piles
 pub mod Resting
 pub mod ReadyBelow
 pub mod FrameViews
@@ -19,7 +19,7 @@ pub use Rattle.serial_machine.specs.laws_schedule as laws_schedule
 pub use Rattle.serial_machine.specs.verifier as verifier
 pub use Rattle.schedule_commit.specs as schedule_commit
 pub use Rattle.schedule_commit.specs.frame_strand as frame_strand
-pub use Rattle.schedule_commit.specs.private_stack as private_stack
+pub use Rattle.schedule_commit.specs.strand as strand
 pub use Rattle.frame_engine.specs as frame_engine
 pub use Rattle.schedule_workers.specs as schedule_workers
 pub use Rattle.program.specs as program

@@ -7,7 +7,7 @@ use Rattle.program.specs.declared.function.Global.{Global}
 use Rattle.program.specs.declared.function.Program.{Program}
 use Rattle.serial_machine.specs.store.Cells.{NamedCells, cell_at, number_of}
 use Rattle.serial_machine.specs.store.Rows.{sizes_of}
-use Rattle.schedule_core.specs.laws_workers.strands.Promise.{StaysSafeDeep}
+use Rattle.schedule_core.specs.laws_workers.strands.Promise.{StaysSafeAsStrands}
 use Rattle.schedule_workers.specs.Going.{RunsSafely}
 use Rattle.schedule_workers.specs.Shown.{IsShown}
 use Rattle.schedule_core.specs.declared.stage.Stage.{Stage}
@@ -58,10 +58,10 @@ pub record IsReached (prog : Program) (workers : ℕ) (m : Machine) : Type 0 whe
   pub events : List Event
   pub after : replay prog workers events (start prog arguments memory) ≡ m
 
--- wherever events lead from this machine, workers can go on, their frames may go deep apart, and the globals' cells hold numbers
+-- wherever events lead from this machine, workers can go on, their frames may go on as strands, and the globals' cells hold numbers
 pub record GoesWell (prog : Program) (workers : ℕ) (m : Machine) : Type 0 where
   pub safe : RunsSafely prog workers m
-  pub deep : (events : List Event) → StaysSafeDeep prog (replay prog workers events m)
+  pub strands : (events : List Event) → StaysSafeAsStrands prog (replay prog workers events m)
   pub full : (events : List Event) → AreFull prog (replay prog workers events m).core.memory
 
 -- the stage stands as this machine

@@ -1,49 +1,41 @@
--- What strands are to a stage: copies of a worker's frame that went on apart.
-use Rattle.std.specs.Prelude.{◌≡◌, ◌≢◌, ℕ, ◌≤◌, [], replicate, Some, vec_capacity}
+-- What strands are to a stage: stacks of frames that went on apart, from a worker's frame on.
+use Rattle.std.specs.Prelude.{◌≡◌, ℕ, ℤ, length, None, true}
 use Rattle.semantics.specs.Events as running
-use Rattle.semantics.specs.Replay.{replay}
 use Rattle.program.specs.declared.function.Program.{Program}
-use Rattle.schedule_commit.specs.Absorbing.{steps_in}
-use Rattle.schedule_commit.specs.Fitting.{FitsRun}
-use Rattle.schedule_commit.specs.frame_strand.declared.outside.Strand.{Strand}
-use Rattle.schedule_commit.specs.frame_strand.declared.standing.Pause.TheVariants.{Blank}
-use Rattle.schedule_commit.specs.laws_strands.Law.{steps_by}
+use Rattle.frame_engine.specs.declared.activation.Places.{Places}
+use Rattle.frame_engine.specs.Fits.{HasMoves}
 use Rattle.schedule_workers.specs.Starts.{ArePlaces}
-use Rattle.serial_machine.specs.verifier.Budgets.{IsDepthOf}
-use Rattle.frame.specs.declared.event.Event.TheVariants.{Step}
+use Rattle.schedule_commit.specs.strand.strand_pages.Tables.{log_of}
+use Rattle.schedule_commit.specs.strand.Along.{IsUnderWay}
+use Rattle.schedule_commit.specs.strand.declared.strand.Strand.{Strand}
+use Rattle.schedule_workers.specs.Lent.{IsPartFor}
+use Rattle.schedule_commit.specs.strands.Fitting.{FitsStrand, HasNoChild, segment_block}
 use Rattle.schedule_core.specs.declared.stage.Stage.{Stage}
-use Rattle.schedule_core.specs.Replaying.{AreEnabled, ReplaysMore}
-use Rattle.schedule_core.specs.Stages.{IsState, program_of, workers_of}
+use Rattle.schedule_core.specs.Stages.{IsState, program_of}
 
--- so many numbers of a path are room for each frame of the module's runs
-pub record HasRoomFor (program : Program) (room : ℕ) : Type 0 where
-  pub depth : ℕ
-  pub is_depth : IsDepthOf program depth
-  pub within : depth ≤ room
+-- for the phi moves of any edge
+abbrev pub HasRoomFor : Program → Strand → Type 0
+HasRoomFor program x = HasMoves program (length x.moves.items)
 
--- the strand was made for the module, with room for the path of each frame
-pub record IsMadeOf (program : Program) (x : Strand) : Type 0 where
-  pub module_is : x.program.now ≡ program
-  pub places_are : ArePlaces program x.places.now
-  pub room : ∥ HasRoomFor program (vec_capacity x.course.path) ∥₁
+-- the strand is under way in the module, whose objects begin at these places
+pub record IsStrandOf (program : Program) (x : Strand) : Type 0 where
+  pub places : Places
+  pub places_are : ArePlaces program places
+  pub way : ∥ IsUnderWay program places x ∥₁
 
--- the worker runs the frame that was loaded, word for word, at its path, and each cell that was read holds what was read
-abbrev pub FitsStage : Stage → ℕ → Strand → Type 0
-FitsStage stage worker x = (x.pause ≢ Some Blank) × ((slot : ℕ) × FitsRun stage.run worker x slot)
+-- the worker runs the base as it was loaded, at its path, without children if it had none, and each cell that was read holds what was read
+abbrev pub StrandFits : Stage → ℕ → Strand → Type 0
+StrandFits stage worker x = (slot : ℕ) × FitsStrand (program_of stage) stage.run worker x slot
 
--- the strand is of the worker's frame, before its first instruction
-pub record IsLoaded (stage : Stage) (worker : ℕ) (x : Strand) : Type 0 where
-  pub fits : FitsStage stage worker x
-  pub done : x.course.done ≡ 0
-  pub reads : x.course.cells.reads ≡ []
+-- The base is the worker's frame, before its first instruction. It is said to have no child where it has none. Its segment is the larger free part at an
+-- end of the worker's piece of the cells that are lent.
+pub record IsBegun (stage : Stage) (worker : ℕ) (x : Strand) : Type 0 where
+  pub way : (places : Places) → ArePlaces (program_of stage) places → ∥ IsUnderWay (program_of stage) places x ∥₁
+  pub fits : StrandFits stage worker x
+  pub childless : HasNoChild fits.1.node.frame → x.base.childless ≡ true
+  pub part : IsPartFor (program_of stage) stage.run worker (segment_block x.cells)
+  pub done : x.done ≡ 0
+  pub reads : (a : ℤ) → (log_of x.cells.log).reads a ≡ None
 
--- so many steps of the worker are enabled one after the other, and after them the stage is the other
-pub record TakesSteps (old new : Stage) (worker steps : ℕ) : Type 0 where
-  pub replays : ReplaysMore old new (replicate steps (Step worker))
-  pub enabled : (m : running.Machine) → IsState old m → AreEnabled (program_of old) (workers_of old) (steps_by worker steps) m
-
--- A strand is its instructions, and the border's where it stands at one; up to the border the worker runs the same frame.
-pub record Absorbs (old new : Stage) (worker : ℕ) (x : Strand) : Type 0 where
-  pub steps : TakesSteps old new worker (steps_in x.pause x.course.done)
-  pub hand : (m : running.Machine) → IsState old m →
-      (replay (program_of old) (workers_of old) (steps_by worker x.course.done) m).hands worker ≡ m.hands worker
+abbrev pub RunsNothing : Stage → ℕ → Type 0
+RunsNothing stage worker = (m : running.Machine) → IsState stage m → m.hands worker ≡ None

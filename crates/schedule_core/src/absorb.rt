@@ -1,4 +1,4 @@
-//! Strands: what a worker did outside of the machine on a copy of its frame, done at once.
+//! Frame strands: what a worker did outside of the machine on a copy of its frame, done at once.
 ghost use Rattle.std.specs.Prelude.{◌≡◌, ◌↔◌, ℤ, IfOk, IsTrue, None, Ok, OnErr, Some, false, true};
 ghost use Rattle.semantics.specs.Cells.{Cell};
 ghost use Rattle.semantics.specs.Events.{Machine as RunningMachine};
@@ -12,13 +12,13 @@ ghost use Rattle.schedule_workers.specs.Starts.{ArePlaces};
 ghost use Rattle.schedule_core.specs.Replaying.{IsMachine, LeavesAsBefore};
 ghost use Rattle.schedule_core.specs.Spots.{KeepsSpots};
 ghost use Rattle.schedule_core.specs.Stages.{IsState, program_of};
-ghost use Rattle.schedule_core.specs.Strands.{Absorbs, FitsStage, IsLoaded, IsMadeOf};
+ghost use Rattle.schedule_core.specs.FrameStrands.{Absorbs, FrameStrandFits, IsLoaded, IsMadeOf};
 
 use crate::machine::Machine;
 use crate::stage::Stage;
 use frame_engine::Places;
 use lists::OutOfMemory;
-use schedule_commit::{Pause, Strand, absorb, cell};
+use schedule_commit::{FrameStrand, Pause, absorb, cell};
 use serial_machine::Verified;
 use std::alloc::Global;
 
@@ -34,7 +34,7 @@ pub fn places_of(alloc: Global, verified: &Verified) -> Result<Places, OutOfMemo
 }
 
 /// How many steps of its worker a strand is: its instructions, and the border's where it stands at one.
-pub fn steps_of(strand: &Strand<'_>) -> u64
+pub fn steps_of(strand: &FrameStrand<'_>) -> u64
     ensures { result ≡ steps_in strand.now.pause strand.now.course.done }
 {
     match strand.pause() {
@@ -44,10 +44,14 @@ pub fn steps_of(strand: &Strand<'_>) -> u64
 }
 
 /// A strand's steps, if the strand fits. The answer is whether it does; where it does not, nothing changes.
-fn absorb_into(stage: &mut Stage<'_>, worker: u8, strand: &Strand<'_>) -> Result<bool, OutOfMemory>
+fn absorb_into(
+    stage: &mut Stage<'_>,
+    worker: u8,
+    strand: &FrameStrand<'_>,
+) -> Result<bool, OutOfMemory>
     requires machine { ∥ IsMachine stage.old ∥₁ }
     requires made { IsMadeOf (program_of stage.old) strand.now }
-    ensures exactly { IfOk result (λ done. IsTrue done ↔ FitsStage stage.old worker strand.now) }
+    ensures exactly { IfOk result (λ done. IsTrue done ↔ FrameStrandFits stage.old worker strand.now) }
     ensures does { result ≡ Ok true → Absorbs stage.old stage.new worker strand.now }
     ensures left { result ≡ Ok false → stage.new ≡ stage.old }
     ensures refused { OnErr result (LeavesAsBefore stage.old stage.new) }
@@ -60,15 +64,15 @@ fn absorb_into(stage: &mut Stage<'_>, worker: u8, strand: &Strand<'_>) -> Result
 }
 
 impl Machine<'_> {
-    /// Does what a strand did as steps of the worker, and the border's with them where the strand stands at one, if the worker runs the
+    /// Does what a frame strand did as steps of the worker, and the border's with them where the strand stands at one, if the worker runs the
     /// loaded frame at its path and each cell that was read holds what was read. The answer is whether that is so; if not, nothing changes.
     ///
     /// # Errors
     ///
     /// Memory was refused: nothing has changed that is seen of the machine.
-    pub fn absorb(&mut self, worker: u8, strand: &Strand<'_>) -> Result<bool, OutOfMemory>
+    pub fn absorb(&mut self, worker: u8, strand: &FrameStrand<'_>) -> Result<bool, OutOfMemory>
         requires made { IsMadeOf (program_of self.old.stage) strand.now }
-        ensures exactly { IfOk result (λ done. IsTrue done ↔ FitsStage self.old.stage worker strand.now) }
+        ensures exactly { IfOk result (λ done. IsTrue done ↔ FrameStrandFits self.old.stage worker strand.now) }
         ensures does { result ≡ Ok true → Absorbs self.old.stage self.new.stage worker strand.now }
         ensures left { result ≡ Ok false → self.new.stage ≡ self.old.stage }
         ensures refused { OnErr result (LeavesAsBefore self.old.stage self.new.stage) }
@@ -78,9 +82,9 @@ impl Machine<'_> {
         absorb_into(&mut self.stage, worker, strand)
     }
 
-    /// Loads the frame that the worker runs next into a blank strand; it takes no memory. The answer is whether there is such a frame; if
+    /// Loads the frame that the worker runs next into a blank frame strand; it takes no memory. The answer is whether there is such a frame; if
     /// not, the strand is as it was.
-    pub fn load_strand(&self, worker: u8, strand: &mut Strand<'_>) -> bool
+    pub fn load_frame_strand(&self, worker: u8, strand: &mut FrameStrand<'_>) -> bool
         requires made { IsMadeOf (program_of self.now.stage) strand.old }
         requires blank { strand.old.pause ≡ Some Blank }
         ensures made { IsMadeOf (program_of self.now.stage) strand.new }

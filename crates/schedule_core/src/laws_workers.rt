@@ -4,14 +4,14 @@
 //! - `Safe`: wherever a schedule leads, each worker's frame can do its next step (`runs_are_safe`), and what the text names is there (`texts_fit`).
 //! - `Promise`: so a run that shows a state to which a schedule leads stands safely, shows such a state again after each event, and keeps the
 //!   schedule theorem.
-//! - `strands`: a worker's frame may go on apart from the machine, alone or over borders (`frames_go_alone`, `frames_go_deep`).
+//! - `strands`: a worker's frame may go on apart from the machine, alone or over borders (`frames_go_alone`, `frames_go_as_strands`).
 
 ghost use Rattle.schedule_core.specs.laws_workers.Promise.{RunsHoldGlobals, RunsKeepTheirSchedules, RunsStandSafely, RunsStayScheduled};
 ghost use Rattle.schedule_core.specs.laws_workers.Safe.{RunsAreSafe, StartsFit, TextsFit};
 
 pub mod strands;
 
-pub use strands::{frames_go_alone, frames_go_deep, loaded_frames_go_deep};
+pub use strands::{frames_go_alone, frames_go_as_strands, loaded_frames_go_as_strands};
 
 /// Of a program that `verify` takes, with arguments that `main` takes and globals that have values: wherever a schedule leads, each worker's
 /// frame can do its next step. It does not trap, the cells that it stores or adds to are there wherever objects lie, and its numbers fit.

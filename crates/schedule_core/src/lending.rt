@@ -1,4 +1,4 @@
-//! Cells that workers have apart from the machine, for the frames of stacks of their own.
+//! Cells that workers have apart from the machine, for the frames of their strands.
 ghost use Rattle.std.specs.Prelude.{◌*◌, OnOk};
 ghost use Rattle.schedule_workers.specs.Lent.{Lends};
 ghost use Rattle.schedule_core.specs.Replaying.{IsMachine, LeavesAsBefore};
@@ -22,7 +22,7 @@ fn lend_cells(stage: &mut Stage<'_>, cells: usize) -> Result<(), OutOfMemory>
 }
 
 impl Machine<'_> {
-    /// Lends each worker cells for the frames of a stack of its own, where none are lent yet. Nothing changes that is seen of the machine.
+    /// Lends each worker cells for the frames of its strands, where none are lent yet. Nothing changes that is seen of the machine.
     ///
     /// # Errors
     ///

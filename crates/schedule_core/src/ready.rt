@@ -1,4 +1,4 @@
-//! The ready tasks whose tops stand below the frame that a worker runs, as a deep strand leaves them.
+//! The ready tasks whose tops stand below the frame that a worker runs, as a strand leaves them.
 ghost use Rattle.std.specs.Prelude.{◌≡◌, ◌+◌, ◌<◌, ◌≤◌, [], IfSome, IfNone, reverse, vec_capacity, vec_len};
 ghost use Rattle.semantics.specs.Events as running;
 ghost use Rattle.cactus.specs.ByPath.{IsTree};
@@ -56,7 +56,7 @@ impl Machine<'_> {
     }
 
     /// The ready tasks whose tops are among so many frames below the one that the worker runs next, the outermost first; it takes no memory.
-    /// After a pile's steps these are the tasks that its detaches left, where it had so many frames below its top.
+    /// After a strand's steps these are the tasks that its detaches left, where it had so many frames below its top.
     pub fn ready_below(&self, worker: u8, levels: usize, spots: &mut Vec<Spot>)
         requires empty { spots.old.items ≡ [] }
         requires room { levels ≤ vec_capacity spots.old }

@@ -10,13 +10,13 @@ use Rattle.semantics.specs.Replay.{or_unchanged, replay}
 use Rattle.program.specs.declared.function.Program.{Program}
 use Rattle.schedule_core.specs.schedule_commit.Absorbing.{steps_in}
 use Rattle.schedule_core.specs.schedule_commit.laws_strands.Law.{steps_by}
-use Rattle.schedule_core.specs.frame_strand.declared.outside.Strand.{Strand}
+use Rattle.schedule_core.specs.frame_strand.declared.outside.FrameStrand.{FrameStrand}
 use Rattle.schedule_core.specs.frame_strand.declared.standing.Pause.{Pause}
 use Rattle.schedule_core.specs.frame_strand.declared.standing.Pause.TheVariants.{Blank, Border, Limit, Full, Need}
 use Rattle.schedule_core.specs.Parents.{HasNoReadyParent, IsReadyParent}
 use Rattle.schedule_core.specs.Replaying.{AreEnabled, event_of}
 use Rattle.schedule_core.specs.Stages.{program_of, workers_of}
-use Rattle.schedule_core.specs.Strands.{Absorbs, TakesSteps}
+use Rattle.schedule_core.specs.FrameStrands.{Absorbs, TakesSteps}
 use Rattle.frame.specs.declared.event.Event.{Event}
 use Rattle.frame.specs.declared.event.Event.TheVariants.{Step}
 use Rattle.schedule_core.specs.declared.stage.Stage.{Stage}
@@ -71,7 +71,7 @@ module _ (o : Origin) (events : List Event) (stage : Stage) (legal : IsLegal o e
         let r = room o (events ++ replicate n (Step w)) new (legal_steps (events ++ replicate n (Step w)) refl) in
         omega (arith, r, length-append events (replicate n (Step w)), length-replicate n (Step w))
 
-  pub hand_here : (new : Stage) (w : ℕ) (x : Strand) → Absorbs stage new w x →
+  pub hand_here : (new : Stage) (w : ℕ) (x : FrameStrand) → Absorbs stage new w x →
       (replay o.program o.workers (steps_by w x.course.done) (reached o events)).hands w ≡ (reached o events).hands w
   hand_here new w x a =
       here (λ q c. (replay q c (steps_by w x.course.done) (reached o events)).hands w ≡ (reached o events).hands w) (a.hand (reached o events) legal.replays.state)
@@ -97,7 +97,7 @@ not_below before (depth, was, now) = let e : Some depth ≡ Some (depth + 1) = s
 
 -- ---- what is answered
 
-module _ (s t : Story) (p q : Place) (legal : IsLegal s.start s.events s.stage) (after : IsLegal t.start t.events t.stage) (x : Strand) (appends : Appends (replicate (steps_in x.pause x.course.done) (Step p.worker)) s t p q) (a : Absorbs s.stage t.stage p.worker x) where
+module _ (s t : Story) (p q : Place) (legal : IsLegal s.start s.events s.stage) (after : IsLegal t.start t.events t.stage) (x : FrameStrand) (appends : Appends (replicate (steps_in x.pause x.course.done) (Step p.worker)) s t p q) (a : Absorbs s.stage t.stage p.worker x) where
   abbrev w : ℕ
   w = p.worker
 
@@ -169,7 +169,7 @@ module _ (s t : Story) (p q : Place) (legal : IsLegal s.start s.events s.stage) 
         by (Some (Need at)) is = plain (steps (Some (Need at)) is) (λ e. let f : Some (Need at) ≡ Some Border = sym is ∙ e in cc)
         by (Some Border) is = at_border is (steps (Some Border) is)
 
-module _ (s t : Story) (p q : Place) (legal : IsLegal s.start s.events s.stage) (x : Strand) (w : ℕ) (mine : w ≡ p.worker) where
+module _ (s t : Story) (p q : Place) (legal : IsLegal s.start s.events s.stage) (x : FrameStrand) (w : ℕ) (mine : w ≡ p.worker) where
   pub commits_done : (b : Bool) → b ≡ true → Absorbing x s t p q b → IsLegal t.start t.events t.stage → (before : Option ℕ) → before ≡ depth_in (state_of s) w → (ready : Option Ticket) →
       IfSome ready (λ ticket. IsReadyParent t.stage.run (state_of t) w ticket.slot ticket.generation) → IfSome ready (λ ticket. IsOneBelow before (depth_in (state_of t) w)) →
       IfNone ready (IsOneBelow before (depth_in (state_of t) w) → HasNoReadyParent (workers_of t.stage) (state_of t) w) →

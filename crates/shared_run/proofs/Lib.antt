@@ -6,7 +6,7 @@ pub mod Begun
 pub mod Calls
 pub mod Commits
 pub mod Made
-pub mod Stacks
+pub mod Strands
 pub mod Resting
 -- for the crates above
 pub use Rattle.schedule_core.proofs as schedule_core

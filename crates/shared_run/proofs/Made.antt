@@ -3,13 +3,13 @@ use Rattle.std.proofs.Common.{◌≡◌, ◌∙◌, ◌≤◌, ℕ, arith, sym, 
 use Rattle.std.specs.Prelude.{Result, Ok, Err, IfOk, vec_capacity}
 use Rattle.schedule_workers.specs.Starts.{ArePlaces}
 use Rattle.lists.specs.declared.memory.OutOfMemory.{OutOfMemory}
-use Rattle.schedule_core.specs.Strands.{HasRoomFor, IsMadeOf}
+use Rattle.schedule_core.specs.FrameStrands.{HasRoomFor, IsMadeOf}
 use Rattle.schedule_core.specs.frame_engine.declared.activation.Places.{Places}
-use Rattle.schedule_core.specs.frame_strand.declared.outside.Strand.{Strand}
+use Rattle.schedule_core.specs.frame_strand.declared.outside.FrameStrand.{FrameStrand}
 use Rattle.schedule_core.specs.verifier.Budgets.{IsDepthOf}
 use Rattle.program.specs.declared.function.Program.{Program}
 
-pub made_still : (program : Program) (x y : Strand) → IsMadeOf program x → y.program.now ≡ x.program.now → y.places.now ≡ x.places.now →
+pub made_still : (program : Program) (x y : FrameStrand) → IsMadeOf program x → y.program.now ≡ x.program.now → y.places.now ≡ x.places.now →
     vec_capacity y.course.path ≡ vec_capacity x.course.path → IsMadeOf program y
 made_still program x y made same places room = record {
   module_is = same ∙ made.module_is;
@@ -18,7 +18,7 @@ made_still program x y made same places room = record {
 }
 
 -- with room for as many numbers as the module's depth
-pub made_new : (program : Program) (places : Places) (depth : ℕ) (r : Result Strand OutOfMemory) → IsDepthOf program depth → ArePlaces program places →
+pub made_new : (program : Program) (places : Places) (depth : ℕ) (r : Result FrameStrand OutOfMemory) → IsDepthOf program depth → ArePlaces program places →
     IfOk r (λ s. s.program.now ≡ program) → IfOk r (λ s. s.places.now ≡ places) → IfOk r (λ s. vec_capacity s.course.path ≡ depth) → IfOk r (IsMadeOf program)
 made_new program places depth (Err refused) is at same beside room = tt
 made_new program places depth (Ok s) is at same beside room = record {

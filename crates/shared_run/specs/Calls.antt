@@ -11,9 +11,9 @@ use Rattle.program.specs.declared.function.Program.{Program}
 use Rattle.frame.specs.declared.path.Path.{Path}
 use Rattle.frame.specs.declared.event.Event.{Event}
 use Rattle.frame.specs.declared.event.Event.TheVariants.{Step, Steal}
-use Rattle.schedule_core.specs.Strands.{Absorbs, FitsStage, IsLoaded}
+use Rattle.schedule_core.specs.FrameStrands.{Absorbs, FrameStrandFits, IsLoaded}
 use Rattle.schedule_core.specs.schedule_commit.Absorbing.{steps_in}
-use Rattle.schedule_core.specs.frame_strand.declared.outside.Strand.{Strand}
+use Rattle.schedule_core.specs.frame_strand.declared.outside.FrameStrand.{FrameStrand}
 use Rattle.schedule_core.specs.frame_strand.declared.standing.Pause.TheVariants.{Blank, Border, Need}
 use Rattle.schedule_core.specs.frame_engine.Flat.{cell_in}
 use Rattle.schedule_core.specs.Replaying.{event_of, LeavesAsBefore, Replays}
@@ -58,7 +58,7 @@ pub record Appends (more : List Event) (s t : Story) (p q : Place) : Type 0 wher
   pub share : q ≡ place p.worker (p.share + length more)
 
 -- the strand has one cell more that it read, and goes on
-pub record IsFilled (x y : Strand) (at z : ℤ) : Type 0 where
+pub record IsFilled (x y : FrameStrand) (at z : ℤ) : Type 0 where
   pub reads : y.course.cells.reads ≡ x.course.cells.reads ++ record { at = at; value = z } ∷ []
   pub loaded : y.course.loaded ≡ x.course.loaded
   pub path : y.course.path ≡ x.course.path
@@ -67,7 +67,7 @@ pub record IsFilled (x y : Strand) (at z : ℤ) : Type 0 where
   pub pause : y.pause ≡ None
 
 -- why a strand gets nothing: it holds a frame, and needs no cell, or one that is not there
-abbrev pub IsStranger : Story → Strand → Type 0
+abbrev pub IsStranger : Story → FrameStrand → Type 0
 IsStranger s x = (x.pause ≢ Some Blank) × ((at : ℤ) → x.pause ≡ Some (Need at) → cell_in s.stage.run.cells.cells.items at ≡ None)
 
 -- what the event makes of the state, where it is enabled
@@ -121,37 +121,37 @@ Steps s t p q stepped.OutOfMemory = Stays s t p q
 -- ---- a strand
 
 -- what a strand gets
-abbrev pub Fetches : Story → Place → Strand → Strand → Fetched → Type 0
+abbrev pub Fetches : Story → Place → FrameStrand → FrameStrand → Fetched → Type 0
 Fetches s p x y fetched.Frame = (x.pause ≡ Some Blank) × IsLoaded s.stage p.worker y
 Fetches s p x y fetched.Cell = (at z : ℤ) × (x.pause ≡ Some (Need at)) × (cell_in s.stage.run.cells.cells.items at ≡ Some z) × IsFilled x y at z
 Fetches s p x y fetched.Idle = (y ≡ x) × (x.pause ≡ Some Blank) × ((state_of s).hands p.worker ≡ None)
 Fetches s p x y fetched.Stranger = (y ≡ x) × IsStranger s x
 
 -- as many steps of the worker as a strand did instructions, up to its border's
-abbrev pub before_border : Story → Place → Strand → Story
+abbrev pub before_border : Story → Place → FrameStrand → Story
 before_border s p x = story s.start (s.events ++ replicate x.course.done (Step p.worker)) s.stage
 
 -- it stands at a detach
-abbrev pub EndsInDetach : Story → Place → Strand → Type 0
+abbrev pub EndsInDetach : Story → Place → FrameStrand → Type 0
 EndsInDetach s p x = (x.pause ≡ Some Border) × IsDetach s.start.program (state_of (before_border s p x)) p.worker
 
 -- the strand's instructions and its border's as steps of the seat's worker, or nothing
-abbrev pub Commits : Strand → Story → Story → Place → Place → Committed → Type 0
+abbrev pub Commits : FrameStrand → Story → Story → Place → Place → Committed → Type 0
 Commits x s t p q (committed.After ready idle ended) =
-    FitsStage s.stage p.worker x
+    FrameStrandFits s.stage p.worker x
     × Appends (replicate (steps_in x.pause x.course.done) (Step p.worker)) s t p q
     × (IsSome ready ↔ EndsInDetach s p x)
     × IfSome ready (IsParents (before_border s p x) t p.worker)
     × (idle ≡ is_none ((state_of t).hands p.worker))
     × (ended ≡ is_some (state_of t).core.result)
-Commits x s t p q committed.Stranger = Same s t p q × ¬ FitsStage s.stage p.worker x
+Commits x s t p q committed.Stranger = Same s t p q × ¬ FrameStrandFits s.stage p.worker x
 Commits x s t p q committed.OutOfMemory = Stays s t p q
 
 -- the strand fits, and its steps were appended; or it does not, and nothing was
-abbrev pub Absorbing : Strand → Story → Story → Place → Place → Bool → Type 0
+abbrev pub Absorbing : FrameStrand → Story → Story → Place → Place → Bool → Type 0
 Absorbing x s t p q true =
-    FitsStage s.stage p.worker x × Appends (replicate (steps_in x.pause x.course.done) (Step p.worker)) s t p q × Absorbs s.stage t.stage p.worker x
-Absorbing x s t p q false = Same s t p q × ¬ FitsStage s.stage p.worker x
+    FrameStrandFits s.stage p.worker x × Appends (replicate (steps_in x.pause x.course.done) (Step p.worker)) s t p q × Absorbs s.stage t.stage p.worker x
+Absorbing x s t p q false = Same s t p q × ¬ FrameStrandFits s.stage p.worker x
 
 -- ---- a claim
 

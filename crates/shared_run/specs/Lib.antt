@@ -1,7 +1,7 @@
 pub mod Spelled
 pub mod Story
 pub mod Calls
-pub mod Stacks
+pub mod Strands
 pub mod Answer
 pub mod Resting
 -- for the crates above

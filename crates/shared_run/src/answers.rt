@@ -18,7 +18,7 @@ pub enum Stepped {
     OutOfMemory,
 }
 
-/// What a strand was given.
+/// What a frame strand was given.
 #[derive(Clone, Copy, PartialEq, Eq)]
 pub enum Fetched {
     /// The frame that the seat's worker runs next.
@@ -34,7 +34,7 @@ pub enum Fetched {
 /// What a commit came to.
 #[derive(Clone, Copy)]
 pub enum Committed {
-    /// The strand's instructions were done, and its border's where it stands at one.
+    /// The frame strand's instructions were done, and its border's where it stands at one.
     After {
         /// Where the last one was a detach: the ticket of the task whose top detached the child.
         ready: Option<Ticket>,
@@ -49,7 +49,7 @@ pub enum Committed {
     OutOfMemory,
 }
 
-/// What a private stack was given to begin with.
+/// What a strand was given to begin with.
 #[derive(Clone, Copy, PartialEq, Eq)]
 pub enum Loaded {
     /// The frame that the seat's worker runs next.
@@ -63,9 +63,9 @@ pub enum Loaded {
 /// What a publication came to.
 #[derive(Clone, Copy, PartialEq, Eq)]
 pub enum Published {
-    /// The stack's instructions were done.
+    /// The strand's instructions were done.
     Done,
-    /// The stack holds no frame, the worker does not run its base as it was loaded, or a cell that was read holds something else.
+    /// The strand holds no frame, the worker does not run its base as it was loaded, or a cell that was read holds something else.
     Stranger,
     /// Memory was refused.
     OutOfMemory,

@@ -1,15 +1,15 @@
-//! What is seen of a private stack's frames.
+//! What is seen of a strand's frames.
 ghost use Rattle.std.specs.Prelude.{◌≡◌};
 
 use crate::bench::Bench;
-use crate::stack::PrivateStack;
+use crate::worker_strand::WorkerStrand;
 use schedule_core::Frame;
 
-impl<L: Bench> PrivateStack<'_, L> {
-    /// The frame that goes on, where the stack holds one.
+impl<L: Bench> WorkerStrand<'_, L> {
+    /// The frame that goes on, where the strand holds one.
     pub fn top(&self) -> &Frame
-        ensures { result.now ≡ self.now.pile.top.value }
+        ensures { result.now ≡ self.now.strand.top.value }
     {
-        self.pile.top.as_ref()
+        self.strand.top.as_ref()
     }
 }

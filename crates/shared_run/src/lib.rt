@@ -15,30 +15,30 @@
 mod answers;
 mod bench;
 mod board;
-mod deep;
 mod frames;
 mod history;
 mod outside;
+mod publishing;
 mod rest;
 mod seat;
 mod shared;
-mod stack;
 mod start;
 mod ticket;
 pub mod turns;
+mod worker_strand;
 
 pub use answers::{Claimed, Committed, Fetched, Loaded, Published, Stepped};
 pub use bench::Bench;
 pub use board::Board;
 pub use history::{Entry, History, Keeping};
-pub use outside::{advance, blank_strand, clear};
-pub use rest::{BoardRest, StackRest};
+pub use outside::{advance, blank_frame_strand, clear};
+pub use rest::{BoardRest, StrandRest};
 pub use schedule_core::{
-    Event, Finished, Machine, Memory, Pause, Places, RunFault, Status, Strand, TaskView, Verified,
-    places_of, replay, steps_of,
+    Event, Finished, FrameStrand, Machine, Memory, Pause, Places, RunFault, Status, TaskView,
+    Verified, places_of, replay, steps_of,
 };
 pub use seat::Seat;
 pub use shared::{Shared, Unended};
-pub use stack::{MOST_INSTRUCTIONS, PrivateStack, Standing};
 pub use start::Start;
 pub use ticket::Ticket;
+pub use worker_strand::{MOST_INSTRUCTIONS, Standing, WorkerStrand};

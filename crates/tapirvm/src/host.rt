@@ -1,9 +1,9 @@
 //! The program over its words, files and streams.
 
-use crate::clocks::microseconds_since;
 use crate::files::{Texts, complain, read_load, read_texts, write_files};
 use crate::requests::act;
 use crate::times::Took;
+use cli_threads::microseconds_since;
 use cli_words::{Beside, Question, Request, Status, WordsFault, text_of, words};
 use std::env::FillError;
 use std::hash::RandomState;

@@ -9,7 +9,7 @@
 //! that needs nothing else: the source, the time line, the tree of frames, registers and cells, and buttons to step through them. What it does with
 //! them is a script of its own text. [`quoted`] spells a text as JSON does.
 //!
-//! A [`Teller`] is told each event, and hands it to all of these that are wanted. No machine is asked here: `cli_verbs` runs a module and tells its events.
+//! A [`Teller`] is told each event, and hands it to all of these that are wanted. No machine is asked here: `cli_runs` runs a module and tells its events.
 #![tactic(auto)]
 
 mod change;

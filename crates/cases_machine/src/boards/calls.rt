@@ -1,24 +1,24 @@
 //! The calls of a worker.
 ghost use Rattle.std.specs.Prelude.{◌≡◌};
 ghost use Rattle.shared_run.specs.schedule_workers.Starts.{ArePlaces};
-ghost use Rattle.shared_run.specs.schedule_core.Strands.{IsMadeOf};
+ghost use Rattle.shared_run.specs.schedule_core.FrameStrands.{IsMadeOf};
 
 use lists::OutOfMemory;
 use shared_run::{
-    Bench, Board, Claimed, Committed, Loaded, Places, PrivateStack, Published, Seat, Standing,
-    Stepped, Strand, Ticket, Verified, advance, blank_strand, clear,
+    Bench, Board, Claimed, Committed, FrameStrand, Loaded, Places, Published, Seat, Standing,
+    Stepped, Ticket, Verified, WorkerStrand, advance, blank_frame_strand, clear,
 };
 use std::alloc::Global;
 
 /// What a worker of the run that has this ledger does outside of the board.
 #[derive(Drop)]
 pub struct Player<'p, L: Bench> {
-    strand: Strand<'p>,
-    stack: PrivateStack<'p, L>,
-    ghost made: { IsMadeOf L.code strand },
+    frame_strand: FrameStrand<'p>,
+    strand: WorkerStrand<'p, L>,
+    ghost made: { IsMadeOf L.code frame_strand },
 }
 
-/// So many players with blank strands and stacks.
+/// So many players with blank strands of both kinds.
 pub fn players_of<'p, L: Bench>(
     alloc: Global,
     verified: &'p Verified,
@@ -31,8 +31,8 @@ pub fn players_of<'p, L: Bench>(
     let mut players = Vec::new(alloc);
     for _player in 0..count {
         players.push(Player {
-            strand: blank_strand(alloc, verified, places)?,
-            stack: PrivateStack::new(alloc, verified, places)?,
+            frame_strand: blank_frame_strand(alloc, verified, places)?,
+            strand: WorkerStrand::new(alloc, verified, places)?,
         })?;
     }
     Ok(players)
@@ -61,35 +61,35 @@ fn claim<L: Bench>(board: &mut Board<'_, L>, seat: &mut Seat<L>, tickets: &[Tick
 
 impl<L: Bench> Player<'_, L> {
     fn fetch(&mut self, board: &Board<'_, L>, seat: &Seat<L>) {
-        let _fetched = board.fetch(seat, &mut self.strand);
+        let _fetched = board.fetch(seat, &mut self.frame_strand);
     }
 
     fn advance(&mut self) {
-        let _pause = advance::<L>(&mut self.strand);
+        let _pause = advance::<L>(&mut self.frame_strand);
     }
 
     fn clear(&mut self) {
-        clear::<L>(&mut self.strand);
+        clear::<L>(&mut self.frame_strand);
     }
 
-    /// Fetches the page of this address; whether it is not there though the stack can go on, the board has it, and the stack does not.
+    /// Fetches the page of this address; whether it is not there though the strand can go on, the board has it, and the strand does not.
     fn ahead(&mut self, board: &Board<'_, L>, at: i64) -> bool {
-        let is_due = self.stack.standing() == Standing::Going
-            && !self.stack.has_page(at)
+        let is_due = self.strand.standing() == Standing::Going
+            && !self.strand.has_page(at)
             && board.machine().cell_at(at).is_some();
-        !board.fetch_ahead(&mut self.stack, at) && is_due
+        !board.fetch_ahead(&mut self.strand, at) && is_due
     }
 
-    /// Puts the stack on the board, and takes the tickets of the tasks that are ready then.
+    /// Puts the strand on the board, and takes the tickets of the tasks that are ready then.
     fn publish(
         &mut self,
         board: &mut Board<'_, L>,
         seat: &mut Seat<L>,
         tickets: &mut Vec<Ticket>,
     ) -> bool {
-        match board.publish(seat, &self.stack) {
+        match board.publish(seat, &self.strand) {
             Published::Done => {
-                let levels = self.stack.frames_below();
+                let levels = self.strand.frames_below();
                 board.ready_tickets(&*seat, levels, tickets).is_err()
             }
             Published::Stranger => false,
@@ -97,7 +97,7 @@ impl<L: Bench> Player<'_, L> {
         }
     }
 
-    /// Makes the call of this number, some of which are two. The answer is its name where it was refused memory. `count` says how far the stack goes on, or
+    /// Makes the call of this number, some of which are two. The answer is its name where it was refused memory. `count` says how far the strand goes on, or
     /// which page it fetches.
     pub fn call(
         &mut self,
@@ -113,7 +113,7 @@ impl<L: Bench> Player<'_, L> {
                 Stepped::Idle => "",
                 Stepped::OutOfMemory => "Board::step",
             },
-            1 => match board.commit(seat, &self.strand) {
+            1 => match board.commit(seat, &self.frame_strand) {
                 Committed::After { ready, .. } => keep(tickets, ready),
                 Committed::Stranger => "",
                 Committed::OutOfMemory => "Board::commit",
@@ -138,17 +138,17 @@ impl<L: Bench> Player<'_, L> {
                 self.advance();
                 ""
             }
-            8 => match board.fetch_base(&*seat, &mut self.stack) {
+            8 => match board.fetch_base(&*seat, &mut self.strand) {
                 Loaded::OutOfMemory => "Board::fetch_base",
                 Loaded::Frame | Loaded::Idle => "",
             },
             9 | 10 => told(
-                self.stack.standing() == Standing::Going
-                    && self.stack.advance(count) == Standing::Spoilt,
+                self.strand.standing() == Standing::Going
+                    && self.strand.advance(count) == Standing::Spoilt,
                 "PrivateStack::advance",
             ),
             11 | 12 => {
-                let _fetched = board.fetch_need(&mut self.stack);
+                let _fetched = board.fetch_need(&mut self.strand);
                 ""
             }
             13 => told(

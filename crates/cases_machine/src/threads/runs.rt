@@ -93,7 +93,7 @@ pub fn answer_strands<R: Threads + Wait + Clock + Sync>(
 
 /// A run of the long loop in so many strands; where no answer is wanted its gate stops it before the last one.
 #[derive(Clone, Copy)]
-struct Strands {
+struct FrameStrands {
     sentence: &'static str,
     rounds: i64,
     strands: u64,
@@ -101,26 +101,26 @@ struct Strands {
 }
 
 /// 400,005 instructions without a border are six strands of 65,536 and one of 6,789.
-static STOPS: [Strands; 4] = [
-    Strands {
+static STOPS: [FrameStrands; 4] = [
+    FrameStrands {
         sentence: "a gate stops a run before strand 1",
         rounds: 50_000,
         strands: 2,
         wanted: None,
     },
-    Strands {
+    FrameStrands {
         sentence: "and before strand 4",
         rounds: 100_000,
         strands: 5,
         wanted: None,
     },
-    Strands {
+    FrameStrands {
         sentence: "and before its last strand",
         rounds: 100_000,
         strands: 7,
         wanted: None,
     },
-    Strands {
+    FrameStrands {
         sentence: "which is strand 6",
         rounds: 100_000,
         strands: 7,

@@ -20,10 +20,10 @@ pub record RunsFrom (o : Origin) (x : HostedRun) : Type 0 where
   pub rests : IsAtRest o x.board
   pub places : ArePlaces o.program x.places
 
--- the worker's stack is one of this module
+-- the worker's strand is one of this module
 pub record WorksFor (program : Program) (x : HostedWorker) : Type 0 where
   pub places : ArePlaces program x.places
-  pub stack : StaysPut program x.stack
+  pub strand : StaysPut program x.strand
 
 -- with these counts
 pub record IsProgressBy (ended : Bool) (done peak : ℕ) (progress : Progress) : Type 0 where

@@ -15,7 +15,7 @@ use lists::OutOfMemory;
 use schedule_core::SharedPlaces;
 use shared_run::turns::{Habits, Met as Served, Offers, meet};
 use shared_run::{
-    Bench, Board, BoardRest, Event, Finished, Keeping, Memory, RunFault, StackRest, Verified,
+    Bench, Board, BoardRest, Event, Finished, Keeping, Memory, RunFault, StrandRest, Verified,
 };
 use std::alloc::Global;
 use std::marker::Brand;
@@ -106,35 +106,35 @@ fn meet_as<L: Bench>(
     fuel: u64,
     places: &SharedPlaces,
     number: u8,
-    stack: StackRest,
+    strand: StrandRest,
     habits: &mut Habits,
-) -> (BoardRest, StackRest, (Met, usize))
+) -> (BoardRest, StrandRest, (Met, usize))
     requires code { verified.now ≡ L.code }
     requires name { blank.name ≡ L.name }
     requires parts { blank.parts ≡ L.parts }
     requires one { blank.parts ≡ 1 }
     requires board { IsAtRest (origin L.code L.arguments L.memory L.crew) board }
     requires places { ArePlaces verified.now places.now }
-    requires stack { StaysPut verified.now stack }
+    requires strand { StaysPut verified.now strand }
     ensures board { IsAtRest (origin L.code L.arguments L.memory L.crew) result.0 }
-    ensures stack { StaysPut L.code result.1 }
+    ensures strand { StaysPut L.code result.1 }
     ensures told { IsTold (reached (origin L.code L.arguments L.memory L.crew) result.0.history.events) fuel result.2.0 }
     ensures not_stopped { result.2.0 ≢ Stopped }
 {
     let has_seat = usize::from(number) < board.workers();
     let own = if has_seat { number } else { 0 };
     let (mut board, mut seat) = board.wake::<L>(alloc, verified, blank, own);
-    let mut stack = stack.wake::<L>(verified, places.get());
+    let mut strand = strand.wake::<L>(verified, places.get());
     let done = board.machine().instructions();
     let (served, offered) = match told(board.end(), done, fuel, Served::Work) {
-        Met::Work if has_seat => meet(&mut board, offers, &mut seat, &mut stack, habits),
+        Met::Work if has_seat => meet(&mut board, offers, &mut seat, &mut strand, habits),
         _ => (Served::Idle, 0),
     };
     let served = note(offers, served);
     let ended = board.end();
     let instructions = board.machine().instructions();
     let met = told(ended, instructions, fuel, served);
-    (board.rest(), stack.rest(), (met, offered))
+    (board.rest(), strand.rest(), (met, offered))
 }
 
 /// How far a run has come.
@@ -273,7 +273,7 @@ impl HostedRun {
         Ok(HostedWorker {
             number,
             places: self.places.share()?,
-            stack: StackRest::new(alloc, verified)?,
+            strand: StrandRest::new(alloc, verified)?,
             habits: Habits::new(alloc),
             ears: Ears {
                 wanted: self.offers.share()?,
@@ -310,8 +310,8 @@ impl HostedRun {
             fuel,
             stop,
         } = self;
-        let (number, own, stack, mut habits, ears) = worker.parts();
-        let (board, stack, met) = meet_as::<Brand>(
+        let (number, own, strand, mut habits, ears) = worker.parts();
+        let (board, strand, met) = meet_as::<Brand>(
             alloc,
             verified,
             Blank::new(1),
@@ -320,7 +320,7 @@ impl HostedRun {
             fuel,
             &places,
             number,
-            stack,
+            strand,
             &mut habits,
         );
         let run = HostedRun {
@@ -333,7 +333,7 @@ impl HostedRun {
         let worker = HostedWorker {
             number,
             places: own,
-            stack,
+            strand,
             habits,
             ears,
         };

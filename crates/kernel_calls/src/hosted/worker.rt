@@ -6,7 +6,7 @@ ghost use Rattle.shared_run.specs.Resting.{StaysPut};
 use crate::hosted::stop::Stop;
 use schedule_core::SharedPlaces;
 use shared_run::turns::{Habits, Hunger, turn};
-use shared_run::{Bench, StackRest, Verified};
+use shared_run::{Bench, StrandRest, Verified};
 use std::marker::Brand;
 use std::sync::Arc;
 use std::sync::atomic::{AtomicU64, Ordering};
@@ -29,11 +29,11 @@ impl Hunger for Ears {
     }
 }
 
-/// A worker with its stack.
+/// A worker with its strand.
 pub struct HostedWorker {
     pub(crate) number: u8,
     pub(crate) places: SharedPlaces,
-    pub(crate) stack: StackRest,
+    pub(crate) strand: StrandRest,
     pub(crate) habits: Habits,
     pub(crate) ears: Ears,
 }
@@ -44,7 +44,7 @@ impl Drop for HostedWorker {
         let HostedWorker {
             number: _,
             places: _,
-            stack: _,
+            strand: _,
             habits: _,
             ears: _,
         } = self;
@@ -53,37 +53,37 @@ impl Drop for HostedWorker {
 
 /// Goes on outside of the board.
 fn turn_as<L: Bench>(
-    stack: StackRest,
+    strand: StrandRest,
     verified: &Verified,
     places: &SharedPlaces,
     habits: &mut Habits,
     ears: &Ears,
-) -> StackRest
+) -> StrandRest
     requires code { verified.now ≡ L.code }
     requires places { ArePlaces verified.now places.now }
-    requires rests { StaysPut verified.now stack }
+    requires rests { StaysPut verified.now strand }
     ensures { StaysPut L.code result }
 {
-    let mut stack = stack.wake::<L>(verified, places.get());
-    turn(&mut stack, habits, ears);
-    stack.rest()
+    let mut strand = strand.wake::<L>(verified, places.get());
+    turn(&mut strand, habits, ears);
+    strand.rest()
 }
 
 impl HostedWorker {
-    /// Its number, its places, its stack, what it remembers, and what it hears.
-    pub(crate) fn parts(self) -> (u8, SharedPlaces, StackRest, Habits, Ears)
+    /// Its number, its places, its strand, what it remembers, and what it hears.
+    pub(crate) fn parts(self) -> (u8, SharedPlaces, StrandRest, Habits, Ears)
         ensures number { result.0 ≡ self.number }
         ensures places { result.1 ≡ self.places }
-        ensures stack { result.2 ≡ self.stack }
+        ensures strand { result.2 ≡ self.strand }
     {
         let HostedWorker {
             number,
             places,
-            stack,
+            strand,
             habits,
             ears,
         } = self;
-        (number, places, stack, habits, ears)
+        (number, places, strand, habits, ears)
     }
 
     /// Goes on outside of the board, as long as nothing is wanted of it and the stop is not set.
@@ -95,15 +95,15 @@ impl HostedWorker {
         let HostedWorker {
             number,
             places,
-            stack,
+            strand,
             mut habits,
             ears,
         } = self;
-        let stack = turn_as::<Brand>(stack, verified, &places, &mut habits, &ears);
+        let strand = turn_as::<Brand>(strand, verified, &places, &mut habits, &ears);
         HostedWorker {
             number,
             places,
-            stack,
+            strand,
             habits,
             ears,
         }

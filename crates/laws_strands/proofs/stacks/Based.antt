@@ -1,7 +1,7 @@
--- The lowest frame of a deep strand is the base's: it runs the same function in the same role.
+-- The lowest frame of a strand is the base's: it runs the same function in the same role.
 use Rattle.std.proofs.Common.{◌≡◌, List, [], ◌∷◌, refl, ◌∙◌, subst}
 use Rattle.semantics.specs.State.{went, continued, synced, waiting, resumed}
-use Rattle.laws_strands.specs.stacks.Deep.{Placed, DeepStrand, at, IsDeep, is_loaded, is_filled, is_advanced, is_past_sync, is_detached, is_called, is_reattached, is_returned}
+use Rattle.laws_strands.specs.stacks.Strands.{Placed, Strand, at, IsStrand, is_loaded, is_filled, is_advanced, is_past_sync, is_detached, is_called, is_reattached, is_returned}
 use Rattle.program.specs.declared.function.Program.{Program}
 
 pub record IsSameTask (b t : Placed) : Type 0 where
@@ -22,7 +22,7 @@ based_kept b t u (g ∷ rest) same is = is
 itself : (t : Placed) → IsSameTask t t
 itself t = record { path = refl; function = refl; role = refl; home = refl }
 
-pub based : (prog : Program) (d : DeepStrand) → IsDeep prog d → IsBased d.base d.top d.below
+pub based : (prog : Program) (d : Strand) → IsStrand prog d → IsBased d.base d.top d.below
 based prog _ (is_loaded p f) = itself (at p f)
 based prog _ (is_filled d c v e is here fine reads unheld new) = based prog d is
 based prog _ (is_advanced d e is here fine holds) = based_kept d.base d.top (at d.top.path (went d.top.frame e)) d.below (record { path = refl; function = refl; role = refl; home = refl }) (based prog d is)

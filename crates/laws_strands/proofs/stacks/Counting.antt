@@ -1,4 +1,4 @@
--- The living children of a deep strand's frames.
+-- The living children of a strand's frames.
 use Rattle.std.proofs.Common.{◌≡◌, ℕ, zero, suc, ◌+◌, ◌-◌, ◌<◌, ◌≤◌, List, [], ◌∷◌, length, Some, None, Bool, true, false, cond, refl, sym, ap, ◌∙◌, subst, arith}
 use Rattle.semantics.specs.Paths.{Path}
 use Rattle.semantics.specs.Frames.{Role}
@@ -8,8 +8,8 @@ use Rattle.semantics.specs.Events.{Machine}
 use Rattle.semantics.proofs.Actions.{same_path_itself}
 use Rattle.semantics.proofs.Places.{same_path_apart}
 use Rattle.semantics.proofs.ChildCounts.{count_at}
-use Rattle.laws_strands.specs.stacks.Deep.{Placed, DeepStrand}
-use Rattle.laws_strands.specs.stacks.Law.{IsOrderly, Runs, with_frames, absorbed, counts_in, no_count, CountsAre, DeepStrandsCount}
+use Rattle.laws_strands.specs.stacks.Strands.{Placed, Strand}
+use Rattle.laws_strands.specs.stacks.Law.{IsOrderly, Runs, with_frames, absorbed, counts_in, no_count, CountsAre, StrandsCount}
 use Rattle.laws_strands.proofs.stacks.Rising.{IsNew, new_child, new_below, Rises, rises, new_is_none, above_top}
 
 -- children that are the same are counted alike
@@ -32,7 +32,7 @@ new_number : (p : Path) (n k : ℕ) (x : Path) → IsNew p n x → x ≡ k ∷ p
 new_number p n k _ (new_child j le) e = let same : j ≡ k = cc in omega arith
 new_number p n k _ (new_below j x new) e = absurd (let l : length p < length x = new_long p n x new in let same : x ≡ p = cc in let m : length x ≡ length p = ap length same in omega arith)
 
-module _ (m : Machine) (w : ℕ) (d : DeepStrand) (runs : Runs m w d) (orderly : IsOrderly m) where
+module _ (m : Machine) (w : ℕ) (d : Strand) (runs : Runs m w d) (orderly : IsOrderly m) where
   abbrev s : State
   s = (absorbed m w d).core
 
@@ -103,8 +103,8 @@ module _ (m : Machine) (w : ℕ) (d : DeepStrand) (runs : Runs m w d) (orderly :
       below_same : (x : Path) → length x ≤ length g.path → s.frames x ≡ with_frames (g ∷ rest) m.core.frames x
       below_same x low = let u : length t.path ≡ suc (length g.path) = up in lower x (omega arith) (λ e. let l : length t.path ≡ length x = ap length e in omega arith)
 
-pub deep_strands_count : DeepStrandsCount
-deep_strands_count prog m w d is runs orderly =
+pub strands_count : StrandsCount
+strands_count prog m w d is runs orderly =
     let rise : Rises d.base d.top d.below = rises prog d is in
     counted m w d runs orderly d.top d.below rise d.top.frame.made no_count (λ r. omega arith) (λ e. (subst (λ x. Rises d.base d.top x) e rise).1)
     (λ k lt. above_top m.core orderly.tree d.base runs.frame d.top d.below rise (k ∷ d.top.path) (omega arith))

@@ -1,4 +1,4 @@
--- What rests on no memory, and is kept by each step, holds wherever a deep strand comes.
+-- What rests on no memory, and is kept by each step, holds wherever a strand comes.
 use Rattle.std.proofs.Common.{◌≡◌, ℕ, suc, ◌+◌, max, Option, Some, None, true, refl, ap, ◌∙◌, subst, arith}
 use Rattle.semantics.specs.Paths.{Path}
 use Rattle.semantics.specs.Cells.{Memory}
@@ -8,8 +8,8 @@ use Rattle.semantics.specs.State.{State, apply, override_result, wait_after, may
 use Rattle.semantics.specs.Events.{Machine}
 use Rattle.semantics.proofs.Steps.{change_is}
 use Rattle.laws_strands.specs.stacks.Footprint.{memory_of}
-use Rattle.laws_strands.specs.stacks.Deep.{DeepStrand, loaded, advanced, past_sync, reattached, IsDeep, is_loaded, is_filled, is_advanced, is_past_sync, is_detached, is_called, is_reattached, is_returned}
-use Rattle.laws_strands.specs.stacks.Law.{IsOrderly, Runs, Fits, absorbed, IsKept, KeepsDeep, DeepStrandsKeep}
+use Rattle.laws_strands.specs.stacks.Strands.{Strand, loaded, advanced, past_sync, reattached, IsStrand, is_loaded, is_filled, is_advanced, is_past_sync, is_detached, is_called, is_reattached, is_returned}
+use Rattle.laws_strands.specs.stacks.Law.{IsOrderly, Runs, Fits, absorbed, IsKept, KeptByStrands, StrandsKeep}
 use Rattle.laws_strands.proofs.stacks.Rising.{rises}
 use Rattle.laws_strands.proofs.stacks.Moving.{Moves, plain_moves, detach_moves, call_moves, sync_moves, reattach_moves, return_moves, children_gone}
 use Rattle.laws_strands.proofs.stacks.Law.{starts, unsynced}
@@ -26,20 +26,20 @@ free_after None e s p n = refl
 free_after (Some t) e s p n = absurd (cc)
 
 module _ (prog : Program) (m : Machine) (w : ℕ) (orderly : IsOrderly m) where
-  abbrev state : DeepStrand → Memory → State
+  abbrev state : Strand → Memory → State
   state d memory = record (absorbed m w d).core { memory = memory }
 
-  abbrev MayGo : DeepStrand → Type 0
+  abbrev MayGo : Strand → Type 0
   MayGo d = may_go m.core d.base.path d.base.frame.made d.base.frame.waits ≡ true
 
-  abbrev Goes : DeepStrand → Memory → Type 0
+  abbrev Goes : Strand → Memory → Type 0
   Goes d memory = may_go (state d memory) d.top.path d.top.frame.made d.top.frame.waits ≡ true
 
-  shorter : (d : DeepStrand) (r : ℕ) (b : ℕ) (rs : _) → Runs m w (past_sync d r b rs) → Runs m w d
+  shorter : (d : Strand) (r : ℕ) (b : ℕ) (rs : _) → Runs m w (past_sync d r b rs) → Runs m w d
   shorter d r b rs runs = record { hand = runs.hand; frame = runs.frame; synced = (unsynced m d r d.below runs.synced).0 }
 
   -- the top frame can go on
-  pub goes : (d : DeepStrand) → IsDeep prog d → Runs m w d → MayGo d → (memory : Memory) → Goes d memory
+  pub goes : (d : Strand) → IsStrand prog d → Runs m w d → MayGo d → (memory : Memory) → Goes d memory
   goes _ (is_loaded p f) runs may memory =
       let fits : Fits m w (loaded p f) = record { runs = runs; reads = λ x v e. absurd (cc) } in
       may_with (absorbed m w (loaded p f)).core memory p f.made f.waits ∙ subst (λ (x : Machine). may_go x.core p f.made f.waits ≡ true) (starts m w p f fits) may
@@ -55,7 +55,7 @@ module _ (prog : Program) (m : Machine) (w : ℕ) (orderly : IsOrderly m) where
 
   module _ (good : State → Type 0) (kept : IsKept prog good) where
     -- a step of the strand keeps it
-    by_move : (d after : DeepStrand) (runs : Runs m w d) (is : IsDeep prog d) → Moves prog m w d runs orderly (rises prog d is) (memory_of d.footprint) after → good (absorbed m w d).core → good (absorbed m w after).core
+    by_move : (d after : Strand) (runs : Runs m w d) (is : IsStrand prog d) → Moves prog m w d runs orderly (rises prog d is) (memory_of d.footprint) after → good (absorbed m w d).core → good (absorbed m w after).core
     by_move d after runs is t before =
         let s : State = state d (memory_of d.footprint) in
         let here : good s = kept.memory (absorbed m w d).core (memory_of d.footprint) before in
@@ -70,7 +70,7 @@ module _ (prog : Program) (m : Machine) (w : ℕ) (orderly : IsOrderly m) where
             let same_result : override_result t.change.result m.core.result ≡ m.core.result = ap (λ o. override_result o m.core.result) t.silent in
             λ i. record { frames = λ x. t.stands x i; memory = (absorbed m w after).core.memory; done = same_count i; peak = same_peak i; result = same_result i }
 
-    keeps : (d : DeepStrand) → IsDeep prog d → Runs m w d → MayGo d → good m.core → good (absorbed m w d).core
+    keeps : (d : Strand) → IsStrand prog d → Runs m w d → MayGo d → good m.core → good (absorbed m w d).core
     keeps _ (is_loaded p f) runs may begins =
         let fits : Fits m w (loaded p f) = record { runs = runs; reads = λ x v e. absurd (cc) } in
         subst (λ (x : Machine). good x.core) (starts m w p f fits) begins
@@ -96,8 +96,8 @@ module _ (prog : Program) (m : Machine) (w : ℕ) (orderly : IsOrderly m) where
         let runs2 : Runs m w d = record { hand = runs.hand; frame = runs.frame; synced = runs.synced } in
         by_move d _ runs2 is (return_moves prog m w d runs2 orderly (rises prog d is) (memory_of d.footprint) g rest below v k o here waits (goes d is runs2 may (memory_of d.footprint))) (keeps d is runs2 may begins)
 
-pub kept_deep : (prog : Program) (good : State → Type 0) → KeepsDeep prog good
-kept_deep prog good kept m w d is runs orderly may begins = keeps prog m w orderly good kept d is runs may begins
+pub kept_by_strands : (prog : Program) (good : State → Type 0) → KeptByStrands prog good
+kept_by_strands prog good kept m w d is runs orderly may begins = keeps prog m w orderly good kept d is runs may begins
 
-pub deep_strands_keep : DeepStrandsKeep
-deep_strands_keep prog test = kept_deep prog (λ s. test s ≡ true)
+pub strands_keep : StrandsKeep
+strands_keep prog test = kept_by_strands prog (λ s. test s ≡ true)

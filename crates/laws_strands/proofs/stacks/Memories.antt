@@ -1,4 +1,4 @@
--- A deep strand over a whole memory.
+-- A strand over a whole memory.
 use Rattle.std.proofs.Common.{◌≡◌, Option, Some, None, true, refl, sym, ap, ◌∙◌, subst, is_none, is_some, ℤ}
 use Rattle.semantics.specs.Paths.{Path}
 use Rattle.semantics.specs.Cells.{Cell, Memory, or_zero}
@@ -6,7 +6,7 @@ use Rattle.semantics.specs.Frames.{Frame}
 use Rattle.semantics.specs.Effect.{Action, Plain, Detach, Reattach, Sync, Call, Return, action_of}
 use Rattle.semantics.proofs.Actions.{reads_of, adds_of, action_kept}
 use Rattle.laws_strands.specs.stacks.Footprint.{Footprint, held, memory_of, seen}
-use Rattle.laws_strands.specs.stacks.Deep.{IsHeld, AnyMemoryServes, WritesAreSeen}
+use Rattle.laws_strands.specs.stacks.Strands.{IsHeld, AnyMemoryServes, WritesAreSeen}
 use Rattle.laws_strands.proofs.stacks.Keeping.{Agrees, held_put, put_after}
 use Rattle.laws_strands.proofs.stacks.Stepping.{LeavesCells, some_is}
 use Rattle.laws_strands.proofs.stacks.Traps.{add_there}

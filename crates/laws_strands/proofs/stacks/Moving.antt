@@ -1,4 +1,4 @@
--- One instruction more of a deep strand is a step of its frames, whatever the cells hold.
+-- One instruction more of a strand is a step of its frames, whatever the cells hold.
 use Rattle.std.proofs.Common.{◌≡◌, ℕ, zero, suc, ◌<◌, max, List, [], ◌∷◌, Option, Some, None, ◌≢◌, Bool, true, false, cond, refl, sym, ap, ◌∙◌, subst, arith, is_none, is_some, ℤ}
 use Rattle.semantics.specs.Paths.{Path, same_path}
 use Rattle.semantics.specs.Cells.{Cell, Memory}
@@ -12,7 +12,7 @@ use Rattle.semantics.proofs.Steps.{Does, plain, detach, reattach, sync, call, re
 use Rattle.semantics.proofs.Diamond.{same_frame}
 use Rattle.semantics.proofs.Workers.{Unheld}
 use Rattle.laws_strands.specs.stacks.Footprint.{added_to, stored}
-use Rattle.laws_strands.specs.stacks.Deep.{Placed, DeepStrand, at, advanced, past_sync, entered, reattached, returned}
+use Rattle.laws_strands.specs.stacks.Strands.{Placed, Strand, at, advanced, past_sync, entered, reattached, returned}
 use Rattle.laws_strands.specs.stacks.Law.{IsOrderly, Runs, with_frames, absorbed}
 use Rattle.laws_strands.proofs.stacks.Rising.{Rises, new_is_none, above_top, top_is_new, top_has_none}
 use Rattle.linear.specs.declared.form.RegisterId.{RegisterId}
@@ -45,7 +45,7 @@ others m w b orderly hand base t [] (is, le) v other has = other (orderly.alone 
 others m w b orderly hand base t (g ∷ rest) (j, is, next, new, more) v other has =
     not_some (m.core.frames t.path) (new_is_none m.core orderly.tree b base t.path new) (orderly.lives v t.path has)
 
-module _ (prog : Program) (m : Machine) (w : ℕ) (d : DeepStrand) (runs : Runs m w d) (orderly : IsOrderly m) (stack : Rises d.base d.top d.below) (memory : Memory) where
+module _ (prog : Program) (m : Machine) (w : ℕ) (d : Strand) (runs : Runs m w d) (orderly : IsOrderly m) (stack : Rises d.base d.top d.below) (memory : Memory) where
   abbrev p : Path
   p = d.top.path
 
@@ -66,7 +66,7 @@ module _ (prog : Program) (m : Machine) (w : ℕ) (d : DeepStrand) (runs : Runs 
   May b = may_go state p f.made f.waits ≡ b
 
   -- a step of the top frame that leads to the frames and the count of this strand
-  pub record Moves (after : DeepStrand) : Type 0 where
+  pub record Moves (after : Strand) : Type 0 where
     pub change : Change
     pub does : Does prog state p change
     pub sound : change.trap ≡ None

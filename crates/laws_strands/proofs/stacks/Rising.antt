@@ -1,4 +1,4 @@
--- The frames of a deep strand stand one on the other, from the base up, at paths that are new to the machine.
+-- The frames of a strand stand one on the other, from the base up, at paths that are new to the machine.
 use Rattle.std.proofs.Common.{◌≡◌, ℕ, suc, ◌<◌, ◌≤◌, List, [], ◌∷◌, length, Option, Some, None, refl, sym, ap, ◌∙◌, subst, arith}
 use Rattle.semantics.specs.Paths.{Path}
 use Rattle.semantics.specs.Frames.{Wait, Free, OnCall, Role, Child, Body, Frame}
@@ -7,8 +7,8 @@ use Rattle.semantics.specs.Tree.{Tree}
 use Rattle.semantics.proofs.Places.{same_path_apart}
 use Rattle.semantics.specs.State.{detached, continued, called, waiting, resumed}
 use Rattle.semantics.proofs.Diamond.{same_frame}
-use Rattle.laws_strands.specs.stacks.Deep.{Placed, at, DeepStrand, IsDeep, is_loaded, is_filled, is_advanced, is_past_sync, is_detached, is_called, is_reattached, is_returned}
-use Rattle.laws_strands.specs.stacks.Law.{with_frames, DeepEndsMatch}
+use Rattle.laws_strands.specs.stacks.Strands.{Placed, at, Strand, IsStrand, is_loaded, is_filled, is_advanced, is_past_sync, is_detached, is_called, is_reattached, is_returned}
+use Rattle.laws_strands.specs.stacks.Law.{with_frames, EndsMatch}
 use Rattle.laws_strands.specs.stacks.Footprint.{memory_of}
 use Rattle.semantics.proofs.Actions.{return_is_body, reattach_is_child}
 use Rattle.linear.specs.declared.form.RegisterId.{RegisterId}
@@ -42,7 +42,7 @@ pub rises_more : (b t u c : Placed) (below : List Placed) → u.path ≡ t.path 
 rises_more b t u c below path made here r =
     (t.frame.made, here ∙ ap (λ x. t.frame.made ∷ x) (sym path), made, subst (λ x. IsNew b.path b.frame.made x) (sym here) (child_new b t below r), made_more b t u below path made r)
 
-pub rises : (prog : Program) (d : DeepStrand) → IsDeep prog d → Rises d.base d.top d.below
+pub rises : (prog : Program) (d : Strand) → IsStrand prog d → Rises d.base d.top d.below
 rises prog _ (is_loaded p f) = (refl, omega arith)
 rises prog _ (is_filled d c v e is here fine reads unheld new) = rises prog d is
 rises prog _ (is_advanced d e is here fine holds) = rises_kept d.base d.top _ d.below refl refl (rises prog d is)
@@ -109,7 +109,7 @@ behind_kept : (t u : Placed) (below : List Placed) → u.frame.role ≡ t.frame.
 behind_kept t u [] role r = tt
 behind_kept t u (g ∷ rest) role (here, more) = (subst (λ x. IsBehind x g.frame.waits) (sym role) here, more)
 
-pub behind : (prog : Program) (d : DeepStrand) → IsDeep prog d → AreBehind d.top d.below
+pub behind : (prog : Program) (d : Strand) → IsStrand prog d → AreBehind d.top d.below
 behind prog _ (is_loaded p f) = tt
 behind prog _ (is_filled d c v e is here fine reads unheld new) = behind prog d is
 behind prog _ (is_advanced d e is here fine holds) = behind_kept d.top _ d.below refl (behind prog d is)
@@ -128,8 +128,8 @@ behind_body : (role : Role) (w : Wait) → IsBehind role w → role ≡ Body →
 behind_body _ _ (of_call k d) e = (k, d, refl)
 behind_body _ _ (of_detach q n) e = absurd (cc)
 
-pub deep_ends_match : DeepEndsMatch
-deep_ends_match prog d g rest is below =
+pub ends_match : EndsMatch
+ends_match prog d g rest is below =
     let (here, more) = subst (λ x. AreBehind d.top x) below (behind prog d is) in (
       λ r act. let (n, role) = reattach_is_child prog d.top.path d.top.frame (memory_of d.footprint) r act in behind_child d.top.frame.role g.frame.waits r n here role,
       λ v act. behind_body d.top.frame.role g.frame.waits here (return_is_body prog d.top.path d.top.frame (memory_of d.footprint) v act),

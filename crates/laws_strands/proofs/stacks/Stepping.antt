@@ -1,4 +1,4 @@
--- One instruction more of a deep strand is one step of its worker.
+-- One instruction more of a strand is one step of its worker.
 use Rattle.std.proofs.Common.{◌≡◌, ℕ, suc, ◌+◌, max, List, [], ◌∷◌, Option, Some, None, Bool, true, false, cond, inl, inr, refl, sym, ap, ◌∙◌, subst, arith, eqb, eq-eqb, is_none, is_some, ℤ}
 use Rattle.std.proofs.lemmas.Bool.Decides.{eqb_tells}
 use Rattle.semantics.specs.Paths.{Path}
@@ -14,7 +14,7 @@ use Rattle.semantics.proofs.Steps.{plain, change_is}
 use Rattle.semantics.proofs.Workers.{Unheld}
 use Rattle.laws_strands.proofs.Happening.{sound_next}
 use Rattle.laws_strands.specs.stacks.Footprint.{held, memory_of, put}
-use Rattle.laws_strands.specs.stacks.Deep.{Placed, DeepStrand, next_action, Holds, advanced, past_sync, entered, reattached, returned}
+use Rattle.laws_strands.specs.stacks.Strands.{Placed, Strand, next_action, Holds, advanced, past_sync, entered, reattached, returned}
 use Rattle.laws_strands.specs.stacks.Law.{IsOrderly, Fits, absorbed}
 use Rattle.laws_strands.proofs.stacks.Keeping.{held_put, put_after}
 use Rattle.laws_strands.proofs.stacks.Rising.{Rises}
@@ -35,7 +35,7 @@ some_none (Some y) h = refl
 abbrev pub LeavesCells : Action → Type 0
 LeavesCells a = ((x : Cell) → reads_of a x ≡ false) × ((x : Cell) → adds_of a x ≡ None)
 
-module _ (prog : Program) (workers : ℕ) (m : Machine) (w : ℕ) (d : DeepStrand) (fits : Fits m w d) (orderly : IsOrderly m) (stack : Rises d.base d.top d.below) (sound : m.trapped ≡ None) where
+module _ (prog : Program) (workers : ℕ) (m : Machine) (w : ℕ) (d : Strand) (fits : Fits m w d) (orderly : IsOrderly m) (stack : Rises d.base d.top d.below) (sound : m.trapped ≡ None) where
   abbrev now : Machine
   now = absorbed m w d
 
@@ -123,10 +123,10 @@ module _ (prog : Program) (workers : ℕ) (m : Machine) (w : ℕ) (d : DeepStran
       from true = refl
       from false = refl
 
-  abbrev MovesTo : DeepStrand → Type 0
+  abbrev MovesTo : Strand → Type 0
   MovesTo after = Moves prog m w d fits.runs orderly stack now.core.memory after
 
-  becomes : (after : DeepStrand) (t : MovesTo after) → stepped now w t.change (Some after.top.path) ≡ absorbed m w after
+  becomes : (after : Strand) (t : MovesTo after) → stepped now w t.change (Some after.top.path) ≡ absorbed m w after
   becomes after t =
       let same_count : suc (d.done + m.core.done) ≡ after.done + m.core.done = let n = t.count in omega arith in
       let same_peak : max (max m.core.peak d.deepest) t.change.depth ≡ max m.core.peak after.deepest = let n = t.high in omega arith in
@@ -143,7 +143,7 @@ module _ (prog : Program) (workers : ℕ) (m : Machine) (w : ℕ) (d : DeepStran
         trapped = (t.sound ∙ sym sound) i;
       }
 
-  step_to : (after : DeepStrand) (a : Action) (t : MovesTo after) → action_of prog p f now.core.memory ≡ a → next_hand workers now (apply t.change now.core) p f a ≡ Some after.top.path →
+  step_to : (after : Strand) (a : Action) (t : MovesTo after) → action_of prog p f now.core.memory ≡ a → next_hand workers now (apply t.change now.core) p f a ≡ Some after.top.path →
       event prog workers (Step w) now ≡ Some (absorbed m w after)
   step_to after a t act hand =
       step_is _ (change_is prog now.core p t.change t.does) ∙

@@ -1,4 +1,4 @@
--- The tasks that a deep strand leaves.
+-- The tasks that a strand leaves.
 use Rattle.std.proofs.Common.{◌≡◌, ℕ, zero, suc, ◌<◌, ◌≤◌, List, [], ◌∷◌, length, Option, Some, None, ◌≢◌, Bool, true, false, cond, inl, inr, refl, sym, ap, ◌∙◌, subst, arith, eq-eqb}
 use Rattle.std.proofs.lemmas.Bool.Decides.{eqb_tells}
 use Rattle.std.proofs.lemmas.List.Elements.{All-nil, All-cons}
@@ -8,8 +8,8 @@ use Rattle.semantics.specs.Frames.{Free, Frame}
 use Rattle.semantics.specs.Events.{Machine, is_place, holder, Running, Ready, waiting_status, status_at, with_hand}
 use Rattle.semantics.proofs.Actions.{same_path_itself}
 use Rattle.semantics.proofs.Places.{same_path_is, same_path_apart}
-use Rattle.laws_strands.specs.stacks.Deep.{Placed, DeepStrand}
-use Rattle.laws_strands.specs.stacks.Law.{IsOrderly, Runs, with_frames, DeepStrandsLeaveTasks}
+use Rattle.laws_strands.specs.stacks.Strands.{Placed, Strand}
+use Rattle.laws_strands.specs.stacks.Law.{IsOrderly, Runs, with_frames, StrandsLeaveTasks}
 use Rattle.laws_strands.proofs.stacks.Rising.{Rises, rises}
 use Rattle.laws_strands.proofs.stacks.Moving.{holder_free, others}
 
@@ -32,7 +32,7 @@ holder_is (suc n) hands x w lt has alone =
     from None there not rest = rest
     from (Some y) there not rest = by_place y (same_path y x) there refl not rest
 
-module _ (m : Machine) (w : ℕ) (workers : ℕ) (d : DeepStrand) (runs : Runs m w d) (orderly : IsOrderly m) where
+module _ (m : Machine) (w : ℕ) (workers : ℕ) (d : Strand) (runs : Runs m w d) (orderly : IsOrderly m) where
   abbrev hands : ℕ → Option Path
   hands = with_hand m.hands w (Some d.top.path)
 
@@ -71,8 +71,8 @@ module _ (m : Machine) (w : ℕ) (workers : ℕ) (d : DeepStrand) (runs : Runs m
           holder_free workers hands g.path (λ v has. let n : length d.top.path ≡ length g.path = ap length (in_hand g rest more v has).1 in absurd (omega arith)) in
           ap (λ o. status_at (frames g.path) o) none ∙ (ap (λ o. status_at o None) there ∙ ap (λ x. waiting_status x) free)
 
-pub deep_strands_leave_tasks : DeepStrandsLeaveTasks
-deep_strands_leave_tasks prog workers m w d is runs orderly lt =
+pub strands_leave_tasks : StrandsLeaveTasks
+strands_leave_tasks prog workers m w d is runs orderly lt =
     let r = rises prog d is in
     record {
       runs = top_runs m w workers d runs orderly lt r;

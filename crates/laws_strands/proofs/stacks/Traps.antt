@@ -7,7 +7,7 @@ use Rattle.semantics.specs.Frames.{Registers, Role, Child, Body, Frame, Item, Do
 use Rattle.semantics.specs.Effect.{Effect, Action, Plain, Detach, Reattach, Sync, Call, Return, given, stores_zeros, traps, if_own, syncs, calls, returns, returns_value, reattaches, registers_along, argument_values, item_action, action_of}
 use Rattle.semantics.proofs.SameCells.{same_cell_is}
 use Rattle.semantics.proofs.Actions.{same_effect}
-use Rattle.laws_strands.specs.Strands.{Access, Nowhere, Loads, Stores, Adds, item_access, is_border}
+use Rattle.laws_strands.specs.FrameStrands.{Access, Nowhere, Loads, Stores, Adds, item_access, is_border}
 use Rattle.laws_strands.proofs.Items.{Touches, touches, Wants, undefined_traps, add_traps_at}
 use Rattle.linear.specs.declared.form.RegisterId.{RegisterId}
 use Rattle.program.specs.declared.function.Program.{Program}

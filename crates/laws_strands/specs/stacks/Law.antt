@@ -1,4 +1,4 @@
--- A deep strand whose base and reads are those of a machine is steps of the worker that runs the base.
+-- A strand whose base and reads are those of a machine is steps of the worker that runs the base.
 use Rattle.std.specs.Prelude.{◌≡◌, Bool, ℕ, suc, ◌+◌, ◌<◌, ◌≤◌, max, List, [], ◌∷◌, Option, Some, None, true, cond, is_some, ℤ}
 use Rattle.std.specs.List.{All}
 use Rattle.semantics.specs.Paths.{Path, same_path}
@@ -12,7 +12,7 @@ use Rattle.semantics.specs.Counts.{Counts, count_of}
 use Rattle.semantics.specs.Replay.{NeverTraps, replay}
 use Rattle.laws_strands.specs.Law.{steps_by, Happen}
 use Rattle.laws_strands.specs.stacks.Footprint.{Delta, put}
-use Rattle.laws_strands.specs.stacks.Deep.{Placed, DeepStrand, next_action, IsDeep}
+use Rattle.laws_strands.specs.stacks.Strands.{Placed, Strand, next_action, IsStrand}
 use Rattle.linear.specs.declared.form.RegisterId.{RegisterId}
 use Rattle.program.specs.declared.function.Program.{Program}
 
@@ -23,13 +23,13 @@ pub record IsOrderly (m : Machine) : Type 0 where
   pub lives : (w : ℕ) (p : Path) → m.hands w ≡ Some p → is_some (m.core.frames p) ≡ true
 
 -- the worker runs the base, and no older child of the base lives in a region that it synced
-pub record Runs (m : Machine) (w : ℕ) (d : DeepStrand) : Type 0 where
+pub record Runs (m : Machine) (w : ℕ) (d : Strand) : Type 0 where
   pub hand : m.hands w ≡ Some d.base.path
   pub frame : m.core.frames d.base.path ≡ Some d.base.frame
   pub synced : All (λ r. none_within m.core d.base.path d.base.frame.made r ≡ true) d.synced
 
 -- and each cell that was read holds what was read
-pub record Fits (m : Machine) (w : ℕ) (d : DeepStrand) : Type 0 where
+pub record Fits (m : Machine) (w : ℕ) (d : Strand) : Type 0 where
   pub runs : Runs m w d
   pub reads : (x : Cell) (v : ℤ) → d.footprint.reads x ≡ Some v → m.core.memory x ≡ Some v
 
@@ -39,7 +39,7 @@ with_frames [] frames x = frames x
 with_frames (g ∷ more) frames x = cond (same_path g.path x) (Some g.frame) (with_frames more frames x)
 
 -- the machine with the strand's frames, writes and count, and the worker on the top frame; deltas are added to what its cells hold
-abbrev pub absorbed : Machine → ℕ → DeepStrand → Machine
+abbrev pub absorbed : Machine → ℕ → Strand → Machine
 absorbed m w d =
     record {
       core = record m.core {
@@ -53,51 +53,51 @@ absorbed m w d =
     }
 
 -- the steps happen one after another, and what a delta is added to is there
-pub record IsSteps (prog : Program) (workers : ℕ) (m : Machine) (w : ℕ) (d : DeepStrand) : Type 0 where
+pub record IsSteps (prog : Program) (workers : ℕ) (m : Machine) (w : ℕ) (d : Strand) : Type 0 where
   pub steps : Happen prog workers (steps_by w d.done) m (absorbed m w d)
   pub deltas : (x : Cell) (z : ℤ) → d.footprint.writes x ≡ Some (Delta z) → is_some (m.core.memory x) ≡ true
 
-abbrev pub DeepStrandsAreSteps : Type 0
-DeepStrandsAreSteps =
-    (prog : Program) (workers : ℕ) (m : Machine) (w : ℕ) (d : DeepStrand) → IsDeep prog d → Fits m w d → IsOrderly m → NeverTraps prog workers m →
+abbrev pub StrandsAreSteps : Type 0
+StrandsAreSteps =
+    (prog : Program) (workers : ℕ) (m : Machine) (w : ℕ) (d : Strand) → IsStrand prog d → Fits m w d → IsOrderly m → NeverTraps prog workers m →
     IsSteps prog workers m w d
 
 -- ---- with one step more
 
 -- the strand's steps and one more of the worker, as where the base ends: it is enabled and does not trap
-pub record IsStepsWithBorder (prog : Program) (workers : ℕ) (m : Machine) (w : ℕ) (d : DeepStrand) : Type 0 where
+pub record IsStepsWithBorder (prog : Program) (workers : ℕ) (m : Machine) (w : ℕ) (d : Strand) : Type 0 where
   pub after : Machine
   pub border : event prog workers (Step w) (absorbed m w d) ≡ Some after
   pub steps : Happen prog workers (steps_by w (suc d.done)) m after
   pub sound : after.trapped ≡ None
 
-abbrev pub DeepStrandsGoOverBorders : Type 0
-DeepStrandsGoOverBorders =
-    (prog : Program) (workers : ℕ) (m : Machine) (w : ℕ) (d : DeepStrand) → IsDeep prog d → Fits m w d → IsOrderly m → NeverTraps prog workers m →
+abbrev pub StrandsGoOverBorders : Type 0
+StrandsGoOverBorders =
+    (prog : Program) (workers : ℕ) (m : Machine) (w : ℕ) (d : Strand) → IsStrand prog d → Fits m w d → IsOrderly m → NeverTraps prog workers m →
     IsStepsWithBorder prog workers m w d
 
 -- ---- reads that the machine need not hold yet
 
 -- a cell that was read holds what was read, where it holds a number
-abbrev pub ReadsAgree : Machine → DeepStrand → Type 0
+abbrev pub ReadsAgree : Machine → Strand → Type 0
 ReadsAgree m d = (x : Cell) (v z : ℤ) → d.footprint.reads x ≡ Some v → m.core.memory x ≡ Some z → z ≡ v
 
 -- then it does hold a number: a machine that never traps loads it
-abbrev pub DeepReadsAreThere : Type 0
-DeepReadsAreThere =
-    (prog : Program) (workers : ℕ) (m : Machine) (w : ℕ) (d : DeepStrand) → IsDeep prog d → Runs m w d → IsOrderly m → NeverTraps prog workers m →
+abbrev pub ReadsAreThere : Type 0
+ReadsAreThere =
+    (prog : Program) (workers : ℕ) (m : Machine) (w : ℕ) (d : Strand) → IsStrand prog d → Runs m w d → IsOrderly m → NeverTraps prog workers m →
     ReadsAgree m d → Fits m w d
 
 -- ---- the tasks that are left
 
 -- the worker runs the top frame's task, and those of the frames behind a detach are ready
-pub record LeavesTasks (workers : ℕ) (m : Machine) (w : ℕ) (d : DeepStrand) : Type 0 where
+pub record LeavesTasks (workers : ℕ) (m : Machine) (w : ℕ) (d : Strand) : Type 0 where
   pub runs : top_status workers (absorbed m w d) d.top.path ≡ Some (Running w)
   pub ready : All (λ g. g.frame.waits ≡ Free → top_status workers (absorbed m w d) g.path ≡ Some Ready) d.below
 
-abbrev pub DeepStrandsLeaveTasks : Type 0
-DeepStrandsLeaveTasks =
-    (prog : Program) (workers : ℕ) (m : Machine) (w : ℕ) (d : DeepStrand) → IsDeep prog d → Runs m w d → IsOrderly m → w < workers →
+abbrev pub StrandsLeaveTasks : Type 0
+StrandsLeaveTasks =
+    (prog : Program) (workers : ℕ) (m : Machine) (w : ℕ) (d : Strand) → IsStrand prog d → Runs m w d → IsOrderly m → w < workers →
     LeavesTasks workers m w d
 
 -- ---- the children that are counted
@@ -115,17 +115,17 @@ CountsAre counts older newest t [] = (region : ℕ) → counts t.path region ≡
 CountsAre counts older newest t (g ∷ rest) =
     ((region : ℕ) → counts t.path region ≡ newest region) × CountsAre counts older (counts_in t.frame.role) g rest
 
-abbrev pub DeepStrandsCount : Type 0
-DeepStrandsCount =
-    (prog : Program) (m : Machine) (w : ℕ) (d : DeepStrand) → IsDeep prog d → Runs m w d → IsOrderly m →
+abbrev pub StrandsCount : Type 0
+StrandsCount =
+    (prog : Program) (m : Machine) (w : ℕ) (d : Strand) → IsStrand prog d → Runs m w d → IsOrderly m →
     CountsAre (count_of (absorbed m w d).core) (count_of m.core d.base.path) no_count d.top d.below
 
 -- ---- the frame below
 
 -- it waits for what the top frame is: a detached child, or a call
-abbrev pub DeepEndsMatch : Type 0
-DeepEndsMatch =
-    (prog : Program) (d : DeepStrand) (g : Placed) (rest : List Placed) → IsDeep prog d → d.below ≡ g ∷ rest →
+abbrev pub EndsMatch : Type 0
+EndsMatch =
+    (prog : Program) (d : Strand) (g : Placed) (rest : List Placed) → IsStrand prog d → d.below ≡ g ∷ rest →
     ((region : ℕ) → next_action prog d ≡ Reattach region → g.frame.waits ≡ Free) ×
     ((result : Option ℤ) → next_action prog d ≡ Return result → (k : ℕ) × (register : Option RegisterId) × (g.frame.waits ≡ OnCall k register))
 
@@ -137,14 +137,14 @@ pub record IsKept (prog : Program) (good : State → Type 0) : Type 0 where
   pub steps : (s : State) (p : Path) (c : Change) → good s → change_of prog s p ≡ Some c → c.trap ≡ None → good (apply c s)
 
 -- then it holds wherever a strand comes, whatever it read
-abbrev pub KeepsDeep : Program → (State → Type 0) → Type 0
-KeepsDeep prog good =
-    IsKept prog good → (m : Machine) (w : ℕ) (d : DeepStrand) → IsDeep prog d → Runs m w d → IsOrderly m →
+abbrev pub KeptByStrands : Program → (State → Type 0) → Type 0
+KeptByStrands prog good =
+    IsKept prog good → (m : Machine) (w : ℕ) (d : Strand) → IsStrand prog d → Runs m w d → IsOrderly m →
     may_go m.core d.base.path d.base.frame.made d.base.frame.waits ≡ true → good m.core → good (absorbed m w d).core
 
 -- for what is told by a test
-abbrev pub DeepStrandsKeep : Type 0
-DeepStrandsKeep = (prog : Program) (test : State → Bool) → KeepsDeep prog (λ s. test s ≡ true)
+abbrev pub StrandsKeep : Type 0
+StrandsKeep = (prog : Program) (test : State → Bool) → KeptByStrands prog (λ s. test s ≡ true)
 
 -- ---- where a schedule leads
 

@@ -1,4 +1,4 @@
--- A sample: one deep strand goes from the root over a detach, a call, a return, a reattach and a sync.
+-- A sample: one strand goes from the root over a detach, a call, a return, a reattach and a sync.
 use Rattle.std.specs.Prelude.{◌≡◌, ℕ, List, [], ◌∷◌, Some, None, ℤ, pos, codes}
 use Rattle.semantics.specs.Cells.{Shared, Local, Cell}
 use Rattle.semantics.specs.Arithmetic.{cell_sum}
@@ -23,7 +23,7 @@ use Rattle.program.specs.declared.instruction.Step.{Step}
 use Rattle.program.specs.declared.instruction.Terminator.{Terminator}
 use Rattle.program.specs.declared.instruction.Terminator.TheVariants as terminator
 use Rattle.laws_strands.specs.stacks.Footprint.{Stored}
-use Rattle.laws_strands.specs.stacks.Deep.{DeepStrand, IsDeep, at}
+use Rattle.laws_strands.specs.stacks.Strands.{Strand, IsStrand, at}
 
 abbrev pub register : ℕ → RegisterId
 register n = record { 0 = n }
@@ -99,9 +99,9 @@ abbrev pub own_cell : Cell
 own_cell = record { object = Local (0 ∷ 0 ∷ []) 0; index = 0 }
 
 -- the root's frame stands before its return, after ten instructions; the sum is to be stored, and the called frame's cell is gone with it
-pub record GoesDeep (v : ℤ) : Type 0 where
-  pub strand : DeepStrand
-  pub is : IsDeep sample strand
+pub record GoesOverBorders (v : ℤ) : Type 0 where
+  pub strand : Strand
+  pub is : IsStrand sample strand
   pub base : strand.base ≡ at [] (root_frame sample [])
   pub path : strand.top.path ≡ []
   pub block_is : strand.top.frame.block ≡ 3
@@ -113,5 +113,5 @@ pub record GoesDeep (v : ℤ) : Type 0 where
   pub sum_is : strand.footprint.writes global_cell ≡ Some (Stored (Some (cell_sum v (pos 5))))
   pub gone : strand.footprint.writes own_cell ≡ Some (Stored None)
 
-abbrev pub SampleGoesDeep : Type 0
-SampleGoesDeep = (v : ℤ) → GoesDeep v
+abbrev pub SampleGoesOverBorders : Type 0
+SampleGoesOverBorders = (v : ℤ) → GoesOverBorders v

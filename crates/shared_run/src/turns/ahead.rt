@@ -1,6 +1,6 @@
 use crate::bench::Bench;
 use crate::board::Board;
-use crate::stack::PrivateStack;
+use crate::worker_strand::WorkerStrand;
 
 /// The cells of a page.
 const PAGE: i64 = 64;
@@ -47,10 +47,10 @@ impl Trail {
     ///
     /// A strand that has pages right before the one of the address reads forwards, and one that has some right behind it backwards. As many as it has
     /// there are fetched on the other side: so what is fetched in vain is at most what was read.
-    pub(crate) fn note<L: Bench>(&mut self, stack: &PrivateStack<'_, L>, at: i64) -> Ahead {
+    pub(crate) fn note<L: Bench>(&mut self, strand: &WorkerStrand<'_, L>, at: i64) -> Ahead {
         let apart = self.apart(at);
         for step in [PAGE, -PAGE] {
-            let pages = pages_in_use(stack, at, -step);
+            let pages = pages_in_use(strand, at, -step);
             if pages > 0 {
                 return Ahead {
                     from: at,
@@ -82,12 +82,12 @@ impl Trail {
 }
 
 impl Ahead {
-    /// Gives them to the stack, as long as the board has them and there is room.
-    pub(crate) fn fetch<L: Bench>(self, board: &Board<'_, L>, stack: &mut PrivateStack<'_, L>) {
+    /// Gives them to the strand, as long as the board has them and there is room.
+    pub(crate) fn fetch<L: Bench>(self, board: &Board<'_, L>, strand: &mut WorkerStrand<'_, L>) {
         let mut at = self.from;
         for _page in 0..self.pages {
             at = at.saturating_add(self.step);
-            if !board.fetch_ahead(stack, at) {
+            if !board.fetch_ahead(strand, at) {
                 return;
             }
         }
@@ -95,11 +95,11 @@ impl Ahead {
 }
 
 /// How many pages are in use one after the other from the address on, without its own.
-fn pages_in_use<L: Bench>(stack: &PrivateStack<'_, L>, from: i64, step: i64) -> usize {
+fn pages_in_use<L: Bench>(strand: &WorkerStrand<'_, L>, from: i64, step: i64) -> usize {
     let mut at = from;
     for count in 0..MOST {
         at = at.saturating_add(step);
-        if !stack.has_page(at) {
+        if !strand.has_page(at) {
             return count;
         }
     }

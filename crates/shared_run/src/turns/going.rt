@@ -1,14 +1,14 @@
 use crate::bench::Bench;
-use crate::stack::{MOST_INSTRUCTIONS, PrivateStack, Standing};
 use crate::turns::habits::{Habits, Want};
 use crate::turns::tasks::{Hunger, Reason};
+use crate::worker_strand::{MOST_INSTRUCTIONS, Standing, WorkerStrand};
 
 /// A strand looks for others' demand after so many instructions at first, then each time it has done twice as many, up to the longest slice.
 const SHORTEST_SLICE: u64 = 2;
 
 const LONGEST_SLICE: u64 = 1_000;
 
-/// A stack with so many frames below its top is one of nested calls, which has much to give: it is put on the board as soon as others wait.
+/// A strand with so many frames below its top is one of nested calls, which has much to give: it is put on the board as soon as others wait.
 const DEEP: usize = 4;
 
 /// More pauses than the slices of a strand make.
@@ -16,13 +16,13 @@ const MOST_PAUSES: u32 = 1_000;
 
 /// Goes on to where something is wanted of the board: what that is.
 fn next_want<L: Bench, H: Hunger>(
-    stack: &mut PrivateStack<'_, L>,
+    strand: &mut WorkerStrand<'_, L>,
     habits: &mut Habits,
     wanted: &H,
 ) -> Want {
     for _ in 0..MOST_PAUSES {
-        let slice = stack.done().clamp(SHORTEST_SLICE, LONGEST_SLICE);
-        let reason = match stack.advance(slice) {
+        let slice = strand.done().clamp(SHORTEST_SLICE, LONGEST_SLICE);
+        let reason = match strand.advance(slice) {
             Standing::Border => Reason::Border,
             Standing::Full => Reason::Full,
             Standing::Spoilt => return Want::Leave,
@@ -30,11 +30,11 @@ fn next_want<L: Bench, H: Hunger>(
             Standing::Need { at } => return Want::Page { at },
             Standing::Going if wanted.is_over() => return Want::Nothing,
             Standing::Going => {
-                let (done, frames) = (stack.done(), stack.frames_below());
+                let (done, frames) = (strand.done(), strand.frames_below());
                 if done == MOST_INSTRUCTIONS || habits.heights.is_low(done, frames) {
                     Reason::Limit
                 } else if wanted.is_there()
-                    && stack.has_ready_frame()
+                    && strand.has_ready_frame()
                     && habits.pace.is_due(done, DEEP <= frames)
                 {
                     // Others wait for a task that the strand would leave ready, and it is not too soon.
@@ -44,19 +44,23 @@ fn next_want<L: Bench, H: Hunger>(
                 }
             }
         };
-        return Want::Post { reason };
+        return Want::Publish { reason };
     }
-    Want::Post {
+    Want::Publish {
         reason: Reason::Limit,
     }
 }
 
 /// Goes on outside of the board, as long as nothing is wanted of it and it is not over.
-pub fn turn<L: Bench, H: Hunger>(stack: &mut PrivateStack<'_, L>, habits: &mut Habits, wanted: &H) {
+pub fn turn<L: Bench, H: Hunger>(
+    strand: &mut WorkerStrand<'_, L>,
+    habits: &mut Habits,
+    wanted: &H,
+) {
     habits.is_new = false;
     if let Want::Nothing = habits.want
         && !wanted.is_over()
     {
-        habits.want = next_want(stack, habits, wanted);
+        habits.want = next_want(strand, habits, wanted);
     }
 }

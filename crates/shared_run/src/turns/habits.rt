@@ -16,15 +16,15 @@ pub(crate) enum Want {
     Base,
     /// The page of the cell at this address.
     Page { at: i64 },
-    /// To put on the board what it has done.
-    Post { reason: Reason },
+    /// To publish what it has done.
+    Publish { reason: Reason },
     /// A task.
     Task,
     /// To leave: memory was refused.
     Leave,
 }
 
-/// What a worker remembers beside its stack. Nothing rests on it.
+/// What a worker remembers beside its strand. Nothing rests on it.
 #[derive(Drop)]
 pub struct Habits {
     pub(crate) want: Want,

@@ -2,10 +2,10 @@ use crate::answers::{Claimed, Loaded, Published, Stepped};
 use crate::bench::Bench;
 use crate::board::Board;
 use crate::seat::Seat;
-use crate::stack::{PrivateStack, Standing};
 use crate::turns::habits::{Habits, Want};
 use crate::turns::heights::Heights;
 use crate::turns::tasks::{Reason, Tasks, Told};
+use crate::worker_strand::{Standing, WorkerStrand};
 
 /// A strand that begins behind a border and comes to another within so many instructions, as those that end a frame do, is put on the board before the lock
 /// is let go, so many one after the other with the first one; it may need the cells of so many pages.
@@ -38,12 +38,12 @@ pub enum Met {
 fn load<L: Bench>(
     board: &Board<'_, L>,
     seat: &Seat<L>,
-    stack: &mut PrivateStack<'_, L>,
+    strand: &mut WorkerStrand<'_, L>,
     habits: &mut Habits,
 ) -> Met {
     habits.heights = Heights::none_seen();
     habits.is_new = true;
-    match board.fetch_base(seat, stack) {
+    match board.fetch_base(seat, strand) {
         Loaded::Frame => Met::Work,
         Loaded::Idle => Met::Idle,
         Loaded::OutOfMemory => Met::OutOfMemory,
@@ -55,7 +55,7 @@ fn step_over<L: Bench, T: Tasks>(
     board: &mut Board<'_, L>,
     tasks: &mut T,
     seat: &mut Seat<L>,
-    stack: &PrivateStack<'_, L>,
+    strand: &WorkerStrand<'_, L>,
     habits: &mut Habits,
 ) -> Met {
     let me = seat.worker();
@@ -67,7 +67,7 @@ fn step_over<L: Bench, T: Tasks>(
                 tasks.offer(me, ticket);
                 habits.offered = habits.offered.saturating_add(1);
             }
-            if stack.is_at_reattach() {
+            if strand.is_at_reattach() {
                 match parent {
                     Some(own) if !idle => {
                         tasks.withdraw(me, own);
@@ -90,23 +90,23 @@ fn step_over<L: Bench, T: Tasks>(
     }
 }
 
-/// Puts the worker's strand on the board, with the border's step where it stands at one, and offers the tasks that it leaves ready. The worker goes on too
+/// Publishes the worker's strand, with the border's step where it stands at one, and offers the tasks that it leaves ready. The worker goes on too
 /// where the strand was done for nothing.
-fn put<L: Bench, T: Tasks>(
+fn publish<L: Bench, T: Tasks>(
     board: &mut Board<'_, L>,
     tasks: &mut T,
     seat: &mut Seat<L>,
-    stack: &PrivateStack<'_, L>,
+    strand: &WorkerStrand<'_, L>,
     habits: &mut Habits,
     reason: Reason,
 ) -> Met {
-    let (me, instructions) = (seat.worker(), stack.done());
+    let (me, instructions) = (seat.worker(), strand.done());
     habits.tickets.clear();
     if instructions > 0 {
-        match board.publish(seat, stack) {
+        match board.publish(seat, strand) {
             Published::Done => {
                 // A task without a ticket is still found at the board.
-                let _ = board.ready_tickets(seat, stack.frames_below(), &mut habits.tickets);
+                let _ = board.ready_tickets(seat, strand.frames_below(), &mut habits.tickets);
             }
             Published::Stranger => {
                 tasks.note(Told::Stranger);
@@ -126,18 +126,18 @@ fn put<L: Bench, T: Tasks>(
         tasks.offer(me, *ticket);
     }
     match reason {
-        Reason::Border => step_over(board, tasks, seat, stack, habits),
+        Reason::Border => step_over(board, tasks, seat, strand, habits),
         _ => Met::Work,
     }
 }
 
 /// Goes on for a few instructions under the board's lock; whether they come to a border.
-fn comes_to_border<L: Bench>(board: &Board<'_, L>, stack: &mut PrivateStack<'_, L>) -> bool {
+fn comes_to_border<L: Bench>(board: &Board<'_, L>, strand: &mut WorkerStrand<'_, L>) -> bool {
     for _page in 0..SHORT_PAGES {
-        match stack.advance(SHORT) {
+        match strand.advance(SHORT) {
             Standing::Border => return true,
             Standing::Need { .. } => {
-                if !board.fetch_need(stack) {
+                if !board.fetch_need(strand) {
                     return false;
                 }
             }
@@ -148,11 +148,11 @@ fn comes_to_border<L: Bench>(board: &Board<'_, L>, stack: &mut PrivateStack<'_, 
 }
 
 /// The same, and loads the frame that comes next. Frames that end soon after one another are done at once.
-fn put_all<L: Bench, T: Tasks>(
+fn publish_all<L: Bench, T: Tasks>(
     board: &mut Board<'_, L>,
     tasks: &mut T,
     seat: &mut Seat<L>,
-    stack: &mut PrivateStack<'_, L>,
+    strand: &mut WorkerStrand<'_, L>,
     habits: &mut Habits,
     reason: Reason,
 ) -> Met {
@@ -161,14 +161,14 @@ fn put_all<L: Bench, T: Tasks>(
         _ => 1,
     };
     let mut met = Met::Work;
-    for strand in 0..most {
-        if strand > 0 && !comes_to_border(board, stack) {
+    for nth in 0..most {
+        if nth > 0 && !comes_to_border(board, strand) {
             break;
         }
-        met = put(board, tasks, seat, stack, habits, reason);
-        stack.clear();
+        met = publish(board, tasks, seat, strand, habits, reason);
+        strand.clear();
         if let Met::Work = met {
-            let _loaded = load(board, seat, stack, habits);
+            let _loaded = load(board, seat, strand, habits);
         }
     }
     met
@@ -179,7 +179,7 @@ fn search<L: Bench, T: Tasks>(
     board: &mut Board<'_, L>,
     tasks: &mut T,
     seat: &mut Seat<L>,
-    stack: &mut PrivateStack<'_, L>,
+    strand: &mut WorkerStrand<'_, L>,
     habits: &mut Habits,
 ) -> Met {
     for _try in 0..MOST_TICKETS {
@@ -198,8 +198,8 @@ fn search<L: Bench, T: Tasks>(
                 tasks.note(Told::Steal);
                 habits.pace.note_task();
                 habits.vain = 0;
-                stack.clear();
-                let _loaded = load(board, seat, stack, habits);
+                strand.clear();
+                let _loaded = load(board, seat, strand, habits);
                 return Met::Work;
             }
             Claimed::Gone if is_last => return Met::Idle,
@@ -215,31 +215,31 @@ fn serve<L: Bench, T: Tasks>(
     board: &mut Board<'_, L>,
     tasks: &mut T,
     seat: &mut Seat<L>,
-    stack: &mut PrivateStack<'_, L>,
+    strand: &mut WorkerStrand<'_, L>,
     habits: &mut Habits,
 ) -> Met {
     match habits.want {
         Want::Nothing => Met::Work,
         Want::Leave => Met::OutOfMemory,
         Want::Task => Met::Idle,
-        Want::Base => load(board, seat, stack, habits),
+        Want::Base => load(board, seat, strand, habits),
         Want::Begin => {
-            let met = load(board, seat, stack, habits);
+            let met = load(board, seat, strand, habits);
             if let Met::Work = met {
                 tasks.note(Told::Begin);
             }
             met
         }
         Want::Page { at } => {
-            let ahead = habits.trail.note(stack, at);
-            if board.fetch_need(stack) {
-                ahead.fetch(board, stack);
+            let ahead = habits.trail.note(strand, at);
+            if board.fetch_need(strand) {
+                ahead.fetch(board, strand);
                 Met::Work
             } else {
-                put_all(board, tasks, seat, stack, habits, Reason::Limit)
+                publish_all(board, tasks, seat, strand, habits, Reason::Limit)
             }
         }
-        Want::Post { reason } => put_all(board, tasks, seat, stack, habits, reason),
+        Want::Publish { reason } => publish_all(board, tasks, seat, strand, habits, reason),
     }
 }
 
@@ -249,17 +249,17 @@ pub fn meet<L: Bench, T: Tasks>(
     board: &mut Board<'_, L>,
     tasks: &mut T,
     seat: &mut Seat<L>,
-    stack: &mut PrivateStack<'_, L>,
+    strand: &mut WorkerStrand<'_, L>,
     habits: &mut Habits,
 ) -> (Met, usize) {
     if board.end() {
         return (Met::Ended, 0);
     }
     habits.offered = 0;
-    let mut met = serve(board, tasks, seat, stack, habits);
+    let mut met = serve(board, tasks, seat, strand, habits);
     if let Met::Idle = met {
         habits.want = Want::Task;
-        met = search(board, tasks, seat, stack, habits);
+        met = search(board, tasks, seat, strand, habits);
     }
     if let Met::Work = met {
         habits.want = Want::Nothing;

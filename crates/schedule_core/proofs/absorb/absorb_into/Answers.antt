@@ -1,12 +1,12 @@
 use Rattle.std.proofs.Common.{◌≡◌, length, subst, sym, ◌∙◌}
 use Rattle.std.specs.Prelude.{OnErr, Ok, true}
 use Rattle.program.specs.declared.function.Program.{Program}
-use Rattle.schedule_commit.specs.Absorbing.{DoesStrand, KeepsHand, LeavesStallsBy, StandsAlone, steps_in}
+use Rattle.schedule_commit.specs.Absorbing.{DoesFrameStrand, KeepsHand, LeavesStallsBy, StandsAlone, steps_in}
 use Rattle.frame_engine.specs.declared.activation.Places.{Places}
 use Rattle.schedule_workers.specs.Going.{TextFits}
 use Rattle.schedule_workers.specs.Left.{LeavesAsShown}
 use Rattle.schedule_core.specs.Replaying.{LeavesAsBefore}
-use Rattle.schedule_core.specs.Strands.{Absorbs}
+use Rattle.schedule_core.specs.FrameStrands.{Absorbs}
 use Rattle.schedule_core.proofs.Commits.{absorbs, left_absorbing, machine_absorbing, same_places, stands_alone}
 use Rattle.schedule_core.proofs.Promised.{text_fits}
 use Rattle.schedule_core.proofs.Replaying.{with_run}
@@ -35,7 +35,7 @@ does c is =
     let old = c.args.stage.now in
     let k = c.absorb.new.run in
     let x = c.args.strand.now in
-    absorbs old k c.absorb.ensures.workers c.args.worker x (subst (λ (q : Program). ∥ DoesStrand q old.places old.run k c.args.worker x ∥₁) c.program-program.ensures.value (subst (λ (p : Places). ∥ DoesStrand c.program-program.result.now p old.run k c.args.worker x ∥₁) c.get.ensures (c.absorb.ensures.does is)))
+    absorbs old k c.absorb.ensures.workers c.args.worker x (subst (λ (q : Program). ∥ DoesFrameStrand q old.places old.run k c.args.worker x ∥₁) c.program-program.ensures.value (subst (λ (p : Places). ∥ DoesFrameStrand c.program-program.result.now p old.run k c.args.worker x ∥₁) c.get.ensures (c.absorb.ensures.does is)))
     (subst (λ (q : Program). LeavesStallsBy q old.places old.run k c.args.worker (steps_in x.pause x.course.done)) c.program-program.ensures.value (subst (λ (p : Places). LeavesStallsBy c.program-program.result.now p old.run k c.args.worker (steps_in x.pause x.course.done)) c.get.ensures (c.absorb.ensures.stalls is)))
     (subst (λ (q : Program). KeepsHand q old.places old.run c.args.worker x) c.program-program.ensures.value (subst (λ (p : Places). KeepsHand c.program-program.result.now p old.run c.args.worker x) c.get.ensures (c.absorb.ensures.hand is)))
 

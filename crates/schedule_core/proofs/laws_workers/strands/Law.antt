@@ -43,12 +43,12 @@ use Rattle.schedule_commit.specs.frame_strand.Alone.{StaysSafeAlone}
 use Rattle.schedule_core.proofs.laws_workers.strands.Alone.{Alone, knows_held, stays_safe}
 use Rattle.schedule_core.proofs.laws_workers.strands.Facts.{met, Told, told_kept, told_held, told_knows, always_told}
 use Rattle.schedule_core.proofs.laws_workers.strands.Numbers.{Firm, firm_kept, firm_held, firm_keeps, always_firm}
-use Rattle.laws_strands.specs.stacks.Deep.{DeepStrand, loaded, IsDeep, is_loaded}
+use Rattle.laws_strands.specs.stacks.Strands.{Strand, loaded, IsStrand, is_loaded}
 use Rattle.laws_strands.specs.stacks.Law.{IsOrderly, Runs, Fits, absorbed, IsKept}
-use Rattle.laws_strands.proofs.stacks.Kept.{goes, kept_deep}
+use Rattle.laws_strands.proofs.stacks.Kept.{goes, kept_by_strands}
 use Rattle.laws_strands.proofs.stacks.Law.{starts}
 use Rattle.laws_strands.proofs.stacks.Reached.{reached_are_orderly}
-use Rattle.schedule_core.specs.laws_workers.strands.Promise.{laid_out, IsSafeDeep, StaysSafeDeep, FramesGoAlone, FramesGoDeep}
+use Rattle.schedule_core.specs.laws_workers.strands.Promise.{laid_out, IsSafeStrand, StaysSafeAsStrands, FramesGoAlone, FramesGoAsStrands}
 use Rattle.schedule_commit.specs.Absorbing.{GoesAloneIn}
 
 module _ (text : List ℕ) (program : Program) (accepted : IsProgramOf text program) (arguments : List ℤ) (memory : Memory) (given : AreTaken program arguments) (globals : HasGlobals program memory)
@@ -134,9 +134,9 @@ module _ (text : List ℕ) (program : Program) (accepted : IsProgramOf text prog
       steps = λ s p c h ch fine. told_kept text program accepted t uses s p c (does program s p c ch) fine h;
     }
 
-    -- ---- a deep strand
+    -- ---- a strand
 
-    module _ (w : ℕ) (d : DeepStrand) (is : IsDeep program d) (runs : Runs m w d) where
+    module _ (w : ℕ) (d : Strand) (is : IsStrand program d) (runs : Runs m w d) where
       steady : IsSteady program m.core d.base.path d.base.frame
       steady = held_frames_are_steady program arguments memory workers never events w d.base.path d.base.frame runs.hand runs.frame
 
@@ -160,26 +160,26 @@ module _ (text : List ℕ) (program : Program) (accepted : IsProgramOf text prog
 
       firm_there : IsFirm s
       firm_there =
-          kept_deep program IsFirm firm m w d is runs orderly steady.may
+          kept_by_strands program IsFirm firm m w d is runs orderly steady.may
           (always_firm program t.names.named t.right.regions closed.opens closed.closes arguments memory root.placed root.regions root.registers workers never events)
 
       told_there : IsTold s
       told_there =
-          kept_deep program IsTold told m w d is runs orderly steady.may
+          kept_by_strands program IsTold told m w d is runs orderly steady.may
           (always_told text program accepted t uses arguments memory given root.placed (starts_kinded program t.names.kinds uses.main arguments (as_many program arguments given)) workers never events)
 
       begins : Alone program t (regions_of program t) (met text program accepted t uses) uses (uses_are_sized text program accepted) closed.opens closed.closes s p s f
       begins =
           let keeps = (firm_keeps program t.names.named t.right.regions closed.opens closed.closes s firm_there p f stands on).1 in
           record {
-            known = kept_deep program Knows knows m w d is runs orderly steady.may
+            known = kept_by_strands program Knows knows m w d is runs orderly steady.may
                 (replay_good program workers Knows (known_kept program t.names.named t.names.objects) events first never (first_known program t.names.named t.names.objects arguments memory));
-            below = kept_deep program (λ x. OfAll x IsBelow) below m w d is runs orderly steady.may (always_below program arguments memory workers never events);
+            below = kept_by_strands program (λ x. OfAll x IsBelow) below m w d is runs orderly steady.may (always_below program arguments memory workers never events);
             lives = stands;
             cells = λ o. refl;
             may = may;
             placed = keeps.placed;
-            kinded = (kept_deep program (λ x. OfAll x Kinded) kinded m w d is runs orderly steady.may (λ x g there. (run.frames x g there).kinds)) p f stands;
+            kinded = (kept_by_strands program (λ x. OfAll x Kinded) kinded m w d is runs orderly steady.may (λ x g there. (run.frames x g there).kinds)) p f stands;
             own = keeps.regions;
             registers = keeps.registers (going_now s p f may);
             facts = told_knows text program accepted t uses s told_there p f stands on (going_now s p f may);
@@ -188,29 +188,29 @@ module _ (text : List ℕ) (program : Program) (accepted : IsProgramOf text prog
       kinds : HasKindedRegisters program f
       kinds = begins.kinded
 
-      pub goes_deep : IsSafeDeep program m w d
-      goes_deep = record {
+      pub goes_as_strand : IsSafeStrand program m w d
+      goes_as_strand = record {
         alone = λ at. stays_safe program t (regions_of program t) (met text program accepted t uses) uses (uses_are_sized text program accepted) closed.opens closed.closes s p f begins at;
         whole = λ register callee passed is k name at. name_whole program uses f kinds (instruction.Call register callee passed) is name (k, at);
         points = points_up p f (begins.below p f stands);
-        counted = (kept_deep program Counted counted m w d is runs orderly steady.may
+        counted = (kept_by_strands program Counted counted m w d is runs orderly steady.may
             (replay_good program workers Counted (step_counted program) events first never
             (of_first program arguments memory (IsWithin 0) (record { index = omega arith; made = omega arith; depth = omega arith })))) p f stands;
       }
 
-pub frames_go_deep : FramesGoDeep
-frames_go_deep text program accepted arguments memory given globals workers some events w d is runs =
-    goes_deep text program accepted arguments memory given globals workers some events w d is runs
+pub frames_go_as_strands : FramesGoAsStrands
+frames_go_as_strands text program accepted arguments memory given globals workers some events w d is runs =
+    goes_as_strand text program accepted arguments memory given globals workers some events w d is runs
 
 -- ---- by itself
 
--- a frame by itself is a deep strand that has just begun
-pub alone_too : (prog : Program) (m : Machine) → StaysSafeDeep prog m → GoesAloneIn prog m
-alone_too prog m deep w p f here is at =
+-- a frame by itself is a strand that has just begun
+pub alone_too : (prog : Program) (m : Machine) → StaysSafeAsStrands prog m → GoesAloneIn prog m
+alone_too prog m strands w p f here is at =
     let runs : Runs m w (loaded p f) = record { hand = here; frame = is; synced = All-nil _ } in
     let fits : Fits m w (loaded p f) = record { runs = runs; reads = λ x v e. absurd (cc) } in
-    subst (λ (x : Machine). StaysSafeAlone prog (laid_out at prog x.core) p f) (sym (starts m w p f fits)) ((deep w (loaded p f) (is_loaded p f) runs).alone at)
+    subst (λ (x : Machine). StaysSafeAlone prog (laid_out at prog x.core) p f) (sym (starts m w p f fits)) ((strands w (loaded p f) (is_loaded p f) runs).alone at)
 
 pub frames_go_alone : FramesGoAlone
 frames_go_alone text program accepted arguments memory given globals workers some events =
-    alone_too program (replay program workers events (start program arguments memory)) (frames_go_deep text program accepted arguments memory given globals workers some events)
+    alone_too program (replay program workers events (start program arguments memory)) (frames_go_as_strands text program accepted arguments memory given globals workers some events)

@@ -1,4 +1,4 @@
--- A frame that a worker loads may be the base of a stack of its own.
+-- A frame that a worker loads may be the base of a strand.
 use Rattle.std.proofs.Common.{◌≡◌, ◌∙◌, ℕ, ◌+◌, ◌<◌, ◌≤◌, List, [], ◌∷◌, length, Option, Some, None, Bool, true, false, refl, sym, ap, subst, arith, slice_get, ℤ}
 use Rattle.std.specs.List.{All}
 use Rattle.std.proofs.lemmas.List.Elements.{All-cons, All-nil}
@@ -13,8 +13,8 @@ use Rattle.program.specs.declared.function.Program.{Program}
 use Rattle.program.specs.declared.identifier.ObjectName.TheVariants as object
 use Rattle.frame_engine.specs.Shows.{Layout}
 use Rattle.frame_engine.specs.declared.activation.Places.{Places}
-use Rattle.schedule_commit.specs.private_stack.serial_stack.Layouts.{for_body}
-use Rattle.schedule_commit.specs.private_stack.serial_stack.Shown.{IsOld}
+use Rattle.schedule_commit.specs.strand.serial_stack.Layouts.{for_body}
+use Rattle.schedule_commit.specs.strand.serial_stack.Shown.{IsOld}
 use Rattle.schedule_workers.specs.Going.{IsAbove}
 use Rattle.schedule_workers.specs.Layouts.{alloca_cells, living, own_cells}
 use Rattle.schedule_workers.proofs.Calling.{values_up}
@@ -22,18 +22,18 @@ use Rattle.serial_machine.proofs.laws_conditions.rules.Moves.{calls_here}
 use Rattle.serial_machine.proofs.laws_schedule.Promise.{accepted_programs_keep_their_promise}
 use Rattle.serial_machine.proofs.laws_schedule.safe.Safe.{schedules_are_safe}
 use Rattle.schedule_commit.specs.frame_strand.Alone.{StaysSafeAlone}
-use Rattle.schedule_commit.specs.private_stack.Along.{IsLent, LoadsGoDeep}
-use Rattle.schedule_commit.specs.private_stack.Layouts.{Segment, layout_above}
-use Rattle.schedule_commit.specs.private_stack.Shown.{CanGo}
-use Rattle.schedule_commit.proofs.private_stack.Coming.{under_long}
-use Rattle.schedule_commit.proofs.private_stack.Living as text
-use Rattle.schedule_commit.proofs.private_stack.Living.{fresh, local_above, shared_above}
-use Rattle.laws_strands.specs.stacks.Deep.{DeepStrand, IsDeep, Placed, at, next_action}
+use Rattle.schedule_commit.specs.strand.Along.{IsLent, LoadsGoAsStrands}
+use Rattle.schedule_commit.specs.strand.Layouts.{Segment, layout_above}
+use Rattle.schedule_commit.specs.strand.Shown.{CanGo}
+use Rattle.schedule_commit.proofs.strand.Coming.{under_long}
+use Rattle.schedule_commit.proofs.strand.Living as text
+use Rattle.schedule_commit.proofs.strand.Living.{fresh, local_above, shared_above}
+use Rattle.laws_strands.specs.stacks.Strands.{Strand, IsStrand, Placed, at, next_action}
 use Rattle.laws_strands.specs.stacks.Footprint.{memory_of}
 use Rattle.laws_strands.specs.stacks.Law.{IsOrderly, Runs, absorbed}
 use Rattle.laws_strands.proofs.stacks.Reached.{reached_are_orderly}
-use Rattle.schedule_core.specs.laws_workers.strands.Promise.{IsSafeDeep, LoadedFramesGoDeep, StaysSafeDeep, laid_out}
-use Rattle.schedule_core.proofs.laws_workers.strands.Law.{frames_go_deep}
+use Rattle.schedule_core.specs.laws_workers.strands.Promise.{IsSafeStrand, LoadedFramesGoAsStrands, StaysSafeAsStrands, laid_out}
+use Rattle.schedule_core.proofs.laws_workers.strands.Law.{frames_go_as_strands}
 
 above_old : (p : Path) (o : Object) → IsAbove p o → IsOld (length p) o
 above_old p (Shared g) above = tt
@@ -51,9 +51,9 @@ alloca_is : (prog : Program) (o : Option Frame) (a : ℕ) → alloca_cells prog 
 alloca_is prog None a = refl
 alloca_is prog (Some f) a = own_is f.role (cells_of prog f.function (object.Alloca (record { 0 = a })))
 
-module _ (prog : Program) (m : Machine) (orderly : IsOrderly m) (deep : StaysSafeDeep prog m) (small : m.core.done + 65538 < 18446744073709551616) where
+module _ (prog : Program) (m : Machine) (orderly : IsOrderly m) (strands : StaysSafeAsStrands prog m) (small : m.core.done + 65538 < 18446744073709551616) where
   module _ (begins : Object → ℤ) (s : Segment) (lent : IsLent (laid_out begins prog m.core) s) (w : ℕ) (p : Path) (g : Frame) (hand : m.hands w ≡ Some p) (there : m.core.frames p ≡ Some g)
-      (d : DeepStrand) (is : IsDeep prog d) (base : d.base ≡ at p g) (clear : All (λ r. none_within m.core p g.made r ≡ true) d.synced) (few : d.done ≤ 65536)
+      (d : Strand) (is : IsStrand prog d) (base : d.base ≡ at p g) (clear : All (λ r. none_within m.core p g.made r ≡ true) d.synced) (few : d.done ≤ 65536)
     where
       runs : Runs m w d
       runs = record {
@@ -62,8 +62,8 @@ module _ (prog : Program) (m : Machine) (orderly : IsOrderly m) (deep : StaysSaf
         synced = subst (λ (b : Placed). All (λ r. none_within m.core b.path b.frame.made r ≡ true) d.synced) (sym base) clear;
       }
 
-      safe : IsSafeDeep prog m w d
-      safe = deep w d is runs
+      safe : IsSafeStrand prog m w d
+      safe = strands w d is runs
 
       abbrev l : Layout
       l = laid_out begins prog m.core
@@ -111,19 +111,19 @@ module _ (prog : Program) (m : Machine) (orderly : IsOrderly m) (deep : StaysSaf
   clear_if p g true none synced nothing = all_of (λ r. none_within m.core p g.made r ≡ true) (none refl) synced
   clear_if p g false none synced nothing = subst (λ regions. All (λ r. none_within m.core p g.made r ≡ true) regions) (sym (nothing refl)) (All-nil _)
 
-  pub loads_go_deep : (places : Places) → LoadsGoDeep prog places (living prog m.core) m
-  loads_go_deep places begins s lent w p g f hand there shown waits childless none = record {
+  pub loads_go_as_strands : (places : Places) → LoadsGoAsStrands prog places (living prog m.core) m
+  loads_go_as_strands places begins s lent w p g f hand there shown waits childless none = record {
     shown = shown;
     waits = waits;
     apart = lent.apart;
     goes = λ d is base synced room few. can_go begins s lent w p g hand there d is base (clear_if p g childless none d.synced synced) few;
   }
 
-pub loaded_frames_go_deep : LoadedFramesGoDeep
-loaded_frames_go_deep text program accepted places are arguments memory given globals workers some events =
+pub loaded_frames_go_as_strands : LoadedFramesGoAsStrands
+loaded_frames_go_as_strands text program accepted places are arguments memory given globals workers some events =
     let promise = accepted_programs_keep_their_promise text program accepted arguments memory given globals in
     let orderly = reached_are_orderly program arguments memory workers some events ((promise.every_schedule workers some events).no_trap.0) in
     let run = schedules_are_safe text program accepted arguments memory given globals workers some events in
     let budget = run.within_budget in
     let small = run.small in
-    loads_go_deep program _ orderly (frames_go_deep text program accepted arguments memory given globals workers some events) (omega (arith, budget, small)) places
+    loads_go_as_strands program _ orderly (frames_go_as_strands text program accepted arguments memory given globals workers some events) (omega (arith, budget, small)) places

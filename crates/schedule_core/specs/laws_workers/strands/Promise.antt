@@ -21,9 +21,9 @@ use Rattle.frame_engine.specs.Arguments.{ArgumentsAreWhole}
 use Rattle.frame_engine.specs.Shows.{Layout}
 use Rattle.frame_engine.specs.declared.activation.Places.{Places}
 use Rattle.schedule_commit.specs.frame_strand.Alone.{StaysSafeAlone}
-use Rattle.laws_strands.specs.stacks.Deep.{DeepStrand, IsDeep}
+use Rattle.laws_strands.specs.stacks.Strands.{Strand, IsStrand}
 use Rattle.laws_strands.specs.stacks.Law.{Runs, absorbed}
-use Rattle.schedule_commit.specs.private_stack.Along.{LoadsGoDeep}
+use Rattle.schedule_commit.specs.strand.Along.{LoadsGoAsStrands}
 
 -- ---- by itself
 
@@ -41,7 +41,7 @@ abbrev pub laid_out : (Object → ℤ) → Program → State → Layout
 laid_out at prog s = record { at = at; cells = living prog s }
 
 -- what a strand's top frame does next is safe, and so is each plain step after it, with any numbers in the cells of living objects at each of them
-pub record IsSafeDeep (prog : Program) (m : Machine) (w : ℕ) (d : DeepStrand) : Type 0 where
+pub record IsSafeStrand (prog : Program) (m : Machine) (w : ℕ) (d : Strand) : Type 0 where
   pub alone : (at : Object → ℤ) → StaysSafeAlone prog (laid_out at prog (absorbed m w d).core) d.top.path d.top.frame
   -- a call passes whole objects
   pub whole : (register : Option RegisterId) (callee : FunctionId) (arguments : List Argument) →
@@ -52,22 +52,22 @@ pub record IsSafeDeep (prog : Program) (m : Machine) (w : ℕ) (d : DeepStrand) 
   -- no number of it is above the instructions done
   pub counted : IsWithin (d.done + m.core.done) d.top.path d.top.frame
 
--- wherever a deep strand of a worker's frame comes, whatever it read on the way
-abbrev pub StaysSafeDeep : Program → Machine → Type 0
-StaysSafeDeep prog m = (w : ℕ) (d : DeepStrand) → IsDeep prog d → Runs m w d → IsSafeDeep prog m w d
+-- wherever a strand of a worker's frame comes, whatever it read on the way
+abbrev pub StaysSafeAsStrands : Program → Machine → Type 0
+StaysSafeAsStrands prog m = (w : ℕ) (d : Strand) → IsStrand prog d → Runs m w d → IsSafeStrand prog m w d
 
 -- wherever a schedule leads
-abbrev pub FramesGoDeep : Type 0
-FramesGoDeep =
+abbrev pub FramesGoAsStrands : Type 0
+FramesGoAsStrands =
     (text : List ℕ) (program : Program) → IsProgramOf text program → (arguments : List ℤ) (memory : Memory) → AreTaken program arguments →
     HasGlobals program memory → (workers : ℕ) → 1 ≤ workers → (events : List Event) →
-    StaysSafeDeep program (replay program workers events (start program arguments memory))
+    StaysSafeAsStrands program (replay program workers events (start program arguments memory))
 
--- ---- as the base of a worker's stack
+-- ---- as the base of a strand
 
 -- wherever a schedule leads
-abbrev pub LoadedFramesGoDeep : Type 0
-LoadedFramesGoDeep =
+abbrev pub LoadedFramesGoAsStrands : Type 0
+LoadedFramesGoAsStrands =
     (text : List ℕ) (program : Program) → IsProgramOf text program → (places : Places) → ArePlaces program places → (arguments : List ℤ) (memory : Memory) →
     AreTaken program arguments → HasGlobals program memory → (workers : ℕ) → 1 ≤ workers → (events : List Event) →
-    LoadsGoDeep program places (living program (replay program workers events (start program arguments memory)).core) (replay program workers events (start program arguments memory))
+    LoadsGoAsStrands program places (living program (replay program workers events (start program arguments memory)).core) (replay program workers events (start program arguments memory))

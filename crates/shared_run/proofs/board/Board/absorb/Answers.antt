@@ -5,7 +5,7 @@ use Rattle.schedule_workers.proofs.Growing.{on_err}
 use Rattle.program.specs.declared.function.Program.{Program}
 use Rattle.schedule_core.specs.schedule_commit.Absorbing.{steps_in}
 use Rattle.frame.specs.declared.event.Event.TheVariants.{Step}
-use Rattle.schedule_core.specs.Strands.{FitsStage, IsMadeOf}
+use Rattle.schedule_core.specs.FrameStrands.{FrameStrandFits, IsMadeOf}
 use Rattle.shared_run.specs.Story.{Origin, origin, place, story}
 use Rattle.shared_run.proofs.Calls.{same_story, stays_same}
 use Rattle.shared_run.proofs.Commits.{legal_steps, room_for}
@@ -67,7 +67,7 @@ returns-in-Ok-false-clause-done g c =
     let stage = c.self.inside.machine.stage in
     rw (← c.self.view_is, ← c.seat.view_is) (
       (same_story o events c.reserve.new.self.events stage c.absorb.new.self.stage c.reserve.ensures.events (c.in-Ok-false.ensures.left (ap Ok c.in-Ok-false.field-0-test)), refl),
-      λ (fits : FitsStage stage c.seat.inside.worker c.args.strand.now). (let here : IsTrue c.in-Ok-false.field-0 = (c.in-Ok-false.ensures.exactly).1 fits in let off : c.in-Ok-false.field-0 ≡ false = c.in-Ok-false.field-0-test in cc),
+      λ (fits : FrameStrandFits stage c.seat.inside.worker c.args.strand.now). (let here : IsTrue c.in-Ok-false.field-0 = (c.in-Ok-false.ensures.exactly).1 fits in let off : c.in-Ok-false.field-0 ≡ false = c.in-Ok-false.field-0-test in cc),
     )
 
 pub returns-in_err-reserve-clause-refused : goal.returns-in_err-reserve-clause-refused

@@ -19,7 +19,7 @@ pub push_steps-requires-clause-count : goal.push_steps-requires-clause-count
 push_steps-requires-clause-count g c =
     let o : Origin = origin g.L.Bench.code g.L.Bench.arguments g.L.Bench.memory g.L.Bench.crew in
     let events = c.self.inside.history.events in
-    let small = room_for o events c.self.inside.machine.stage c.self.invariant.0 c.absorb_deep.new.self.stage c.seat.inside.worker c.in-Some.pile.now.done (c.in-Ok-true.ensures.does (ap Ok c.in-Ok-true.field-0-test)) in
+    let small = room_for o events c.self.inside.machine.stage c.self.invariant.0 c.publish.new.self.stage c.seat.inside.worker c.in-Some.held.now.done (c.in-Ok-true.ensures.does (ap Ok c.in-Ok-true.field-0-test)) in
     let same = ap length c.reserve.ensures.events in
     omega (arith, small, same)
 
@@ -28,21 +28,21 @@ invariant_of-self-in-Ok-true g c =
     let o : Origin = origin g.L.Bench.code g.L.Bench.arguments g.L.Bench.memory g.L.Bench.crew in
     let events = c.self.inside.history.events in
     let w = c.seat.inside.worker in
-    let n = c.in-Some.pile.now.done in
+    let n = c.in-Some.held.now.done in
     let more : c.push_steps.new.self.events ≡ events ++ replicate n (Step w) =
     c.push_steps.ensures.events ∙ ap (λ xs. xs ++ replicate n (Step w)) c.reserve.ensures.events in
     let count = ap length more in (
-      legal_steps o events c.self.inside.machine.stage c.self.invariant.0 c.absorb_deep.new.self.stage w n (c.in-Ok-true.ensures.does (ap Ok c.in-Ok-true.field-0-test)) c.push_steps.new.self.events more,
+      legal_steps o events c.self.inside.machine.stage c.self.invariant.0 c.publish.new.self.stage w n (c.in-Ok-true.ensures.does (ap Ok c.in-Ok-true.field-0-test)) c.push_steps.new.self.events more,
       omega (arith, count, length-append events (replicate n (Step w)), length-replicate n (Step w), c.add.ensures.total, c.self.invariant.1),
       c.self.invariant.2,
       c.self.invariant.3,
     )
 
-pub returns-in-Err-absorb_deep : goal.returns-in-Err-absorb_deep
-returns-in-Err-absorb_deep g c =
+pub returns-in-Err-publish : goal.returns-in-Err-publish
+returns-in-Err-publish g c =
     let o : Origin = origin g.L.Bench.code g.L.Bench.arguments g.L.Bench.memory g.L.Bench.crew in
     let stage = c.self.inside.machine.stage in
     let events = c.self.inside.history.events in
     rw (← c.self.view_is)
-    (stays_same (story o events stage) (story o c.reserve.new.self.events c.absorb_deep.new.self.stage) c.args.seat.now c.args.seat.now
-    (same_story o events c.reserve.new.self.events stage c.absorb_deep.new.self.stage c.reserve.ensures.events c.in-Err-absorb_deep.ensures.refused, refl))
+    (stays_same (story o events stage) (story o c.reserve.new.self.events c.publish.new.self.stage) c.args.seat.now c.args.seat.now
+    (same_story o events c.reserve.new.self.events stage c.publish.new.self.stage c.reserve.ensures.events c.in-Err-publish.ensures.refused, refl))

@@ -1,0 +1,10 @@
+use Rattle.program.specs.declared.function.Program.{Program}
+use Rattle.serial_machine.specs.store.Made.{HasGlobalCells, IsMadeFor}
+use Rattle.cli_runs.proofs.runs.running.set_cells.Given as goal
+
+abbrev pub invariant-loop-setting : goal.invariant-loop-setting
+invariant-loop-setting l =
+    record {
+      cells : (program : Program) → HasGlobalCells program l.fn.memory → HasGlobalCells program l.memory;
+      made : (program : Program) → IsMadeFor program l.fn.memory → IsMadeFor program l.memory;
+    }

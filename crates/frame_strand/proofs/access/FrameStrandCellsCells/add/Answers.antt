@@ -1,0 +1,18 @@
+use Rattle.std.proofs.Common.{subst, w64, ℤ}
+use Rattle.std.specs.Prelude.{OnOk}
+use Rattle.std.proofs.lemmas.Int.{to_z-of_z}
+use mir.Val.{to_z, of_z}
+use Rattle.frame_strand.specs.Buffers.{IsPut, change_in, raised_change, value_in}
+use Rattle.frame_strand.proofs.Holding.{added_here, put_others}
+use Rattle.frame_strand.proofs.access.FrameStrandCellsCells.add.Goals as goal
+
+done : (c : goal.After-add_at) → OnOk c.add_at.result (IsPut c.args.self.now c.args.at (raised_change c.args.number (change_in c.args.self.now.writes c.args.at) (value_in c.args.self.now.reads c.args.at)) c.add_at.new.self)
+done c =
+    subst (λ (z : ℤ). OnOk c.add_at.result (IsPut c.args.self.now z (raised_change c.args.number (change_in c.args.self.now.writes z) (value_in c.args.self.now.reads z)) c.add_at.new.self)) (to_z-of_z w64 c.args.at c.ranges.at)
+    (subst (λ (z : ℤ). OnOk c.add_at.result (IsPut c.args.self.now (to_z w64 (of_z w64 c.args.at)) (raised_change z (change_in c.args.self.now.writes (to_z w64 (of_z w64 c.args.at))) (value_in c.args.self.now.reads (to_z w64 (of_z w64 c.args.at)))) c.add_at.new.self)) (to_z-of_z w64 c.args.number c.ranges.number) c.add_at.ensures.done)
+
+pub returns-clause-here : goal.returns-clause-here
+returns-clause-here c = added_here c.args.self.now c.add_at.new.self c.args.at c.add_at.result c.args.number (done c)
+
+pub returns-clause-others : goal.returns-clause-others
+returns-clause-others c = put_others c.args.self.now c.add_at.new.self c.args.at c.add_at.result (raised_change c.args.number (change_in c.args.self.now.writes c.args.at) (value_in c.args.self.now.reads c.args.at)) (done c) c.add_at.ensures.unchanged

@@ -1,5 +1,0 @@
-use Rattle.frame_strand.proofs.Advancing as advancing
-use Rattle.frame_strand.proofs.law.accesses_are_strands.Goals as goal
-
-pub returns : goal.returns
-returns c = advancing.accesses_are_strands

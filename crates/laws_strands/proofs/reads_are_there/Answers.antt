@@ -1,5 +1,0 @@
-use Rattle.laws_strands.proofs.Law.{reads_are_there}
-use Rattle.laws_strands.proofs.reads_are_there.Goals as goal
-
-pub returns : goal.returns
-returns c = reads_are_there

@@ -1,5 +1,0 @@
-use Rattle.laws_strands.proofs.stacks.Sample.{sample_goes_deep}
-use Rattle.laws_strands.proofs.stacks.sample_goes_deep.Goals as goal
-
-pub returns : goal.returns
-returns c = sample_goes_deep

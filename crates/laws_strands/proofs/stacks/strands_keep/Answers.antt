@@ -1,0 +1,5 @@
+use Rattle.laws_strands.proofs.stacks.Kept.{strands_keep}
+use Rattle.laws_strands.proofs.stacks.strands_keep.Goals as goal
+
+pub returns : goal.returns
+returns c = strands_keep

@@ -1,5 +1,0 @@
-use Rattle.laws_strands.proofs.Law.{strands_go_over_borders}
-use Rattle.laws_strands.proofs.strands_go_over_borders.Goals as goal
-
-pub returns : goal.returns
-returns c = strands_go_over_borders

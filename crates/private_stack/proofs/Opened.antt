@@ -1,9 +1,0 @@
--- What can be stored to can be so while more pages are put in use.
-use Rattle.std.proofs.Common.{◌≡◌, ◌∙◌, ℤ, ap, sym}
-use Rattle.stack_pages.specs.Logs.{IsWider}
-use Rattle.stack_pages.specs.Tables.{log_of}
-use Rattle.private_stack.specs.OwnCells.{CanStore, own_cell}
-use Rattle.private_stack.specs.declared.cells.PileCells.{PileCells}
-
-pub still_can : (x y : PileCells) (a : ℤ) → y ≡ record x { log = y.log } → IsWider (log_of x.log) (log_of y.log) → CanStore x a → CanStore y a
-still_can x y a only wide can none = wide.in_use a (can (sym (ap (λ (z : PileCells). own_cell z a) only) ∙ none))

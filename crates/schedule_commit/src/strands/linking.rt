@@ -1,0 +1,93 @@
+ghost use Rattle.std.specs.Prelude.{◌≡◌, ◌+◌, ◌^◌, ◌≤◌, ◌<◌, ℕ, IfOk, Some, length, slice_get, suc};
+ghost use Rattle.std.specs.Option.{option_copied};
+ghost use Rattle.linear.specs.declared.form.RegisterId.{RegisterId};
+ghost use Rattle.program.specs.declared.identifier.BlockId.{BlockId};
+ghost use Rattle.schedule_workers.specs.Scheduling.{counted_in};
+ghost use Rattle.schedule_commit.specs.strands.Linking.{AreLinks, IsFrameOf, RegionsFit, counted_of, frames_of};
+
+use cactus::Link;
+use frame::{Path, Role};
+use frame_engine::Frame;
+use lists::{OutOfMemory, Seq};
+use schedule_workers::{Activation, frame_copy};
+use std::alloc::Global;
+use strand::Strand;
+
+/// The strand's frame of this number, counted from the base.
+pub(crate) fn frame_of(strand: &Strand, number: usize) -> &Frame
+    requires { number ≤ length strand.now.below.items }
+    ensures { slice_get (frames_of strand.now) number ≡ Some result.now }
+{
+    if number < strand.below.len() {
+        strand.below[number].as_ref()
+    } else {
+        strand.top.as_ref()
+    }
+}
+
+/// The frame above the one of this number; there is none above the top.
+pub(crate) fn above(strand: &Strand, number: usize) -> Option<&Frame>
+    requires { number ≤ length strand.now.below.items }
+    ensures { option_copied result ≡ slice_get (frames_of strand.now) (suc number) }
+{
+    if number < strand.below.len() {
+        Some(frame_of(strand, number + 1))
+    } else {
+        None
+    }
+}
+
+/// Counts the frame above, if it is a detached child.
+pub(crate) fn count_above(activation: &mut Activation, above: &Frame)
+    requires region { (r : RegisterId) (n : BlockId) → above.now.role ≡ Role.Child r n → r.0 < length activation.old.counts.items }
+    requires room { (region : ℕ) → counted_in activation.old region + 1 < 2 ^ 64 }
+    ensures only { activation.new ≡ record activation.old { counts = activation.new.counts } }
+    ensures as_many { length activation.new.counts.items ≡ length activation.old.counts.items }
+    ensures counts { (region : ℕ) → counted_in activation.new region ≡ counted_of above.now.role region + counted_in activation.old region }
+{
+    if let Role::Child { region, .. } = above.role {
+        activation.counts[region.0].opened();
+    }
+}
+
+/// What the scheduler is to know of the frame of this number.
+fn activation_of(
+    alloc: Global,
+    worker: u8,
+    strand: &Strand,
+    number: usize,
+) -> Result<Activation, OutOfMemory>
+    requires number { number ≤ length strand.now.below.items }
+    requires regions { RegionsFit strand.now }
+    ensures { IfOk result (IsFrameOf worker strand.now number) }
+{
+    let frame = frame_copy(frame_of(strand, number))?;
+    let mut activation = Activation::new(alloc, frame, worker)?;
+    if let Some(above) = above(strand, number) {
+        activation.runner = None;
+        count_above(&mut activation, above);
+    }
+    Ok(activation)
+}
+
+/// The frames above the base as they are to stand in the cactus, the lowest first. None of them knows the slot of its callee yet.
+pub(crate) fn links_of(
+    alloc: Global,
+    worker: u8,
+    strand: &Strand,
+) -> Result<Vec<Link<Activation>>, OutOfMemory>
+    requires { RegionsFit strand.now }
+    ensures { IfOk result (λ links. AreLinks worker strand.now links.items) }
+{
+    let mut links = Vec::with_capacity(alloc, strand.below.len())?;
+    let mut numbers = Vec::from_slice(alloc, strand.base.path.as_slice())?;
+    for number in 0..strand.below.len() {
+        numbers.push(frame_of(strand, number).made.saturating_sub(1))?;
+        let path = Path {
+            numbers: Seq::from_vec(Vec::from_slice(alloc, numbers.as_slice())?),
+        };
+        let frame = activation_of(alloc, worker, strand, number + 1)?;
+        links.push(Link { path, frame })?;
+    }
+    Ok(links)
+}

@@ -1,5 +1,0 @@
-use Rattle.schedule_core.proofs.laws_workers.strands.Law.{frames_go_deep}
-use Rattle.schedule_core.proofs.laws_workers.strands.frames_go_deep.Goals as goal
-
-pub returns : goal.returns
-returns c = frames_go_deep

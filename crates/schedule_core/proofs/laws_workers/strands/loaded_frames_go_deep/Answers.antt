@@ -1,5 +1,0 @@
-use Rattle.schedule_core.proofs.laws_workers.strands.Loading.{loaded_frames_go_deep}
-use Rattle.schedule_core.proofs.laws_workers.strands.loaded_frames_go_deep.Goals as goal
-
-pub returns : goal.returns
-returns c = loaded_frames_go_deep

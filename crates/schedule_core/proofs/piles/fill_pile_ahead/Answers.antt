@@ -1,7 +1,0 @@
-use Rattle.std.proofs.Common.{subst, sym}
-use Rattle.program.specs.declared.function.Program.{Program}
-use Rattle.schedule_commit.specs.private_stack.Along.{IsUnderWay}
-use Rattle.schedule_core.proofs.piles.fill_pile_ahead.Goals as goal
-
-pub fill_ahead-requires-clause-way : goal.fill_ahead-requires-clause-way
-fill_ahead-requires-clause-way c = subst (λ (q : Program). ∥ IsUnderWay q c.args.places.now c.args.pile.now ∥₁) (sym c.program.ensures.value) c.requires.way

@@ -1,0 +1,153 @@
+//! Strands: what a worker did outside of the machine, across calls, detaches and what ends them, done at once.
+ghost use Rattle.std.specs.Prelude.{◌≡◌, ◌↔◌, ◌≤◌, IfNone, IfOk, IfSome, IsSome, IsTrue, None, Ok, OnErr, OnOk, OnSome, false, length, true};
+ghost use Rattle.schedule_workers.specs.Starts.{ArePlaces};
+ghost use Rattle.frame_engine.specs.Flat.{cell_in};
+ghost use Rattle.schedule_commit.specs.strand.strand_pages.Logs.{filled_log, page_around};
+ghost use Rattle.schedule_commit.specs.strand.strand_pages.Tables.{log_of};
+ghost use Rattle.schedule_commit.specs.strand.Along.{IsUnderWay};
+ghost use Rattle.schedule_commit.specs.strand.Boards.{NeedsBoard};
+ghost use Rattle.schedule_commit.specs.strand.Going.{IsGoing};
+ghost use Rattle.schedule_commit.specs.strand.serial_stack.Shown.{item_here};
+ghost use Rattle.schedule_core.specs.Strands.{StrandFits, HasRoomFor, IsBegun, IsStrandOf, RunsNothing};
+ghost use Rattle.schedule_core.specs.Spots.{KeepsSpots};
+ghost use Rattle.schedule_core.specs.Stages.{program_of};
+ghost use Rattle.schedule_core.specs.FrameStrands.{TakesSteps};
+
+use crate::machine::Machine;
+use frame_engine::{Places, most_moves};
+use lists::OutOfMemory;
+use schedule_commit::{Strand, StrandPause as Pause, has_no_child, page_around, publish};
+use serial_machine::Verified;
+use std::alloc::Global;
+
+/// A strand without a base, with room for the phi moves of the module.
+///
+/// # Errors
+///
+/// Memory was refused.
+pub fn blank_strand(alloc: Global, verified: &Verified) -> Result<Strand, OutOfMemory>
+    ensures { IfOk result (HasRoomFor verified.now) }
+{
+    Strand::new(alloc, most_moves(verified.program()))
+}
+
+/// Goes on with the strand to a pause, across calls, detaches and what ends them.
+///
+/// # Errors
+///
+/// Memory was refused: the strand shows nothing any more.
+pub fn advance_strand(
+    strand: &mut Strand,
+    verified: &Verified,
+    places: &Places,
+    limit: u64,
+) -> Result<Pause, OutOfMemory>
+    requires places { ArePlaces verified.now places.now }
+    requires moves { HasRoomFor verified.now strand.old }
+    requires way { ∥ IsUnderWay verified.now places.now strand.old ∥₁ }
+    requires room { strand.old.done ≤ limit }
+    requires limit { limit ≤ 65536 }
+    ensures moves { OnOk result (HasRoomFor verified.now strand.new) }
+    ensures base { OnOk result (strand.new.base ≡ strand.old.base) }
+    ensures room { OnOk result (strand.new.done ≤ limit) }
+    ensures more { OnOk result (strand.old.done ≤ strand.new.done) }
+    ensures board { IfOk result (λ pause. pause ≡ Pause.Border → NeedsBoard verified.now places.now strand.new (item_here verified.now strand.new.top.value)) }
+    ensures limit { IfOk result (λ pause. (pause ≡ Pause.Limit) ↔ (strand.new.done ≡ limit)) }
+    ensures going { IfOk result (λ pause. ∥ IsGoing verified.now places.now strand.new pause ∥₁) }
+{
+    strand.go(verified.program(), places, limit)
+}
+
+/// The page of the address, whose cell the strand needs, holds these values.
+pub fn fill_strand(strand: &mut Strand, verified: &Verified, places: &Places, at: i64, page: &[i64])
+    requires few { length page.now ≤ 64 }
+    requires going { ∥ IsGoing verified.now places.now strand.old (Pause.Need at) ∥₁ }
+    ensures only { strand.new ≡ record strand.old { cells = strand.new.cells } }
+    ensures filled { log_of strand.new.cells.log ≡ filled_log (log_of strand.old.cells.log) at page.now }
+    ensures way { ∥ IsUnderWay verified.now places.now strand.new ∥₁ }
+{
+    strand.fill(verified.program(), places, &at, page);
+}
+
+/// The page of the address, whose cells the strand may need soon, holds these values, where there is room for it; whether that is so.
+pub fn fill_strand_ahead(
+    strand: &mut Strand,
+    verified: &Verified,
+    places: &Places,
+    at: i64,
+    page: &[i64],
+) -> bool
+    requires few { length page.now ≤ 64 }
+    requires way { ∥ IsUnderWay verified.now places.now strand.old ∥₁ }
+    ensures only { strand.new ≡ record strand.old { cells = strand.new.cells } }
+    ensures filled { result ≡ true → log_of strand.new.cells.log ≡ filled_log (log_of strand.old.cells.log) at page.now }
+    ensures unchanged { result ≡ false → strand.new ≡ strand.old }
+    ensures way { ∥ IsUnderWay verified.now places.now strand.new ∥₁ }
+{
+    strand.fill_ahead(verified.program(), places, &at, page)
+}
+
+impl Machine<'_> {
+    /// Publishes what a strand did as steps of the worker, if the worker runs the base as it was loaded, at its path, without children where it had
+    /// none, and each cell that was read holds what was read. The answer is whether that is so; if not, nothing changes. The frames that the
+    /// strand made are the machine's from here on: see [`Machine::ready_below`].
+    ///
+    /// # Errors
+    ///
+    /// Memory was refused: nothing has changed.
+    pub fn publish(&mut self, worker: u8, strand: &Strand) -> Result<bool, OutOfMemory>
+        requires made { IsStrandOf (program_of self.old.stage) strand.now }
+        ensures exactly { IfOk result (λ done. IsTrue done ↔ StrandFits self.old.stage worker strand.now) }
+        ensures does { result ≡ Ok true → TakesSteps self.old.stage self.new.stage worker strand.now.done }
+        ensures left { result ≡ Ok false → self.new.stage ≡ self.old.stage }
+        ensures refused { OnErr result (self.new.stage ≡ self.old.stage) }
+        ensures spots { KeepsSpots self.old.stage.run.cactus self.new.stage.run.cactus }
+        ensures names { self.new.stage.memory ≡ self.old.stage.memory }
+    {
+        let stage = &mut self.stage;
+        let program = stage.verified.program();
+        publish(&mut stage.run, program, stage.places.get(), worker, strand)
+    }
+
+    /// Loads the frame that the worker runs next as the base of the strand. The answer is whether there is such a frame; if not, the strand is as
+    /// it was.
+    ///
+    /// # Errors
+    ///
+    /// Memory was refused: the strand shows nothing any more.
+    pub fn load_strand(&self, worker: u8, strand: &mut Strand) -> Result<bool, OutOfMemory>
+        ensures begun { IfOk result (λ there. IsTrue there → IsBegun self.now.stage worker strand.new) }
+        ensures moves { OnOk result (strand.new.moves ≡ strand.old.moves) }
+        ensures same { result ≡ Ok false → strand.new ≡ strand.old }
+        ensures idle { result ≡ Ok false → RunsNothing self.now.stage worker }
+    {
+        let Some(slot) = self.stage.run.hand(worker) else {
+            return Ok(false);
+        };
+        let Some(node) = self.stage.run.cactus.node(slot) else {
+            return Ok(false);
+        };
+        let childless = has_no_child(&node.frame);
+        let program = self.stage.verified.program();
+        let part = self.stage.run.free_part(program, worker);
+        strand.load(
+            &node.frame.frame,
+            node.path.numbers.as_slice(),
+            childless,
+            part.start as u64,
+            part.cells,
+            self.stage.run.cells.cells.len(),
+        )?;
+        Ok(true)
+    }
+
+    /// What the cells of an address's page hold, from the page's first cell on; none where there is no cell at the address.
+    pub fn page_at(&self, at: i64) -> Option<&[i64]>
+        ensures page { IfSome result (λ page. page.now ≡ page_around self.now.stage.run.cells.cells.items at) }
+        ensures few { IfSome result (λ page. length page.now ≤ 64) }
+        ensures there { OnSome result (IsSome (cell_in self.now.stage.run.cells.cells.items at)) }
+        ensures none { IfNone result (cell_in self.now.stage.run.cells.cells.items at ≡ None) }
+    {
+        page_around(self.stage.run.cells.cells.as_slice(), at)
+    }
+}

@@ -1,7 +1,0 @@
-use Rattle.shared_run.proofs.Stacks.{pile_of}
-use Rattle.shared_run.proofs.stack.PrivateStack.pile.Goals as goal
-
-pub returns-then-is_up-clause-made : goal.returns-then-is_up-clause-made
-returns-then-is_up-clause-made g c =
-    let x = c.self.inside in
-    pile_of x.verified.now x.places.now x.pile g.L.Bench.code x.standing c.self.invariant.0 c.self.invariant.1 c.self.invariant.2 (c.is_up.ensures.0 c.if-is_up.true)

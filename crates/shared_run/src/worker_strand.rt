@@ -1,0 +1,338 @@
+ghost use Rattle.std.specs.Prelude.{◌≡◌, ◌≢◌, ◌↔◌, ◌≤◌, IfOk, IfSome, IfNone, IsTrue, OnErr, OnOk, Ok, Some, false, length, true};
+ghost use Rattle.std.specs.List.{list_any};
+ghost use Rattle.semantics.specs.Frames.{Ends, item_of};
+ghost use Rattle.schedule_workers.specs.Starts.{ArePlaces};
+ghost use Rattle.schedule_core.specs.strand.serial_stack.Shown.{item_here};
+ghost use Rattle.schedule_core.specs.strand.strand_pages.Logs.{filled_log, is_open};
+ghost use Rattle.schedule_core.specs.strand.strand_pages.Tables.{log_of};
+ghost use Rattle.schedule_core.specs.Strands.{IsBegun, IsStrandOf, RunsNothing};
+ghost use Rattle.schedule_core.specs.Stages.{program_of};
+ghost use Rattle.shared_run.specs.Resting.{StaysPut};
+ghost use Rattle.shared_run.specs.Strands.{GoesOnBy, IsUp, Onward, StandsSo, is_reattach, waits_for_nothing};
+
+use crate::bench::Bench;
+use crate::rest::StrandRest;
+use frame::{Wait, block_at};
+use lists::OutOfMemory;
+use program::{Block, Terminator};
+use schedule_core::{
+    Machine, Places, Strand, StrandPause, Verified, advance_strand, blank_strand, fill_strand,
+    fill_strand_ahead,
+};
+use std::alloc::Global;
+use std::marker::{Model, PhantomData};
+
+/// The most instructions that a strand does between two publications.
+pub const MOST_INSTRUCTIONS: u64 = 65_536;
+
+/// How a strand stands.
+#[derive(Clone, Copy, PartialEq, Eq)]
+pub enum Standing {
+    /// It holds no frame.
+    Blank,
+    /// It can go on.
+    Going,
+    /// Next is what only the board can do.
+    Border,
+    /// The next instruction needs one more page of cells than there are.
+    Full,
+    /// The next instruction loads the cell at this address, which is not at hand.
+    Need { at: i64 },
+    /// Memory was refused: it holds no frame, and has to be made anew before it holds one.
+    Spoilt,
+}
+
+impl Standing {
+    /// Whether a strand that stands so holds a frame.
+    fn is_up(self) -> bool
+        ensures { IsTrue result ↔ IsUp self }
+    {
+        match self {
+            Standing::Blank | Standing::Spoilt => false,
+            Standing::Going | Standing::Border | Standing::Full | Standing::Need { .. } => true,
+        }
+    }
+
+    fn of(pause: StrandPause) -> Standing
+        ensures { Onward pause result }
+    {
+        match pause {
+            StrandPause::Border => Standing::Border,
+            StrandPause::Limit => Standing::Going,
+            StrandPause::Full => Standing::Full,
+            StrandPause::Need { at } => Standing::Need { at },
+        }
+    }
+}
+
+/// Whether a frame that waits so stands behind a detach.
+fn waits_for_nothing(waits: Wait) -> bool
+    ensures { result ≡ waits_for_nothing waits }
+{
+    matches!(waits, Wait::Nothing)
+}
+
+/// Whether this is a reattach.
+fn is_reattach(terminator: &Terminator) -> bool
+    ensures { result ≡ is_reattach (Some (Ends terminator.now)) }
+{
+    matches!(terminator, Terminator::Reattach { .. })
+}
+
+/// Whether a reattach stands at this place of the block.
+#[tactic(auto, using(crate::proofs::Strands::at_end, crate::proofs::Strands::none_before, crate::proofs::Strands::none_without))]
+fn ends_by_reattach(block: &Block, index: usize) -> bool
+    ensures { result ≡ is_reattach (item_of block.now.steps block.now.ending index) }
+{
+    let Some(ending) = &block.ending else {
+        return false;
+    };
+    if index != block.steps.len() {
+        return false;
+    }
+    is_reattach(&ending.terminator)
+}
+
+/// A worker's strand, with the module: what it does outside of the board from the frame on that it runs there. Contracts see it and how it stands.
+pub struct WorkerStrand<'p, L: Bench> {
+    pub(crate) bench: PhantomData<L>,
+    pub(crate) verified: &'p Verified,
+    pub(crate) places: &'p Places,
+    pub(crate) strand: Strand,
+    pub(crate) standing: Standing,
+}
+
+/// Written out, so that no crate above proves it anew.
+impl<L: Bench> Drop for WorkerStrand<'_, L> {
+    fn drop(self) {
+        let WorkerStrand {
+            bench: _,
+            verified: _,
+            places: _,
+            strand: _,
+            standing: _,
+        } = self;
+    }
+}
+
+impl<'p, L: Bench> Model for WorkerStrand<'p, L> {
+    ghost use Rattle.std.specs.Prelude.{◌≡◌};
+    ghost use Rattle.schedule_workers.specs.Starts.{ArePlaces};
+    ghost use Rattle.shared_run.specs.Strands.{Apart, Holds};
+
+    ghost Value = { Apart };
+
+    ghost view = { λ s. record { strand = s.strand; standing = s.standing } };
+
+    ghost invariant = { λ s. (s.verified.now ≡ L.code) × ArePlaces s.verified.now s.places.now × Holds s.verified.now s.places.now s.strand s.standing };
+}
+
+impl<'p, L: Bench> WorkerStrand<'p, L> {
+    /// A strand without a frame.
+    ///
+    /// # Errors
+    ///
+    /// Memory was refused.
+    pub fn new(
+        alloc: Global,
+        verified: &'p Verified,
+        places: &'p Places,
+    ) -> Result<WorkerStrand<'p, L>, OutOfMemory>
+        requires code { verified.now ≡ L.code }
+        requires places { ArePlaces verified.now places.now }
+        ensures { IfOk result (λ strand. strand.standing ≡ Standing.Blank) }
+    {
+        let strand = blank_strand(alloc, verified)?;
+        Ok(WorkerStrand {
+            bench: PhantomData,
+            verified,
+            places,
+            strand,
+            standing: Standing::Blank,
+        })
+    }
+
+    /// How it stands.
+    pub fn standing(&self) -> Standing
+        ensures { result ≡ self.now.standing }
+    {
+        self.standing
+    }
+
+    /// The instructions since the frame was loaded.
+    pub fn done(&self) -> u64
+        ensures { result ≡ self.now.strand.done }
+    {
+        self.strand.done
+    }
+
+    /// How many of its frames stand below the one that goes on.
+    pub fn frames_below(&self) -> usize
+        ensures { result ≡ length self.now.strand.below.items }
+    {
+        self.strand.below.len()
+    }
+
+    /// Whether a frame below is behind a detach, so that its task is ready once the strand is published.
+    pub fn has_ready_frame(&self) -> bool
+        ensures { result ≡ list_any (λ frame. waits_for_nothing frame.value.waits) self.now.strand.below.items }
+    {
+        let mut frames = self.strand.below.iter();
+        frames.any(|frame| waits_for_nothing(frame.waits))
+    }
+
+    /// Whether a reattach is next.
+    #[tactic(auto, using(crate::proofs::Strands::next_at, crate::proofs::Strands::next_nowhere))]
+    pub fn is_at_reattach(&self) -> bool
+        ensures { result ≡ is_reattach (item_here L.code self.now.strand.top.value) }
+    {
+        let top = self.strand.top.as_ref();
+        match block_at(self.verified.program(), top.function, top.place.block) {
+            Some(block) => ends_by_reattach(block, top.place.index),
+            None => false,
+        }
+    }
+
+    /// The strand, where it holds a frame.
+    pub(crate) fn held(&self) -> Option<&Strand>
+        ensures there { IfSome result (λ strand. IsUp self.now.standing × (strand.now ≡ self.now.strand)) }
+        ensures made { IfSome result (λ strand. IsStrandOf L.code strand.now) }
+        ensures none { IfNone result (¬ IsUp self.now.standing) }
+    {
+        if self.standing.is_up() {
+            Some(&self.strand)
+        } else {
+            None
+        }
+    }
+
+    /// Holds no frame from here on.
+    pub fn clear(&mut self)
+        ensures { ¬ IsUp self.new.standing }
+    {
+        match self.standing {
+            Standing::Spoilt => {}
+            _ => self.standing = Standing::Blank,
+        }
+    }
+
+    /// Makes it anew where memory was refused.
+    fn renew(&mut self) -> Result<(), OutOfMemory>
+        ensures made { OnOk result (self.new.standing ≢ Standing.Spoilt) }
+        ensures spoilt { OnErr result (self.new.standing ≡ Standing.Spoilt) }
+    {
+        if self.standing == Standing::Spoilt {
+            self.strand = blank_strand(self.strand.alloc, self.verified)?;
+            self.standing = Standing::Blank;
+        }
+        Ok(())
+    }
+
+    /// Loads the frame that the worker runs next, where there is one; whether there is.
+    ///
+    /// # Errors
+    ///
+    /// Memory was refused: it is spoilt.
+    pub(crate) fn load(&mut self, machine: &Machine<'_>, worker: u8) -> Result<bool, OutOfMemory>
+        requires code { program_of machine.now.stage ≡ L.code }
+        ensures begun { IfOk result (λ there. IsTrue there → (self.new.standing ≡ Standing.Going) × IsBegun machine.now.stage worker self.new.strand) }
+        ensures idle { result ≡ Ok false → RunsNothing machine.now.stage worker }
+        ensures none { result ≢ Ok true → ¬ IsUp self.new.standing }
+    {
+        self.renew()?;
+        match machine.load_strand(worker, &mut self.strand) {
+            Ok(true) => {
+                self.standing = Standing::Going;
+                Ok(true)
+            }
+            Ok(false) => {
+                self.standing = Standing::Blank;
+                Ok(false)
+            }
+            Err(refused) => {
+                self.standing = Standing::Spoilt;
+                Err(refused)
+            }
+        }
+    }
+
+    /// Where it can go on, it does, across calls, detaches and what ends them, by so many instructions at most and 65,536 in all. The answer is how it
+    /// stands then.
+    pub fn advance(&mut self, count: u64) -> Standing
+        ensures stands { self.new.standing ≡ result }
+        ensures stays { self.old.standing ≢ Standing.Going → self.new ≡ self.old }
+        ensures base { result ≢ Standing.Spoilt → self.new.strand.base ≡ self.old.strand.base }
+        ensures goes { result ≢ Standing.Spoilt → self.old.standing ≡ Standing.Going → GoesOnBy count self.old self.new }
+        ensures why { StandsSo L.code self.new }
+    {
+        if self.standing != Standing::Going {
+            return self.standing;
+        }
+        let limit = self
+            .strand
+            .done
+            .saturating_add(count)
+            .min(MOST_INSTRUCTIONS);
+        match advance_strand(&mut self.strand, self.verified, self.places, limit) {
+            Ok(pause) => {
+                self.standing = Standing::of(pause);
+                self.standing
+            }
+            Err(OutOfMemory) => {
+                self.standing = Standing::Spoilt;
+                Standing::Spoilt
+            }
+        }
+    }
+
+    /// The page of the cell that it needs, at this address, holds these values.
+    pub(crate) fn fill(&mut self, at: i64, page: &[i64])
+        requires few { length page.now ≤ 64 }
+        requires needs { self.old.standing ≡ Standing.Need at }
+        ensures goes_on { self.new.standing ≡ Standing.Going }
+        ensures only { self.new.strand ≡ record self.old.strand { cells = self.new.strand.cells } }
+        ensures filled { log_of self.new.strand.cells.log ≡ filled_log (log_of self.old.strand.cells.log) at page.now }
+    {
+        fill_strand(&mut self.strand, self.verified, self.places, at, page);
+        self.standing = Standing::Going;
+    }
+
+    /// Whether the page of the cell at this address is in use.
+    pub fn has_page(&self, at: i64) -> bool
+        ensures { result ≡ is_open (log_of self.now.strand.cells.log) at }
+    {
+        self.strand.has_page(&at)
+    }
+
+    /// The page of this address holds these values, where the strand can go on and there is room for it; whether that is so.
+    pub(crate) fn fill_ahead(&mut self, at: i64, page: &[i64]) -> bool
+        requires few { length page.now ≤ 64 }
+        ensures goes_on { result ≡ true → (self.old.standing ≡ Standing.Going) × (self.new.standing ≡ Standing.Going) }
+        ensures only { result ≡ true → self.new.strand ≡ record self.old.strand { cells = self.new.strand.cells } }
+        ensures filled { result ≡ true → log_of self.new.strand.cells.log ≡ filled_log (log_of self.old.strand.cells.log) at page.now }
+        ensures unchanged { result ≡ false → self.new ≡ self.old }
+    {
+        if self.standing != Standing::Going {
+            return false;
+        }
+        fill_strand_ahead(&mut self.strand, self.verified, self.places, at, page)
+    }
+}
+
+impl<L: Bench> WorkerStrand<'_, L> {
+    /// Lets go of the module.
+    pub fn rest(self) -> StrandRest
+        ensures stays { StaysPut L.code result }
+        ensures strand { result.strand ≡ self.entry.strand }
+        ensures standing { result.standing ≡ self.entry.standing }
+    {
+        let WorkerStrand {
+            bench: _,
+            verified: _,
+            places: _,
+            strand,
+            standing,
+        } = self;
+        StrandRest { strand, standing }
+    }
+}

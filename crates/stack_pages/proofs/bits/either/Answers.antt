@@ -1,5 +1,0 @@
-use Rattle.stack_pages.proofs.Scanning.{either_set}
-use Rattle.stack_pages.proofs.bits.either.Goals as goal
-
-pub returns : goal.returns
-returns c = either_set c.args.left c.args.right

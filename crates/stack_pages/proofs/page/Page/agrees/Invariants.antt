@@ -1,9 +1,0 @@
-use Rattle.std.proofs.Common.{◌≤◌, ◌-◌}
-use Rattle.stack_pages.proofs.Rows.{AgreesBelow}
-use Rattle.stack_pages.proofs.page.Page.agrees.Given as goal
-
-abbrev pub invariant-loop-place : goal.invariant-loop-place
-invariant-loop-place l = (l.from ≤ 64) × AgreesBelow l.self l.row l.from
-
-abbrev pub decreases-loop-place : goal.decreases-loop-place
-decreases-loop-place l = 64 - l.from

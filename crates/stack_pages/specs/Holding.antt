@@ -1,6 +1,0 @@
--- A log as a table.
-use Rattle.stack_pages.specs.Tables.{Table}
-use Rattle.stack_pages.specs.declared.log.PageLog.TheInside.{Inside}
-
-abbrev pub table_of : Inside → Table
-table_of x = record { directory = x.directory.items; pages = x.pages.items; used = x.used }

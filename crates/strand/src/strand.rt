@@ -1,0 +1,68 @@
+ghost use Rattle.std.specs.Prelude.{◌≡◌, ◌++◌, ◌∷◌, [], OnOk};
+
+use crate::cells::StrandCells;
+use frame_engine::{Frame, blank};
+use lists::OutOfMemory;
+use std::alloc::Global;
+use std::mem;
+
+/// The board's frame as it was loaded, and its path, the root's number first.
+#[derive(Drop)]
+pub struct Base {
+    pub path: Vec<u64>,
+    pub frame: Frame,
+    /// Whether it had no child then that a sync of it waits for.
+    pub childless: bool,
+}
+
+/// What a worker has done since it loaded the base: the frame that goes on, the frames below it, each of which made the one above it, and the
+/// cells that were read and written. Frames that are over are used again; each stands in a box, so that none is moved when another one goes on.
+#[derive(Drop)]
+pub struct Strand {
+    pub alloc: Global,
+    pub base: Base,
+    pub top: Box<Frame>,
+    pub below: Vec<Box<Frame>>,
+    pub spare: Vec<Box<Frame>>,
+    /// Instructions.
+    pub done: u64,
+    /// The most frames from the root to one that was made here.
+    pub deepest: usize,
+    pub cells: StrandCells,
+    /// Where the next frame's allocas begin, in the segment of the cells.
+    pub end: u64,
+    /// Room for the phi moves of an edge.
+    pub moves: Vec<i64>,
+}
+
+/// A frame that is over, or a new one.
+#[inline(always)]
+pub(crate) fn fresh(spare: &mut Vec<Box<Frame>>, alloc: Global) -> Result<Box<Frame>, OutOfMemory> {
+    match spare.pop() {
+        Some(frame) => Ok(frame),
+        None => Ok(Box::new(alloc, blank(alloc))?),
+    }
+}
+
+impl Strand {
+    /// The frame goes on, on top of the one that made it.
+    #[inline(always)]
+    pub(crate) fn push(&mut self, frame: Box<Frame>) -> Result<(), OutOfMemory>
+        ensures below { OnOk result (self.new.below.items ≡ self.old.below.items ++ self.old.top ∷ []) }
+        ensures only { OnOk result (self.new ≡ record self.old { top = frame; below = self.new.below }) }
+    {
+        let maker = mem::replace(&mut self.top, frame);
+        self.below.push(maker)?;
+        Ok(())
+    }
+
+    /// The frame, which stood below the one on top, goes on.
+    #[inline(always)]
+    pub(crate) fn go_back_to(&mut self, frame: Box<Frame>) -> Result<(), OutOfMemory>
+        ensures only { OnOk result (self.new ≡ record self.old { top = frame; spare = self.new.spare }) }
+    {
+        let over = mem::replace(&mut self.top, frame);
+        self.spare.push(over)?;
+        Ok(())
+    }
+}

@@ -1,7 +1,0 @@
-use Rattle.tapirvm.proofs.strands.told.run_again.Given as goal
-
-abbrev pub ghosts-run_by-L-Ledger : goal.ghosts-run_by-L-Ledger
-ghosts-run_by-L-Ledger a = record { name = a.blank.name; parts = a.blank.parts }
-
-abbrev pub ghosts-run_by-L-Bench : goal.ghosts-run_by-L-Bench
-ghosts-run_by-L-Bench a = record { code = a.verified.now; arguments = a.arguments.now; memory = a.memory; crew = a.workers }
