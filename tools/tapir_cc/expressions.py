@@ -115,9 +115,7 @@ class Expressions:
                 op, b = "mul", 1 << b
             elif op == "ashr" and 0 < b < 20 and a not in build.strange and self.shown("shift", build.form(a)):
                 op, b = "sdiv", 1 << b
-            if op == "sdiv" and b == 2:
-                return self.half(a)
-            if op == "sdiv" and b > 1 and self.is_thorough:
+            if op == "sdiv" and b > 1:
                 return self.quotient(a, b)
         result = build.binary(op, a, b, op in ("add", "sub", "mul") and "u" not in type.base)
         is_narrow = op == "shl" and type.base == "int" or op in ("add", "sub", "mul", "shl") and type.base == "uint"
@@ -130,32 +128,27 @@ class Expressions:
         self.build.said += forms if choice else ()
         return choice is not None
 
-    def half(self, a: str) -> Value:
-        """x / 2. (x + y) / 2 is x + (y - x) / 2, which lies between them. Of 1 + (x - 2) / 2 it is known that it is
-        below x and not 0, and of (x - 1) - (x - 1) / 2 that it is below x."""
+    def quotient(self, a: str, b: int) -> Value:
+        """a / b, with its bound, where a has one. (x + y) / 2 is x + (y - x) / 2, which lies between them. Of
+        1 + (x - 2) / 2 it is known that it is below x and not 0, and of (x - 1) - (x - 1) / 2 that it is below x."""
         binary, form, x = self.build.binary, self.build.form(a), self.build.makers.get(a)
-        if x is not None and x.op == "add" and all(isinstance(v, str) for v in x.args):
+        if b == 2 and x is not None and x.op == "add" and all(isinstance(v, str) for v in x.args):
             low, high = x.args
             if self.shown("middle", self.build.form(high) - self.build.form(low), form):
-                return binary("add", low, self.half(binary("sub", high, low, True)), True)
-        if self.is_thorough and self.shown("more", form - 2):
+                return binary("add", low, self.quotient(binary("sub", high, low, True), 2), True)
+        if b == 2 and self.is_thorough and self.shown("more", form - 2):
             return binary("add", binary("sdiv", binary("sub", a, 2, True), 2), 1, True)
-        if self.is_thorough and self.shown("less", form - 1):
+        if b == 2 and self.is_thorough and self.shown("less", form - 1):
             less = binary("sub", a, 1, True)
             return binary("sub", less, binary("sdiv", less, 2), True)
-        return self.quotient(a, 2) if self.is_thorough else binary("sdiv", a, 2)
+        quotient, most = binary("sdiv", a, b), self.f.most(form, self.build.said) if self.is_thorough else None
+        self.build.said += [Form.of(quotient), form - Form.of(quotient) * b] if self.is_thorough else []
+        return quotient if most is None else self.held(quotient, "slt", most // b + 1, form, -form + most)
 
     def held(self, value: Value, predicate: str, bound: Value, *forms: Form) -> Value:
         """A value, with a test that always holds where forms are 0 or more, by which it is known."""
         test = partial(self.build.branch, predicate, value, bound)
         return self.chosen(test, lambda: value) if self.shown("held", *forms) else value
-
-    def quotient(self, a: str, b: int) -> Value:
-        """a / b, with its bound, where a has one."""
-        form, quotient = self.build.form(a), self.build.binary("sdiv", a, b)
-        most = self.f.most(form, self.build.said)
-        self.build.said += [Form.of(quotient), form - Form.of(quotient) * b]
-        return quotient if most is None else self.held(quotient, "slt", most // b + 1, form, -form + most)
 
     def rest(self, op: str, a: Value, b: str) -> Value:
         """a % b or a / b, which is from 0 to b - 1 or to a, where a >= 0 and b >= 1."""
@@ -239,18 +232,16 @@ class Expressions:
         if name.startswith("__tapir_"):
             return self.marker(name[len("__tapir_") :], node)
         if name == "memset":
-            return self.clear(node)
+            at, value, size = [x.unconverted for x in node.inner[1:]]
+            is_whole = self.value(value) == 0 and self.value(size) == at.type.cells * at.type.bytes
+            text = "memset clears a whole array at once, and sets to nothing else"
+            node.place.refuse(not is_whole, text, "write a loop")
+            object = self.address(at).object
+            return self.build.put("zero", object, object=object)
         node.place.refuse(not name, "a call through a pointer is not taken", "name the function")
         args = [self.whole(x) if x.type.is_pointer else self.value(x) for x in node.inner[1:]]
         self.unit.passed.setdefault(name, []).append(args)
         return self.build.put("call", *args, callee="@" + name, hint=name if node.type.base != "void" else "")
-
-    def clear(self, node: Node) -> Value:
-        at, value, size = [x.unconverted for x in node.inner[1:]]
-        is_whole = self.value(value) == 0 and self.value(size) == at.type.cells * at.type.bytes
-        node.place.refuse(not is_whole, "memset clears a whole array at once, and sets to nothing else", "write a loop")
-        object = self.address(at).object
-        return self.build.put("zero", object, object=object)
 
     def target(self, node: Node) -> Union[Cell, str]:
         """What is read or set: a cell, or a variable that is none."""

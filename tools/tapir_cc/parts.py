@@ -63,10 +63,8 @@ class Parts(Statements):
 
     def halving(self, counter: Node, body: Node) -> Node:
         """The header's function, whose loop has this counter and this body."""
-
-        def with_body(data: dict) -> dict:
-            return body.data if Node(data, body.tree).callee() == "__tapir_leaf" else data
-
         header = self.unit.bodies["__tapir_halved"]
-        own = next(x for x in header.walk() if x.kind == "VarDecl" and x.name == "i")
-        return Node(json.loads(json.dumps(header.data).replace(own.id, counter.id), object_hook=with_body), body.tree)
+        own = next(x.id for x in header.walk() if x.name == "i")
+        (leaf,) = header.calls_of("__tapir_leaf")
+        text = json.dumps(header.data).replace(json.dumps(leaf.data), json.dumps(body.data))
+        return Node(json.loads(text.replace(own, counter.id)), body.tree)
