@@ -30,7 +30,7 @@ class Parts(Statements):
         text = f"a parallel part uses more than {MOST_PARAMETERS} variables"
         self.build.place.refuse(len(part.f.parameters) > MOST_PARAMETERS, text, "make a function of it")
         passed = dict(zip(args, map(Form.of, part.f.parameters))) | own
-        for form in [claim.form for claim in self.f.requires] + self.facts + forms:
+        for form in [claim.form for claim in self.f.requires] + self.build.said + forms:
             strange = Form({r: factor for r, factor in form.terms.items() if r not in passed})
             most = self.f.most(strange)
             if most is not None and strange.terms != form.terms:

@@ -24,9 +24,8 @@ OUT = ("return, break, continue or goto leads out of a SPAWN", "set a variable i
 class Task:
     """A function's own body, or a SPAWN."""
     first: Block
-    region: str
+    region: str  # also a variable, which is 0 where no child is open
     known: set[str]
-    is_open: str  # a variable, which is 0 where no child is open
     given: list[Zone] = field(default_factory=list)  # the author's
 
 
@@ -37,7 +36,6 @@ class Statements(Expressions):
         pointed = [x.inner[0].bare.declared.id for x in body.walk() if x.kind == "UnaryOperator" and x.opcode == "&"]
         self.in_memory = set(pointed).union(*(spawn.ways().keys() - spawn.own() for spawn in body.spawns()))
         self.loops = self.build.loops
-        self.facts: list[Form] = []  # what is 0 or more, as loops are not over
         self.is_child = False  # whether it is the body of a SPAWN
         self.returned: list[tuple[Value, list[Form]]] = []  # and what compares say there
         self.labels: dict[str, tuple[Block, Task]] = {}
@@ -51,10 +49,9 @@ class Statements(Expressions):
 
     def new_task(self) -> None:
         """What follows is of a task of its own."""
-        known, region, first = set(self.f.names), self.build.put("region", hint="region"), self.build.now
-        self.tasks.append(Task(first, region, known, "0x open in " + first.name))
+        self.tasks.append(Task(self.build.now, self.build.put("region", hint="region"), set(self.f.names)))
         self.build.tasks = [self.tasks[-1], *self.build.tasks]
-        self.build.write(self.task.is_open, 0, "open")
+        self.build.write(self.task.region, 0, "open")
 
     def run(self) -> None:
         self.value(self.body)
@@ -75,11 +72,11 @@ class Statements(Expressions):
         f.ensures += [claim for claim in claims if claim.choice not in self.unit.refused and not f.ensures]
 
     def sync(self) -> None:
-        if self.build.read(self.task.is_open) != 0:
+        if self.build.read(self.task.region) != 0:
             after = self.build.block("synced")
             self.build.close("sync", self.task.region, to=[after])
             self.build.start(after)
-            self.build.write(self.task.is_open, 0, "open")
+            self.build.write(self.task.region, 0, "open")
 
     def parameter(self, id: str, name: str, cells: int = 0) -> str:
         """A parameter of the function; of an array, its cells."""
@@ -161,7 +158,7 @@ class Statements(Expressions):
 
     def loop(self, test: Node, body: Node, step: Node, again: Optional[Node] = None) -> None:
         """A loop, which may be tested where a round begins, and where it ends."""
-        build, facts, ways = self.build, self.facts, step.ways()  # (a counter is set by the step alone, by one)
+        build, ways = self.build, step.ways()  # (a counter is set by the step alone, by one)
         counters = {id: way for id, (way, *_) in ways.items() if way in ("++", "--") and id not in body.ways()}
         own = [id for id in test.ways(body, step) if id in build.values and id not in body.own()]
         starts, (first, end, counter) = {id: build.form(build.read(id)) for id in own}, self.bound(test, body, step)
@@ -184,11 +181,11 @@ class Statements(Expressions):
         for own in [build.form(build.read(id)) for id in counters]:
             most, least = self.f.most(own, build.said), self.f.most(-own, build.said)
             build.guess(build.now, *[form + end for form, end in ((-own, most), (own, least)) if end is not None])
-        self.facts, build.reaches, loop.inside = self.facts + known, build.reaches + known, build.now
+        build.reaches, loop.inside = build.reaches + known, build.now
         self.value(body)
         build.jump(latch)
         build.start(latch)
-        build.made, self.facts = made, facts  # (so a counter's next value is a register of its own, with few facts)
+        build.made = made  # (so a counter's next value is a register of its own, with few facts)
         self.loops.remove(loop)
         if counter:
             build.write(counter, build.binary("add", build.read(counter), 1, True), "rounds")
@@ -295,7 +292,7 @@ class Statements(Expressions):
         return block
 
     def of_LabelStmt(self, node: Node) -> None:
-        changed = {*self.body.ways(), *[self.task.is_open for _ in self.body.spawns()]}
+        changed = {*self.body.ways(), *[self.task.region for _ in self.body.spawns()]}
         self.build.start(self.of_GotoStmt(node, "declId"), changed, True)
         self.value(node.inner[0])
 
@@ -339,7 +336,7 @@ class Statements(Expressions):
         build.tasks = outer
         build.close("reattach", region, to=[after])
         build.start(after)
-        build.write(self.task.is_open, 1, "open")
+        build.write(self.task.region, 1, "open")
 
     def say(self, kind: str, node: Node) -> None:
         """Takes a claim."""
