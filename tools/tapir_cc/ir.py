@@ -21,9 +21,6 @@ class Form:
     terms: dict[str, int] = field(default_factory=dict)
     constant: int = 0
 
-    def __hash__(self) -> int:
-        return hash((frozenset(self.terms.items()), self.constant))
-
     @staticmethod
     def of(value: Value) -> Form:
         return Form({value: 1}) if isinstance(value, str) else Form(constant=value)

@@ -38,7 +38,6 @@ class Parts(Statements):
         same = [Form.of(p) - value for value, p in zip(args, part.f.parameters) if isinstance(value, int)]
         part.f.requires += [Claim(form * sign, part.f.place) for form in same for sign in (1, -1)]
         part.run()
-        self.unit.functions.append(part.f)
 
     def outline(self, body: Node) -> None:
         part, args = self.part("child", body, body)
@@ -56,7 +55,6 @@ class Parts(Statements):
         deepest = HALVINGS if size is None else max(1, min(HALVINGS, size.bit_length() - 3))
         own_forms = [hi - lo, depth, -depth + deepest] + [lo - hi + size for size in [size] if size is not None]
         part.f.requires += [Claim(form, part.f.place) for form in own_forms]
-        part.f.notes["measure"] = f"{depth} max {deepest}"
         self.make(part, args, {"lo": lo, "hi": hi}, [Form.of("lo") - first, last - Form.of("hi")])
         call = partial(self.build.put, "call", *args, *ends, deepest, callee=part.f.name)
         self.chosen(partial(self.build.branch, "slt", *ends), call)

@@ -87,8 +87,8 @@ class Report:
     def __init__(self, path: str, judge: Judge, verdict: Verdict):
         self.path, self.printed, self.rule = path, judge.printed, verdict.rule
         self.line = self.printed[verdict.at]
-        self.f, self.x = self.line.function, self.line.of
-        self.names = Names(self.f or judge.unit.functions[-1])
+        self.f, self.x = self.line.function or judge.unit.functions[-1], self.line.of
+        self.names = Names(self.f)
         self.told = judge.ask("explain", "--annotate").stdout.split("\nalso ")[0].split("\n", 1)[-1]
         self.goals = re.findall(r"to show: (\S+ (?:<=|>=) \S+)", self.told)
         self.goal = self.names.in_text("".join(self.goals[:1]))
@@ -105,9 +105,8 @@ class Report:
     def place(self) -> Place:
         """Where it is refused; of an edge that does not keep an INVARIANT the place of that."""
         asked = [self.printed[int(number)] for number in re.findall(r"asked by line (\d+)", self.told)]
-        places = [line.place for line in asked if self.rule == 505 and not line.of] + [self.line.place]
-        places += [self.f.place] if self.f else []
-        return next((place for place in places if place.line), Place(1, 1))
+        places = [line.place for line in asked if self.rule == 505 and not line.of]
+        return next(place for place in [*places, self.line.place, self.f.place] if place.line)
 
     def what(self) -> str:
         """What the refused instruction touches or does, as the C writes it."""

@@ -63,6 +63,8 @@ class Statements(Expressions):
             task.first.foot = zones.of(task, task.known, True)
         self.build.seal()
         self.ensure()
+        self.measure()
+        self.unit.functions.append(self.f)
 
     def ensure(self) -> None:
         """Tries as ENSURES what compares say of a result, where the author says nothing."""
@@ -70,6 +72,14 @@ class Statements(Expressions):
         tried = [form for form in tried if form.terms.keys() <= {"%.ret", *f.parameters}]
         claims = [Claim(form, f.place, Choice(f.name, f"ensures {form}", f.place)) for form in tried[:8]]
         f.ensures += [claim for claim in claims if claim.choice not in self.unit.refused and not f.ensures]
+
+    def measure(self) -> None:
+        """Takes as MEASURE a parameter that falls in each call of itself, where the author says nothing."""
+        f, form, calls = self.f, self.build.form, [x for x in self.f.instructions() if x.callee == self.f.name]
+        for k, own in enumerate(map(Form.of, f.parameters) if calls else ()):
+            most, changes = f.most(own), [form(x.args[k]) - own for x in calls]
+            if most is not None and all(not change.terms and change.constant < 0 for change in changes):
+                f.notes = {"measure": f"{own} max {most}"} | f.notes
 
     def sync(self) -> None:
         if self.build.read(self.task.region) != 0:

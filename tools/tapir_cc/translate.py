@@ -22,8 +22,7 @@ class Unit:
         self.extents: dict[str, int] = {}  # a global -> its cells
         self.initial: dict[Cell, Node] = {}  # a cell of what is const -> its number
         self.functions: list[Function] = []
-        named = [x for x in tree.declarations if x.kind == "FunctionDecl"]
-        self.bodies = {x.name: x for x in named if x.inner and x.inner[-1].kind == "CompoundStmt"}
+        self.bodies = {x.name: x for x in tree.declarations if x.inner and x.inner[-1].kind == "CompoundStmt"}
         for node in [x for x in tree.declarations if x.kind == "VarDecl"]:
             self.add_global(node, node.name)
 
@@ -105,12 +104,6 @@ class Unit:
         for object, index in table:
             made.build.put("store", made.value(self.initial[object, index]), object=object, index=index)
         made.run()
-        calls = [x for x in f.instructions() if x.callee == f.name]
-        for k, own in enumerate(map(Form.of, f.parameters) if calls else ()):  # (one that falls in each call of itself)
-            most, changes = f.most(own), [made.build.form(x.args[k]) - own for x in calls]
-            if most is not None and all(not change.terms and change.constant < 0 for change in changes):
-                f.notes = {"measure": f"{own} max {most}"} | f.notes
-        self.functions.append(f)
 
 
 def translate(tree: Tree, entry: str, refused: set[Choice], is_thorough: bool) -> Unit:
