@@ -62,22 +62,19 @@ class Statements(Expressions):
         for task in self.tasks[1:]:
             task.first.foot = zones.of(task, task.known, True)
         self.build.seal()
-        self.ensure()
-        self.measure()
+        self.conclude()
         self.unit.functions.append(self.f)
 
-    def ensure(self) -> None:
-        """Tries as ENSURES what compares say of a result, where the author says nothing."""
+    def conclude(self) -> None:
+        """Where the author says nothing, tries as ENSURES what compares say of a result, and takes as MEASURE a
+        parameter that falls in each call of itself."""
         f, tried = self.f, self.build.common("%.ret", self.returned) if self.f.returns else []
         tried = [form for form in tried if form.terms.keys() <= {"%.ret", *f.parameters}]
         claims = [Claim(form, f.place, Choice(f.name, f"ensures {form}", f.place)) for form in tried[:8]]
         f.ensures += [claim for claim in claims if claim.choice not in self.unit.refused and not f.ensures]
-
-    def measure(self) -> None:
-        """Takes as MEASURE a parameter that falls in each call of itself, where the author says nothing."""
-        f, form, calls = self.f, self.build.form, [x for x in self.f.instructions() if x.callee == self.f.name]
+        calls = [x for x in f.instructions() if x.callee == f.name]
         for k, own in enumerate(map(Form.of, f.parameters) if calls else ()):
-            most, changes = f.most(own), [form(x.args[k]) - own for x in calls]
+            most, changes = f.most(own), [self.build.form(x.args[k]) - own for x in calls]
             if most is not None and all(not change.terms and change.constant < 0 for change in changes):
                 f.notes = {"measure": f"{own} max {most}"} | f.notes
 
@@ -211,9 +208,7 @@ class Statements(Expressions):
         """A part of a test, the gap of which falls at least as fast as a value rises, so that this is below an end
         wherever it holds; the end; and the value, a variable that counts the rounds: there are at most as many as the
         gap begins with. Of `head < tail`, where tail grows up to 32, head is below 32, and there is no counter."""
-        first, ways = test.bare, body.ways(step)
-        while first.opcode == "&&":
-            first = first.inner[0].bare
+        first, ways = self.first_of(test), body.ways(step)
         changed = [ways[id] for id, _ in first.named() if id in ways] if self.is_simple(first) else []
         if not self.is_thorough or not changed or changed in ([{"++"}], [{"--"}]):
             return None, 0, ""
@@ -226,15 +221,17 @@ class Statements(Expressions):
         self.build.write(counter, 0, "rounds")
         return (first, most + 1, counter) if most is not None and 0 <= most < MOST_ROUNDS else (None, 0, "")
 
-    def compare_of(self, test: Node) -> Node:
-        """What the header puts a `sync` beside, or a test as it stands."""
-        is_parallel = test.bare.opcode == "||" and test.calls_of("__tapir_sync")
-        return test.bare.inner[0].bare if is_parallel else test.bare
+    def first_of(self, test: Node) -> Node:
+        """What holds first of all where a test does. (The header puts a `sync` beside it.)"""
+        first = test.bare
+        while first.opcode == "&&" or first.calls_of("__tapir_sync"):
+            first = first.inner[0].bare
+        return first
 
     def enter(self, test: Node, counters: dict[str, str], out: Block) -> None:
         """Tests before a loop, too, that its counter does not begin past its end, where that is not known."""
-        own = self.compare_of(test)
-        is_pure = not test.ways() and not any(x.callee() for x in own.walk())
+        own = self.first_of(test)
+        is_pure = not test.ways() and {x.callee() for x in test.walk()} <= {"", "__tapir_sync"}
         is_known = self.is_simple(own) and self.f.shows(self.gaps(own)[0] + 1, self.build.said)
         if self.is_thorough and is_pure and not is_known and counters.keys() & dict(own.named()):
             inside = self.build.block("entered")
@@ -262,7 +259,7 @@ class Statements(Expressions):
         facts = [risen[id] if way == "++" else -risen[id] for id, way in counters.items()]
         for id in [id for id in risen if body.ways().get(id) == {"++"}]:  # (what is only raised now and then)
             self.build.reaches += [risen[id], *[risen[i] - risen[id] for i, way in counters.items() if way == "++"]]
-        own = self.compare_of(test)
+        own = self.first_of(test)
         if own.opcode in ("<", "<=", ">", ">=") and self.is_simple(own):
             facts += self.gaps(own)
             if len(facts[-1].terms) > 2:
@@ -388,12 +385,11 @@ class Statements(Expressions):
         elif word in ("reads", "writes", "adds"):
             ends = [self.build.form(self.value(x)) for x in args[1:]]
             self.task.given.append(Zone(self.address(args[0].unconverted).object, word, *ends))
-        elif word == "measure":
-            form, most = [self.build.form(self.value(x)) for x in args]
-            node.place.refuse(most.terms, "the most of a MEASURE is a number", "write MEASURE(depth, 20)")
-            f.notes[word] = f"{form} max {most}"
-        elif word == "budget":
-            f.notes[word] = " ".join(str(self.build.form(self.value(x))) for x in args)
+        elif word in ("measure", "budget"):
+            first, last = [self.build.form(self.value(x)) for x in args]
+            is_open = word == "measure" and last.terms
+            node.place.refuse(is_open, "the most of a MEASURE is a number", "write MEASURE(depth, 20)")
+            f.notes[word] = f"{first} {'max ' if word == 'measure' else ''}{last}"
         elif word == "halved":
             self.build.put("call", *f.parameters[:-3], *map(self.value, args), callee=f.name)
         return 0
