@@ -239,6 +239,7 @@ class Expressions:
             object = self.address(at).object
             return self.build.put("zero", object, object=object)
         node.place.refuse(not name, "a call through a pointer is not taken", "name the function")
+        self.unit.need(name, node.place)
         args = [self.whole(x) if x.type.is_pointer else self.value(x) for x in node.inner[1:]]
         self.unit.passed.setdefault(name, []).append(args)
         return self.build.put("call", *args, callee="@" + name, hint=name if node.type.base != "void" else "")

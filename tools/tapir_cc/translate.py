@@ -9,7 +9,6 @@ from .parts import Parts
 from .tree import Node, Tree, Type
 
 MOST_CELLS = 1048576  # of a module's globals
-ALLOWED = ("__tapir_", "memset")
 
 
 class Unit:
@@ -22,6 +21,7 @@ class Unit:
         self.extents: dict[str, int] = {}  # a global -> its cells
         self.initial: dict[Cell, Node] = {}  # a cell of what is const -> its number
         self.functions: list[Function] = []
+        self.above = [entry]  # the functions that are being made, each called by the one before
         self.bodies = {x.name: x for x in tree.declarations if x.inner and x.inner[-1].kind == "CompoundStmt"}
         for node in [x for x in tree.declarations if x.kind == "VarDecl"]:
             self.add_global(node, node.name)
@@ -54,51 +54,41 @@ class Unit:
     def is_zero(self, node: Node) -> bool:
         return all(x.data.get("value", "0") == "0" for x in node.walk())
 
-    def callees_first(self) -> list[Node]:
-        """The functions that a run may call."""
-        out: list[Node] = []
+    def need(self, name: str, place: Place) -> None:
+        """Makes a function that the last one of `above` calls, unless it is there."""
         change = "make one function of them, with a parameter that says which"
-
-        def visit(body: Node, above: list[str]) -> None:
-            for x in [x for x in body.walk() if x.callee()]:
-                name, callee = x.callee(), self.bodies.get(x.callee())
-                is_there = callee or name.startswith(ALLOWED)
-                x.place.refuse(not is_there, f"{name} is not in this file", "put its code here")
-                x.place.refuse(name in above, f"{body.name} and {name} call each other", change)
-                if callee not in (None, body, *out):
-                    visit(callee, [*above, body.name])
-            out.append(body)
-
-        first, text = self.bodies.get(self.entry), f"there is no function {self.entry}, where the run begins"
-        Place(1, 1).refuse(first is None, text, "name another one by --entry")
-        visit(first, [])
-        change = f"write int64_t {first.name}(..)"
-        first.place.refuse(not self.returns(first).is_number, f"{first.name} returns no number", change)
-        for p in [p for p in first.inner if p.kind == "ParmVarDecl" and p.type.is_pointer]:
-            first.place.refuse(True, f"{p.name} is an array, and the host hands over globals alone", "make it a global")
-        return out
+        place.refuse(name not in self.bodies, f"{name} is not in this file", "put its code here")
+        place.refuse(name in self.above[:-1], f"{self.above[-1]} and {name} call each other", change)
+        if name not in (*self.above, *self.passed):
+            self.above.append(name)
+            self.lower(self.bodies[name])
+            self.above.pop()
 
     def returns(self, node: Node) -> Type:
         return node.tree.type_of(node.data["type"]["qualType"].split("(")[0])
 
     def lower(self, node: Node) -> None:
         """A function's blocks."""
-        type = self.returns(node)
+        type, is_entry = self.returns(node), node.name == self.entry
         f = Function("@" + node.name, node.place, type.is_number)
+        change = f"write int64_t {node.name}(..)"
+        f.place.refuse(is_entry and not f.returns, f"{node.name} returns no number", change)
         is_taken, change = f.returns or type == Type("void"), "a result is int64_t, int, bool or void"
         f.place.refuse(not is_taken, f"what {node.name} returns is not taken", change)
         made = Parts(self, f, node.inner[-1])
         for p in [p for p in node.inner if p.kind == "ParmVarDecl"]:
+            text = f"{p.name} is an array, and the host hands over globals alone"
+            f.place.refuse(is_entry and p.type.is_pointer, text, "make it a global")
             p.type.check(f.place)
             rows = node.tree.length(node.name, p.name) if p.type.is_pointer else 0
             change = f"write int64_t {p.name}[static N]"
             f.place.refuse(p.type.is_pointer and not rows, f"the size of {p.name} is not said", change)
             made.parameter(p.id, p.name, rows * p.type.cells)
         for p, *values in zip(f.parameters, *self.known.get(node.name, ())):
-            if values and node.name != self.entry and all(isinstance(value, int) for value in values):
+            if values and not is_entry and all(isinstance(value, int) for value in values):
                 own = Form.of(p)
                 f.requires += [Claim(form, f.place) for form in (own - min(values), -own + max(values))]
-        table = [x for x in self.initial if node.name == self.entry and self.extents[x.object] > 1]
+        table = [x for x in self.initial if is_entry and self.extents[x.object] > 1]
         for object in dict.fromkeys(cell.object for cell in table):  # (whatever the host handed over)
             made.build.put("zero", object, object=object)
         for object, index in table:
@@ -110,8 +100,9 @@ def translate(tree: Tree, entry: str, refused: set[Choice], is_thorough: bool) -
     before, unit = None, Unit(tree, entry, refused, is_thorough, {})
     while (refused, unit.passed) != before:  # (until no variable changes in a loop that seems to)
         before, unit = (set(refused), unit.passed), Unit(tree, entry, refused, is_thorough, unit.passed)
-        for node in unit.callees_first():
-            unit.lower(node)
+        text = f"there is no function {entry}, where the run begins"
+        Place(1, 1).refuse(entry not in unit.bodies, text, "name another one by --entry")
+        unit.lower(unit.bodies[entry])
     for f in unit.functions:
         drop_unused(f)
     return unit
