@@ -179,3 +179,20 @@ class Function:
         """Whether a form is 0 or more."""
         least = self.most(-form, facts)
         return least is not None and least <= 0
+
+    def drop_unused(self) -> None:
+        """Takes out what no effect and no claim rests on, also what only uses itself round a loop."""
+        definitions, blocks, live = self.definitions(), self.blocks.values(), set()
+        said = [claim.form for block in blocks for claim in block.keeps if not claim.choice]
+        said += [form for block in blocks for zone in block.foot for form in (zone.low, zone.high)]
+        work = [register for form in said for register in form.terms]
+        work += [value for x in self.instructions() if x.op not in PURE for value in x.uses()]
+        while work:
+            value = work.pop()
+            if value in definitions and value not in live:
+                live.add(value)
+                work += definitions[value].uses()
+        for block in blocks:
+            block.phis = [x for x in block.phis if x.result in live]
+            block.body = [x for x in block.body if x.op not in PURE or x.result in live]
+            block.keeps = [claim for claim in block.keeps if not claim.form.terms.keys() & definitions.keys() - live]

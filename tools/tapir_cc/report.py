@@ -99,14 +99,11 @@ class Report:
         if self.rule == 602 and self.x and self.x.op == "detach":
             change = self.cells_to_part()
         change = change or (self.claim_to_add() if self.goals else "")
-        head = told(self.path, self.place(), self.meaning(means), f"{change} [{self.rule}]")
-        return "\n".join([head.replace(";  [", " ["), *self.facts()])
-
-    def place(self) -> Place:
-        """Where it is refused; of an edge that does not keep an INVARIANT the place of that."""
         asked = [self.printed[int(number)] for number in re.findall(r"asked by line (\d+)", self.told)]
-        places = [line.place for line in asked if self.rule == 505 and not line.of]
-        return next(place for place in [*places, self.line.place, self.f.place] if place.line)
+        places = [line.place for line in asked if self.rule == 505 and not line.of]  # (of an INVARIANT, not of an edge)
+        place = next(place for place in [*places, self.line.place, self.f.place] if place.line)
+        head = told(self.path, place, self.meaning(means), f"{change} [{self.rule}]")
+        return "\n".join([head.replace(";  [", " ["), *self.facts()])
 
     def what(self) -> str:
         """What the refused instruction touches or does, as the C writes it."""

@@ -17,6 +17,7 @@ CLAIMS = ("requires", "ensures", "keeps", "invariant")
 TYPES = {"RecordDecl", "EnumDecl", "TypedefDecl"}  # what is told where it is used
 SIMPLE = {"DeclRefExpr", "IntegerLiteral", "ImplicitCastExpr", "ParenExpr", "BinaryOperator"}
 MOST_ROUNDS = 1 << 40
+NOTHING = Node({}, None)
 OUT = ("return, break, continue or goto leads out of a SPAWN", "set a variable in the SPAWN, and test it after SYNC")
 
 
@@ -63,6 +64,7 @@ class Statements(Expressions):
             task.first.foot = zones.of(task, task.known, True)
         self.build.seal()
         self.conclude()
+        self.f.drop_unused()
         self.unit.functions.append(self.f)
 
     def conclude(self) -> None:
@@ -118,27 +120,26 @@ class Statements(Expressions):
     of_DeclStmt = of_NullStmt = of_CompoundStmt
 
     def of_VarDecl(self, node: Node) -> None:
-        first = next((x for x in node.inner if "init" in node.data and not x.kind.endswith("Attr")), None)
+        first = next((x for x in node.inner if "init" in node.data and not x.kind.endswith("Attr")), NOTHING)
         type, place = node.type, node.place
         type.check(place)
         if node.data.get("storageClass") == "static":
             self.unit.add_global(node, f"{self.f.name[1:]}.{node.name}")
         elif type.is_pointer:
-            moves = first is None or node.id in self.body.ways()
+            moves = first is NOTHING or node.id in self.body.ways()
             place.refuse(moves, f"{node.name} is a pointer that moves", "keep the index, not the pointer")
             self.objects[node.id] = self.address(first)
         elif type.lengths:
             place.refuse(type.bytes < 4, *NO_BYTES)
             object = self.local(node.id, node.name, type.cells).object
-            if first is not None:
+            if first is not NOTHING:
                 is_set = not self.unit.is_zero(first)
                 first.place.refuse(is_set, "initial values of local arrays are not taken", "write a loop")
                 self.build.put("zero", object, object=object)
         else:
             target = self.local(node.id, node.name, 1) if node.id in self.in_memory else node.id
-            value = self.value(first) if first is not None else 0
-            if first is not None or node.id == target:
-                self.store(target, value, node)
+            if first is not NOTHING or node.id == target:
+                self.store(target, self.value(first), node)
 
     def of_IfStmt(self, node: Node) -> None:
         """What a SPAWN in a loop does is a function of its own if it has SPAWNs, which so are told apart."""
@@ -157,13 +158,12 @@ class Statements(Expressions):
             self.loop(test, body, step)
 
     def of_WhileStmt(self, node: Node) -> None:
-        self.loop(*node.inner, Node({}, node.tree))
+        self.loop(*node.inner)
 
     def of_DoStmt(self, node: Node) -> None:
-        body, again = node.inner
-        self.loop(Node({}, node.tree), body, Node({}, node.tree), again)
+        self.loop(NOTHING, node.inner[0], again=node.inner[1])
 
-    def loop(self, test: Node, body: Node, step: Node, again: Optional[Node] = None) -> None:
+    def loop(self, test: Node, body: Node, step: Node = NOTHING, again: Optional[Node] = None) -> None:
         """A loop, which may be tested where a round begins, and where it ends."""
         build, ways = self.build, step.ways()  # (a counter is set by the step alone, by one)
         counters = {id: way for id, (way, *_) in ways.items() if way in ("++", "--") and id not in body.ways()}

@@ -4,7 +4,7 @@ import math
 from typing import Iterator
 
 from .expressions import NO_BYTES, NO_POINTER, Cell
-from .ir import PURE, Choice, Claim, Form, Function, Place
+from .ir import Choice, Claim, Form, Function, Place
 from .parts import Parts
 from .tree import Node, Tree, Type
 
@@ -64,12 +64,9 @@ class Unit:
             self.lower(self.bodies[name])
             self.above.pop()
 
-    def returns(self, node: Node) -> Type:
-        return node.tree.type_of(node.data["type"]["qualType"].split("(")[0])
-
     def lower(self, node: Node) -> None:
         """A function's blocks."""
-        type, is_entry = self.returns(node), node.name == self.entry
+        type, is_entry = node.tree.type_of(node.data["type"]["qualType"].split("(")[0]), node.name == self.entry
         f = Function("@" + node.name, node.place, type.is_number)
         change = f"write int64_t {node.name}(..)"
         f.place.refuse(is_entry and not f.returns, f"{node.name} returns no number", change)
@@ -103,24 +100,4 @@ def translate(tree: Tree, entry: str, refused: set[Choice], is_thorough: bool) -
         text = f"there is no function {entry}, where the run begins"
         Place(1, 1).refuse(entry not in unit.bodies, text, "name another one by --entry")
         unit.lower(unit.bodies[entry])
-    for f in unit.functions:
-        drop_unused(f)
     return unit
-
-
-def drop_unused(f: Function) -> None:
-    """Takes out what no effect and no claim rests on, also what only uses itself round a loop."""
-    definitions, blocks, live = f.definitions(), f.blocks.values(), set()
-    said = [claim.form for block in blocks for claim in block.keeps if not claim.choice]
-    said += [form for block in blocks for zone in block.foot for form in (zone.low, zone.high)]
-    work = [register for form in said for register in form.terms]
-    work += [value for x in f.instructions() if x.op not in PURE for value in x.uses()]
-    while work:
-        value = work.pop()
-        if value in definitions and value not in live:
-            live.add(value)
-            work += definitions[value].uses()
-    for block in blocks:
-        block.phis = [x for x in block.phis if x.result in live]
-        block.body = [x for x in block.body if x.op not in PURE or x.result in live]
-        block.keeps = [claim for claim in block.keeps if not claim.form.terms.keys() & definitions.keys() - live]
