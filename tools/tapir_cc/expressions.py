@@ -1,6 +1,7 @@
 """Expressions. In: nodes of the tree. Out: instructions over i64, and the values that they give. `int` is computed in
 64 bits, which is the same where C leaves overflow undefined; `unsigned` is cut to its 32 bits, and bool is 0 or 1. The
 tree has all of C's conversions as nodes."""
+from collections import ChainMap
 from contextlib import contextmanager
 from functools import partial
 from typing import Callable, Iterator, NamedTuple, Union
@@ -29,10 +30,10 @@ class Cell(NamedTuple):
 class Expressions:
     """What a function's expressions come to. `self.objects` are the variables that lie in memory. What is made has the
     place of the node that is visited."""
-    build: Builder
-    f: Function
-    objects: dict[str, Cell]
-    is_thorough: bool  # whether there are tests that may help, although they always hold
+
+    def __init__(self, unit, f: Function):
+        self.unit, self.f, self.build, self.objects = unit, f, Builder(f, unit.refused), ChainMap({}, unit.objects)
+        self.is_thorough = unit.is_thorough  # whether there are tests that may help, although they always hold
 
     @contextmanager
     def at(self, node: Node) -> Iterator[None]:
@@ -258,9 +259,8 @@ class Expressions:
             return self.build.read(target)
         if target in self.unit.initial:
             return self.value(self.unit.initial[target])
-        object, index = target
         hint = node.bare.declared.name or "t"
-        value = self.build.once(("load", *target), "load", hint=hint, object=object, index=index)
+        value = self.build.once(("load", *target), "load", hint=hint, object=target.object, index=target.index)
         return self.converted(value, Type("long"), node.type) if node.type.base == "uint" else value
 
     def store(self, target: Union[Cell, str], value: Value, node: Node) -> Value:

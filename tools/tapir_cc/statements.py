@@ -9,7 +9,7 @@ from typing import Callable, Optional
 
 from .expressions import COMPARES, NO_BYTES, Cell, Expressions
 from .ir import Block, Choice, Claim, Form, Function, Instruction, Value, Zone
-from .ssa import Builder, Loop
+from .ssa import Loop
 from .tree import Node, Type
 from .zones import Zones
 
@@ -32,11 +32,10 @@ class Task:
 
 class Statements(Expressions):
     def __init__(self, unit, f: Function, body: Node):
-        self.unit, self.f, self.body, self.is_thorough = unit, f, body, unit.is_thorough
-        self.build, self.objects = Builder(f, unit.refused), ChainMap({}, unit.objects)
+        super().__init__(unit, f)
         pointed = [x.inner[0].bare.declared.id for x in body.walk() if x.kind == "UnaryOperator" and x.opcode == "&"]
         self.in_memory = set(pointed).union(*(spawn.ways().keys() - spawn.own() for spawn in body.spawns()))
-        self.loops = self.build.loops
+        self.body, self.loops = body, self.build.loops
         self.is_child = False  # whether it is the body of a SPAWN
         self.returned: list[tuple[Value, list[Form]]] = []  # and what compares say there
         self.labels: dict[str, tuple[Block, Task]] = {}
