@@ -9,6 +9,7 @@ from typing import Callable, NamedTuple, Optional, Sequence, Union
 
 BINARY = {"add", "sub", "mul", "sdiv", "udiv", "srem", "urem", "shl", "lshr", "ashr", "and", "or", "xor"}
 PURE = BINARY | {"trunc", "sext", "icmp", "phi", "load", "alloca", "region"}
+MOST_TERMS = 4  # of a form that is annotated
 MOST_STEPS = 6  # from a register to what bounds it
 MOST_NAME = 56  # letters of a name, before its number
 
@@ -56,7 +57,7 @@ def reach(form: Form, facts: list[Form], known: set[str] = frozenset(), gone: tu
     does not come again."""
     register = next((r for r in reversed(form.terms) if r not in known), None)
     if register is None or register in gone or len(gone) == MOST_STEPS:
-        return [(form, len(gone))] * (register is None and len(form.terms) <= 4)
+        return [(form, len(gone))] * (register is None and len(form.terms) <= MOST_TERMS)
     factor, facts_of = form.terms[register], [x for x in reversed(facts) if register in x.terms]
     ways = [(x, times) for x in facts_of for times in {1, abs(factor)} if x.terms[register] * times == -factor]
     ends = {str(end): end for end in [form.plus(*way) for way in ways]}

@@ -3,6 +3,7 @@ way is refused that was only tried, all is translated again without it; none cha
 import pathlib
 import re
 import subprocess
+from itertools import takewhile
 from typing import NamedTuple, Optional
 
 from .ir import Choice
@@ -57,7 +58,10 @@ class Judge:
         if verdict.rule == UNJUDGED:
             choices = {line.choice for line in self.printed} | {line.of.nsw for line in self.printed if line.of}
         elif verdict.rule in (402, 503) and x:
-            choices |= {x.nsw, *map(f.unset.get, [x.object, *x.args])}
+            told = re.findall(r"^(?:refused|also) (\d+) line (\d+)", self.ask("explain", "--annotate").stdout, re.M)
+            same = takewhile(lambda fault: int(fault[0]) == verdict.rule, told)
+            for x in [self.printed[int(at)].of for _, at in same]:
+                choices |= {x.nsw, *map(f.unset.get, [x.object, *x.args])}
         elif verdict.rule in (601, 604) and x:
             choices |= {f.tried.get(x.object)} if x.object else set(f.tried.values())
         elif verdict.rule in (505, 506, 507):
