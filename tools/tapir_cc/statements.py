@@ -7,7 +7,7 @@ from dataclasses import dataclass, field
 from functools import partial
 from typing import Callable, Optional
 
-from .expressions import COMPARES, NO_BYTES, Cell, Expressions
+from .expressions import COMPARES, NO_BYTES, Cell
 from .ir import Block, Choice, Claim, Form, Function, Instruction, Value, Zone
 from .ssa import Loop
 from .tree import Node, Type
@@ -30,7 +30,7 @@ class Task:
     given: list[Zone] = field(default_factory=list)  # the author's
 
 
-class Statements(Expressions):
+class Statements(Zones):
     def __init__(self, unit, f: Function, body: Node):
         super().__init__(unit, f)
         pointed = [x.inner[0].bare.declared.id for x in body.walk() if x.kind == "UnaryOperator" and x.opcode == "&"]
@@ -57,10 +57,9 @@ class Statements(Expressions):
         self.value(self.body)
         self.sync()
         self.build.close("ret", *[0] * self.f.returns)
-        zones = Zones(self.f, self.unit, self.build.linear, self.build.reaches)
-        self.f.zones = zones.of(self.tasks[0], set(self.f.parameters) - self.f.extents.keys(), False)
+        self.f.zones = self.zones(self.tasks[0], set(self.f.parameters) - self.f.extents.keys(), False)
         for task in self.tasks[1:]:
-            task.first.foot = zones.of(task, task.known, True)
+            task.first.foot = self.zones(task, task.known, True)
         self.build.seal()
         self.conclude()
         self.f.drop_unused()
@@ -163,13 +162,13 @@ class Statements(Expressions):
         self.loop(NOTHING, node.inner[0], again=node.inner[1])
 
     def loop(self, test: Node, body: Node, step: Node = NOTHING, again: Optional[Node] = None) -> None:
-        """A loop, which may be tested where a round begins, and where it ends."""
-        build, ways = self.build, step.ways()  # (a counter is set by the step alone, by one)
+        """A loop, which may be tested where a round begins, and where it ends. Only its step sets a counter, by one."""
+        build, first, ways = self.build, self.first_of(test), step.ways()
         counters = {id: way for id, (way, *_) in ways.items() if way in ("++", "--") and id not in body.ways()}
         own = [id for id in test.ways(body, step) if id in build.values and id not in body.own()]
-        starts, (first, end, counter) = {id: build.form(build.read(id)) for id in own}, self.bound(test, body, step)
+        starts, (end, counter) = {id: build.form(build.read(id)) for id in own}, self.bound(first, body, step)
         head, inside, latch, out = [build.block(hint) for hint in ("head", "body", "next", "end")]
-        self.enter(test, counters, out)
+        self.enter(test, first, counters, out)
         loop = Loop(out, latch, self.task, above=build.now, head=head, inside=inside, known=set(self.f.names))
         build.close("br", to=[head])
         build.start(head, set(build.values))
@@ -178,11 +177,11 @@ class Statements(Expressions):
         risen = {id: build.form(build.read(id)) - start for id, start in starts.items()}
         for id in [id for id in own if self.is_thorough and id not in counters]:
             build.guess(head, risen[id], -risen[id])
-        if first:
+        if end:
             self.test_bound(first, end, counter, loop)
         self.condition(test, inside, out)
         build.start(inside)
-        known = self.known_inside(test, counters, body, risen)
+        known = self.known_inside(first, counters, body, risen)
         build.said = build.said + known
         for own in [build.form(build.read(id)) for id in counters]:
             most, least = self.f.most(own, build.said), self.f.most(-own, build.said)
@@ -203,36 +202,37 @@ class Statements(Expressions):
         build.skip(loop.above, head, False)
         build.start(out)
 
-    def bound(self, test: Node, body: Node, step: Node) -> tuple[Optional[Node], int, str]:
-        """A part of a test, the gap of which falls at least as fast as a value rises, so that this is below an end
-        wherever it holds; the end; and the value, a variable that counts the rounds: there are at most as many as the
-        gap begins with. Of `head < tail`, where tail grows up to 32, head is below 32, and there is no counter."""
-        first, ways = self.first_of(test), body.ways(step)
-        changed = [ways[id] for id, _ in first.named() if id in ways] if self.is_simple(first) else []
+    def bound(self, first: Node, body: Node, step: Node) -> tuple[int, str]:
+        """Where the gap of a test falls at least as fast as a value rises, so that this is below an end wherever the
+        test holds: the end, and the value, a variable that counts the rounds: there are at most as many as the gap
+        begins with. Of `head < tail`, where tail grows up to 32, head is below 32, and there is no counter."""
+        ways = body.ways(step)
+        changed = [ways[id] for id, _ in first.named() if id in ways]
         if not self.is_thorough or not changed or changed in ([{"++"}], [{"--"}]):
-            return None, 0, ""
+            return 0, ""
         if first.opcode == "<" and changed == [{"++"}, {"++"}]:
             high = first.inner[1].named()
-            tests = [x for x in body.walk() if x.opcode == "<" and x.inner[0].named() == high and self.is_simple(x)]
-            ends = [x.inner[1].bare for x in tests if not x.inner[1].named()]
-            return (first, self.value(ends[0]), "") if ends else (None, 0, "")
+            tests = [x for x in body.walk() if x.opcode == "<" and x.inner[0].named() == high]
+            ends = [x.inner[1].bare for x in tests if self.first_of(x) is x and not x.inner[1].named()]
+            return self.value(ends[0]) if ends else 0, ""
         most, counter = self.f.most(self.gaps(first)[0]), "rounds " + first.id
         self.build.write(counter, 0, "rounds")
-        return (first, most + 1, counter) if most is not None and 0 <= most < MOST_ROUNDS else (None, 0, "")
+        return (most + 1, counter) if most is not None and 0 <= most < MOST_ROUNDS else (0, "")
 
     def first_of(self, test: Node) -> Node:
-        """What holds first of all where a test does. (The header puts a `sync` beside it.)"""
-        first = test.bare
+        """What holds first of all where a test does, if that is a compare of forms, or a form. (The header puts a `sync`
+        beside it.)"""
+        first, plain = test.bare, {"", "+", "-", "*", *COMPARES}
         while first.opcode == "&&" or first.calls_of("__tapir_sync"):
             first = first.inner[0].bare
-        return first
+        is_simple = all(x.kind in SIMPLE and (x.opcode in plain or not x.named()) for x in first.walk())
+        return first if is_simple else NOTHING
 
-    def enter(self, test: Node, counters: dict[str, str], out: Block) -> None:
+    def enter(self, test: Node, first: Node, counters: dict[str, str], out: Block) -> None:
         """Tests before a loop, too, that its counter does not begin past its end, where that is not known."""
-        own = self.first_of(test)
         is_pure = not test.ways() and {x.callee() for x in test.walk()} <= {"", "__tapir_sync"}
-        is_known = self.is_simple(own) and self.f.shows(self.gaps(own)[0] + 1, self.build.said)
-        if self.is_thorough and is_pure and not is_known and counters.keys() & dict(own.named()):
+        is_known = first is not NOTHING and self.f.shows(self.gaps(first)[0] + 1, self.build.said)
+        if self.is_thorough and is_pure and not is_known and counters.keys() & dict(test.named()):
             inside = self.build.block("entered")
             self.condition(test, inside, out)
             self.build.start(inside)
@@ -249,18 +249,13 @@ class Statements(Expressions):
             self.build.start(inside)
             self.build.guess(loop.head, gap + 1, room, risen)
 
-    def is_simple(self, test: Node) -> bool:
-        plain = {"", "+", "-", "*", *COMPARES}
-        return all(x.kind in SIMPLE and (x.opcode in plain or not x.named()) for x in test.walk())
-
-    def known_inside(self, test: Node, counters: dict[str, str], body: Node, risen: dict[str, Form]) -> list[Form]:
+    def known_inside(self, first: Node, counters: dict[str, str], body: Node, risen: dict[str, Form]) -> list[Form]:
         """What is 0 or more in a round: a counter has not passed its start, and a test without effects holds."""
         facts = [risen[id] if way == "++" else -risen[id] for id, way in counters.items()]
         for id in [id for id in risen if body.ways().get(id) == {"++"}]:  # (what is only raised now and then)
             self.build.reaches += [risen[id], *[risen[i] - risen[id] for i, way in counters.items() if way == "++"]]
-        own = self.first_of(test)
-        if own.opcode in ("<", "<=", ">", ">=") and self.is_simple(own):
-            facts += self.gaps(own)
+        if first.opcode in ("<", "<=", ">", ">="):
+            facts += self.gaps(first)
             if len(facts[-1].terms) > 2:
                 self.build.guess(self.build.now, facts[-1])
         return facts

@@ -5,52 +5,50 @@ from itertools import product
 from operator import attrgetter, itemgetter
 from typing import Optional
 
-from .ir import Choice, Form, Function, Instruction, Zone, reach
+from .expressions import Expressions
+from .ir import Choice, Form, Instruction, Zone, reach
 
 MODES = {"load": "reads", "store": "writes", "zero": "writes", "atomic": "adds"}
 
 
-class Zones:
-    def __init__(self, f: Function, unit, linear: dict[str, Form], facts: list[Form]):
-        self.f, self.functions, self.refused, self.linear, self.facts = f, unit.functions, unit.refused, linear, facts
-
-    def of(self, task, known: set[str], is_child: bool) -> list[Zone]:
+class Zones(Expressions):
+    def zones(self, task, known: set[str], is_child: bool) -> list[Zone]:
         """The zones of a task, over registers that are known."""
         hidden = {zone.object for zone in task.given} | {o for o in self.f.unset if not is_child}
         touches = [x for x in self.f.instructions() if task in x.tasks]
         zones = [zone for x in touches for zone in self.touched(x, known, is_child) if zone.object not in hidden]
         return task.given + merged([self.over(known, zone) for zone in zones])
 
-    def whole(self, object: str, mode: str) -> Zone:
+    def all_of(self, object: str, mode: str) -> Zone:
         return Zone(object, mode, Form(), Form(constant=self.f.extents[object]))
 
     def touched(self, x: Instruction, known: set[str], is_child: bool) -> list[Zone]:
         """What an instruction touches, by its index or by its callee's zones."""
         if x.op == "zero":
-            return [self.whole(x.object, MODES[x.op])]
+            return [self.all_of(x.object, MODES[x.op])]
         if x.op in MODES:
-            index = self.form(x.index, known)
+            index = self.named(x.index, known)
             return [Zone(x.object, MODES[x.op], index, index + 1)]
-        callee = next((g for g in [self.f, *self.functions] if g.name == x.callee), None)
+        callee = next((g for g in [self.f, *self.unit.functions] if g.name == x.callee), None)
         if callee is None or (callee is self.f and not is_child):
             return []
         passed = dict(zip(callee.parameters, x.args))
-        ends = [[end.replaced(lambda r: self.form(passed[r], known)) for end in (z.low, z.high)] for z in callee.zones]
+        ends = [[end.replaced(lambda r: self.named(passed[r], known)) for end in (z.low, z.high)] for z in callee.zones]
         return [Zone(passed.get(z.object, z.object), z.mode, *e) for z, e in zip(callee.zones, ends)]
 
-    def form(self, value, known: set[str]) -> Form:
-        return Form.of(value) if value in known else self.linear.get(value, Form.of(value))
+    def named(self, value, known: set[str]) -> Form:
+        return Form.of(value) if value in known else self.build.form(value)
 
     def over(self, known: set[str], zone: Zone) -> Zone:
         """A zone over what is known: what it reaches at most, and the least that does not depend on more."""
         choice = self.f.tried.setdefault(zone.object, Choice(self.f.name, "zone of " + zone.object, self.f.place))
-        lows, highs = reach(-zone.low, self.facts, known), reach(zone.high, self.facts, known)
+        lows, highs = reach(-zone.low, self.build.reaches, known), reach(zone.high, self.build.reaches, known)
         ends = []
-        for (low, first), (high, last) in product(lows, highs) if choice not in self.refused else ():
+        for (low, first), (high, last) in product(lows, highs) if choice not in self.unit.refused else ():
             size, terms = low + high, len(low.terms) + len(high.terms)
             ends.append((len(size.terms), terms if size.terms else size.constant, first + last, low, high))
         *_, low, high = min(ends, key=itemgetter(0, 1, 2), default=(None, None))
-        return zone._replace(low=-low, high=high) if low else self.whole(zone.object, zone.mode)
+        return zone._replace(low=-low, high=high) if low else self.all_of(zone.object, zone.mode)
 
 
 def merged(zones: list[Zone]) -> list[Zone]:
