@@ -220,8 +220,7 @@ class Statements(Zones):
         return (most + 1, counter) if most is not None and 0 <= most < MOST_ROUNDS else (0, "")
 
     def first_of(self, test: Node) -> Node:
-        """What holds first of all where a test does, if that is a compare of forms, or a form. (The header puts a `sync`
-        beside it.)"""
+        """What holds first where a test does, if that is a form or compares forms. (The header puts a `sync` by it.)"""
         first, plain = test.bare, {"", "+", "-", "*", *COMPARES}
         while first.opcode == "&&" or first.calls_of("__tapir_sync"):
             first = first.inner[0].bare
