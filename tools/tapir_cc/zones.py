@@ -57,16 +57,15 @@ def merged(zones: list[Zone]) -> list[Zone]:
     zones = [zone._replace(mode="writes") if zone.mode == "adds" and zone.object in plain else zone for zone in zones]
     out: list[Zone] = []
     for zone in sorted(zones, key=lambda zone: zone.mode):
-        k = next((k for k, old in enumerate(out) if old.mode == zone.mode and joined(old, zone)), len(out))
+        k = next((k for k, old in enumerate(out) if old[:2] == zone[:2] and joined(old, zone)), len(out))
         out[k : k + 1] = [joined(out[k], zone) if k < len(out) else zone]
     written = [zone for zone in out if zone.mode == "writes"]
-    return written + [x for x in out if x not in written and not any(joined(old, x) == old for old in written)]
+    covered = [x for x in out for old in written if old.object == x.object and joined(old, x) == old]
+    return written + [x for x in out if x not in covered]
 
 
 def joined(old: Zone, new: Zone) -> Optional[Zone]:
-    """One zone in place of two that overlap or touch by a known number of cells."""
-    if old.object != new.object:
-        return None
+    """One zone of an object in place of two that overlap or touch by a known number of cells."""
     if not (old.low - new.low).terms and not (old.high - new.high).terms:
         at = attrgetter("constant")
         return old._replace(low=min(old.low, new.low, key=at), high=max(old.high, new.high, key=at))
