@@ -97,8 +97,8 @@ class Claim(NamedTuple):
 
 class Zone(NamedTuple):
     """Cells of an object from `low` to before `high`, and what is done to them: reads, writes or adds."""
-    object: str
     mode: str
+    object: str
     low: Form
     high: Form
 

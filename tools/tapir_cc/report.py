@@ -192,7 +192,6 @@ class Report:
             known = known + 1 if "known:" in line else 0
             if re.match(SHOWN, line) and known <= MOST_FACTS:
                 line = re.sub(r"(reads|writes|adds) (\S+) (\S+) (\S+)$", r"\1 \2 from \3 to before \4", line[2:])
-                line = re.sub(r"\(line (\d+)[^)]*\)", r"(line \1)", self.names.in_text(line))
                 c_line = lambda m: f"line {self.printed[int(m[1])].place.line}"
-                out.append("  " + re.sub(r"\bline (\d+)", c_line, line))
+                out.append("  " + re.sub(r"\bline (\d+)(?: and put in)?", c_line, self.names.in_text(line)))
         return list(dict.fromkeys(out))

@@ -267,19 +267,16 @@ class Statements(Zones):
         build.guess(build.now, *[form for form in forms if not made & form.terms.keys()])
         build.jump(loop.head)
 
-    def leave(self, task: Optional[Task]) -> None:
-        self.build.place.refuse(task is not self.task, *OUT)
-
     def of_BreakStmt(self, node: Node) -> None:
         """Also `continue`, which is not of a switch."""
         loops = [loop for loop in self.loops if loop.latch or node.kind == "BreakStmt"]
-        self.leave(loops[-1].task if loops else None)
+        node.place.refuse(not loops or loops[-1].task is not self.task, *OUT)
         self.build.jump(loops[-1].out if node.kind == "BreakStmt" else loops[-1].latch)
 
     of_ContinueStmt = of_BreakStmt
 
     def of_ReturnStmt(self, node: Node) -> None:
-        self.leave(None if self.is_child else self.tasks[0])
+        node.place.refuse(self.is_child or self.task is not self.tasks[0], *OUT)
         values = [self.value(x) for x in node.inner]
         self.returned += [(value, self.build.said) for value in values if self.build.is_reached]
         self.sync()
@@ -287,7 +284,7 @@ class Statements(Zones):
 
     def of_GotoStmt(self, node: Node, word: str = "targetLabelDeclId") -> Block:
         block, task = self.labels.setdefault(node.data[word], (self.build.block("label"), self.task))
-        self.leave(task)
+        node.place.refuse(task is not self.task, *OUT)
         self.build.jump(block)
         return block
 
@@ -377,7 +374,7 @@ class Statements(Zones):
             self.build.put("atomic", value, object=object, index=index)
         elif word in ("reads", "writes", "adds"):
             ends = [self.build.form(self.value(x)) for x in args[1:]]
-            self.task.given.append(Zone(self.address(args[0].unconverted).object, word, *ends))
+            self.task.given.append(Zone(word, self.address(args[0].unconverted).object, *ends))
         elif word in ("measure", "budget"):
             first, last = [self.build.form(self.value(x)) for x in args]
             is_open = word == "measure" and last.terms

@@ -176,9 +176,7 @@ class Tree:
         if not found:
             return Type(text)
         base, lengths = found[1], tuple(map(int, re.findall(r"\d+", found[3])))
-        if base in WORDS:
-            return Type(WORDS[base], lengths, bool(found[2]))
-        named = self.type_of(self.types[base]) if self.types.get(base, base) != base else Type(base)
+        named = self.type_of(self.types[base]) if self.types.get(base, base) != base else Type(WORDS.get(base, base))
         return Type(text) if named.is_pointer else Type(named.base, lengths + named.lengths, bool(found[2]))
 
     def length(self, function: str, parameter: str) -> int:

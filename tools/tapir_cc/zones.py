@@ -19,22 +19,19 @@ class Zones(Expressions):
         zones = [zone for x in touches for zone in self.touched(x, known, is_child) if zone.object not in hidden]
         return task.given + merged([self.over(known, zone) for zone in zones])
 
-    def all_of(self, object: str, mode: str) -> Zone:
-        return Zone(object, mode, Form(), Form(constant=self.f.extents[object]))
-
     def touched(self, x: Instruction, known: set[str], is_child: bool) -> list[Zone]:
         """What an instruction touches, by its index or by its callee's zones."""
         if x.op == "zero":
-            return [self.all_of(x.object, MODES[x.op])]
+            return [Zone(MODES[x.op], x.object, Form(), Form(constant=self.f.extents[x.object]))]
         if x.op in MODES:
             index = self.named(x.index, known)
-            return [Zone(x.object, MODES[x.op], index, index + 1)]
+            return [Zone(MODES[x.op], x.object, index, index + 1)]
         callee = next((g for g in [self.f, *self.unit.functions] if g.name == x.callee), None)
         if callee is None or (callee is self.f and not is_child):
             return []
         passed = dict(zip(callee.parameters, x.args))
         ends = [[end.replaced(lambda r: self.named(passed[r], known)) for end in (z.low, z.high)] for z in callee.zones]
-        return [Zone(passed.get(z.object, z.object), z.mode, *e) for z, e in zip(callee.zones, ends)]
+        return [Zone(z.mode, passed.get(z.object, z.object), *e) for z, e in zip(callee.zones, ends)]
 
     def named(self, value, known: set[str]) -> Form:
         return Form.of(value) if value in known else self.build.form(value)
@@ -43,12 +40,12 @@ class Zones(Expressions):
         """A zone over what is known: what it reaches at most, and the least that does not depend on more."""
         choice = self.f.tried.setdefault(zone.object, Choice(self.f.name, "zone of " + zone.object, self.f.place))
         lows, highs = reach(-zone.low, self.build.reaches, known), reach(zone.high, self.build.reaches, known)
-        ends = []
+        ends, whole = [], (Form(), Form(constant=self.f.extents[zone.object]))
         for (low, first), (high, last) in product(lows, highs) if choice not in self.unit.refused else ():
             size, terms = low + high, len(low.terms) + len(high.terms)
             ends.append((len(size.terms), terms if size.terms else size.constant, first + last, low, high))
-        *_, low, high = min(ends, key=itemgetter(0, 1, 2), default=(None, None))
-        return zone._replace(low=-low, high=high) if low else self.all_of(zone.object, zone.mode)
+        *_, low, high = min(ends, key=itemgetter(0, 1, 2), default=whole)
+        return zone._replace(low=-low, high=high)
 
 
 def merged(zones: list[Zone]) -> list[Zone]:
