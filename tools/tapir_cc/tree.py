@@ -167,8 +167,7 @@ class Tree:
             self.types[f"enum {node.name}"] = self.types[node.id] = "int" if is_signed else "unsigned int"
         elif node.kind == "TypedefDecl":
             owned = [x["ownedTagDecl"]["id"] for x in node.data.get("inner", []) if "ownedTagDecl" in x]
-            is_enum = owned and owned[0] in self.types
-            self.types[node.name] = self.types[owned[0]] if is_enum else node.data["type"]["qualType"]
+            self.types[node.name] = self.types.get("".join(owned), node.data["type"]["qualType"])
 
     def type_of(self, text: str) -> Type:
         text = QUALIFIERS.sub("", text).strip()
