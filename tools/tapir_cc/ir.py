@@ -114,7 +114,7 @@ class Instruction:
     place: Place = Place()
     predicate: str = ""  # of icmp
     nsw: Optional[Choice] = None  # that it does not overflow is tried
-    incoming: list[tuple[Value, str]] = field(default_factory=list)
+    incoming: list[tuple[Value, object]] = field(default_factory=list)  # of phi: each with the edge that brings it
     targets: list[str] = field(default_factory=list)
     callee: str = ""
     object: Optional[str] = None  # of memory's instructions: what they touch, and the cell

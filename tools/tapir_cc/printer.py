@@ -79,7 +79,7 @@ def instruction(f: Function, x: Instruction, at: Optional[str]) -> str:
         cells=f.extents.get(x.object or x.result),
         type="i64" if x.result else "void",
         labels=", ".join(labels),
-        incoming=", ".join(f"[ {value}, %{label} ]" for value, label in x.incoming),
+        incoming=", ".join(f"[ {value}, %{edge.block.name} ]" for value, edge in x.incoming),
         cases=" ".join(f"i64 {number}, {label}" for number, label in zip(x.args[1:], labels[1:])),
         passed=", ".join(f"{'ptr' if value in f.extents else 'i64'} {value}" for value in x.args),
     )

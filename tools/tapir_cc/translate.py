@@ -73,17 +73,16 @@ class Unit:
         is_taken, change = f.returns or type == Type("void"), "a result is int64_t, int, bool or void"
         f.place.refuse(not is_taken, f"what {node.name} returns is not taken", change)
         made = Parts(self, f, node.inner[-1])
-        for p in [p for p in node.inner if p.kind == "ParmVarDecl"]:
+        for k, p in enumerate([p for p in node.inner if p.kind == "ParmVarDecl"]):
             text = f"{p.name} is an array, and the host hands over globals alone"
             f.place.refuse(is_entry and p.type.is_pointer, text, "make it a global")
             p.type.check(f.place)
             rows = node.tree.length(node.name, p.name) if p.type.is_pointer else 0
             change = f"write int64_t {p.name}[static N]"
             f.place.refuse(p.type.is_pointer and not rows, f"the size of {p.name} is not said", change)
-            made.parameter(p.id, p.name, rows * p.type.cells)
-        for p, *values in zip(f.parameters, *self.known.get(node.name, ())):
-            if values and not is_entry and all(isinstance(value, int) for value in values):
-                own = Form.of(p)
+            own = Form.of(made.parameter(p.id, p.name, rows * p.type.cells))
+            values = [args[k] for args in self.known.get(node.name, ()) if not is_entry]
+            if values and all(isinstance(value, int) for value in values):
                 f.requires += [Claim(form, f.place) for form in (own - min(values), -own + max(values))]
         table = [x for x in self.initial if is_entry and self.extents[x.object] > 1]
         for object in dict.fromkeys(cell.object for cell in table):  # (whatever the host handed over)
