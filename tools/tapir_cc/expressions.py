@@ -241,7 +241,11 @@ class Expressions:
             return self.build.put("zero", object, object=object)
         node.place.refuse(not name, "a call through a pointer is not taken", "name the function")
         self.unit.need(name, node.place)
-        args = [self.whole(x) if x.type.is_pointer else self.value(x) for x in node.inner[1:]]
+        args = []
+        for x in node.inner[1:]:
+            value, index = self.address(x) if x.type.is_pointer else (self.value(x), 0)
+            x.place.refuse(index != 0, "a part of an array is passed", "pass the array, and the index where it begins")
+            args.append(value)
         self.unit.passed.setdefault(name, []).append(args)
         return self.build.put("call", *args, callee="@" + name, hint=name if node.type.base != "void" else "")
 
@@ -285,11 +289,6 @@ class Expressions:
             object, index = self.address(node.inner[0])
             step = self.build.binary("mul", self.value(node.inner[1]), node.type.cells, True, "row")
             return Cell(object, self.build.binary("sub" if node.opcode == "-" else "add", index, step, True, "at"))
-
-    def whole(self, node: Node) -> str:
-        object, index = self.address(node)
-        node.place.refuse(index != 0, "a part of an array is passed", "pass the array, and the index where it begins")
-        return object
 
     def gaps(self, node: Node) -> list[Form]:
         """What is 0 or more where a compare holds, or a number that falls to 0 is not there yet."""

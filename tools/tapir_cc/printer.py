@@ -70,17 +70,12 @@ def block(f: Function, block: Block) -> Iterator[Line]:
 
 
 def instruction(f: Function, x: Instruction, at: Optional[str]) -> str:
-    labels = [f"label %{target}" for target in x.targets]
-    text = FORMATS[x.op if x.args or x.op != "ret" else "ret void"].format(
-        *x.args,
-        x=x,
-        at=at,
-        nsw=" nsw" if x.nsw else "",
-        cells=f.extents.get(x.object or x.result),
-        type="i64" if x.result else "void",
-        labels=", ".join(labels),
-        incoming=", ".join(f"[ {value}, %{edge.block.name} ]" for value, edge in x.incoming),
-        cases=" ".join(f"i64 {number}, {label}" for number, label in zip(x.args[1:], labels[1:])),
-        passed=", ".join(f"{'ptr' if value in f.extents else 'i64'} {value}" for value in x.args),
-    )
+    nsw, type, cells = " nsw" if x.nsw else "", "i64" if x.result else "void", f.extents.get(x.object or x.result)
+    targets = [f"label %{target}" for target in x.targets]
+    cases = " ".join(f"i64 {number}, {label}" for number, label in zip(x.args[1:], targets[1:]))
+    passed = ", ".join(f"{'ptr' if value in f.extents else 'i64'} {value}" for value in x.args)
+    ways = ", ".join(f"[ {value}, %{edge.block.name} ]" for value, edge in x.incoming)
+    words = {"labels": ", ".join(targets), "cases": cases, "passed": passed, "incoming": ways}
+    form = FORMATS[x.op if x.args or x.op != "ret" else "ret void"]
+    text = form.format(*x.args, x=x, at=at, nsw=nsw, type=type, cells=cells, **words)
     return f"{x.result} = {text}" if x.result else text

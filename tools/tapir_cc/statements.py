@@ -91,25 +91,18 @@ class Statements(Zones):
         self.f.parameters.append(register)
         if cells:
             self.f.extents[register], self.objects[id] = cells, Cell(register, 0)
-        elif id in self.in_memory:
-            self.store(self.local(id, name, 1), register, self.body)
         else:
-            self.build.write(id, register, name)
+            target = self.local(id, name, 1) if id in self.in_memory else id
+            self.store(target, register, Node({"name": name}, self.body.tree))
         return register
 
     def local(self, id: str, name: str, cells: int) -> Cell:
         object, place = self.f.fresh(name), self.f.place
-        self.f.unset[object] = Choice(self.f.name, "unset", place, len(self.f.extents))
-        zero = Instruction("zero", None, [object], place, object=object)
-        zeros = [zero] if self.f.unset[object] in self.unit.refused else []
+        self.f.unset[object] = self.build.tries("unset")
+        zeros = [] if self.f.unset[object] else [Instruction("zero", None, [object], place, object=object)]
         self.tasks[0].first.body[:0] = [Instruction("alloca", object, place=place), *zeros]
         self.f.extents[object], self.objects[id] = cells, Cell(object, 0)
         return self.objects[id]
-
-    def statement(self, node: Node) -> Value:
-        """Does what an `if` leads to, which comes to nothing."""
-        self.value(node)
-        return 0
 
     def of_CompoundStmt(self, node: Node) -> None:
         for x in [x for x in node.inner if x.kind not in TYPES]:
@@ -145,7 +138,8 @@ class Statements(Zones):
         if test.callee() == "__tapir_detach":
             self.spawn(partial(self.outline if self.loops and arms[0].spawns() else self.value, arms[0]))
         else:
-            self.chosen(partial(self.condition, test), *[partial(self.statement, arm) for arm in arms])
+            arms = [Node({"inner": [arm.data]}, arm.tree) for arm in arms]  # (which come to nothing)
+            self.chosen(partial(self.condition, test), *[partial(self.of_CompoundStmt, arm) for arm in arms])
 
     def of_ForStmt(self, node: Node) -> None:
         first, _, test, step, body = node.inner
@@ -253,11 +247,9 @@ class Statements(Zones):
         facts = [risen[id] if way == "++" else -risen[id] for id, way in counters.items()]
         for id in [id for id in risen if body.ways().get(id) == {"++"}]:  # (what is only raised now and then)
             self.build.reaches += [risen[id], *[risen[i] - risen[id] for i, way in counters.items() if way == "++"]]
-        if first.opcode in ("<", "<=", ">", ">="):
-            facts += self.gaps(first)
-            if len(facts[-1].terms) > 2:
-                self.build.guess(self.build.now, facts[-1])
-        return facts
+        gaps = self.gaps(first) if first.opcode in ("<", "<=", ">", ">=") else []
+        self.build.guess(self.build.now, *[gap for gap in gaps if len(gap.terms) > 2])
+        return facts + gaps
 
     def go_on(self, loop: Loop) -> None:
         """Goes on to the head. What is to hold there is tried where the last block of a round begins, too."""

@@ -16,22 +16,21 @@ class Zones(Expressions):
         """The zones of a task, over registers that are known."""
         hidden = {zone.object for zone in task.given} | {o for o in self.f.unset if not is_child}
         touches = [x for x in self.f.instructions() if task in x.tasks]
-        zones = [zone for x in touches for zone in self.touched(x, known, is_child) if zone.object not in hidden]
+        zones = [zone for x in touches for zone in self.touched(x, known) if zone.object not in hidden]
         return task.given + merged([self.over(known, zone) for zone in zones])
 
-    def touched(self, x: Instruction, known: set[str], is_child: bool) -> list[Zone]:
+    def touched(self, x: Instruction, known: set[str]) -> list[Zone]:
         """What an instruction touches, by its index or by its callee's zones."""
         if x.op == "zero":
             return [Zone(MODES[x.op], x.object, Form(), Form(constant=self.f.extents[x.object]))]
         if x.op in MODES:
             index = self.named(x.index, known)
             return [Zone(MODES[x.op], x.object, index, index + 1)]
-        callee = next((g for g in [self.f, *self.unit.functions] if g.name == x.callee), None)
-        if callee is None or (callee is self.f and not is_child):
-            return []
-        passed = dict(zip(callee.parameters, x.args))
-        ends = [[end.replaced(lambda r: self.named(passed[r], known)) for end in (z.low, z.high)] for z in callee.zones]
-        return [Zone(z.mode, passed.get(z.object, z.object), *e) for z, e in zip(callee.zones, ends)]
+        callees = [g for g in [self.f, *self.unit.functions] if g.name == x.callee]
+        passed = {p: value for g in callees for p, value in zip(g.parameters, x.args)}
+        zones = [zone._replace(object=passed.get(zone.object, zone.object)) for g in callees for zone in g.zones]
+        ends = [[end.replaced(lambda r: self.named(passed[r], known)) for end in (z.low, z.high)] for z in zones]
+        return [zone._replace(low=low, high=high) for zone, (low, high) in zip(zones, ends)]
 
     def named(self, value, known: set[str]) -> Form:
         return Form.of(value) if value in known else self.build.form(value)
