@@ -114,7 +114,7 @@ class Expressions:
         if isinstance(a, str) and isinstance(b, int):
             if op == "shl" and type.base == "long" and 0 < b < 62:
                 op, b = "mul", 1 << b
-            elif op == "ashr" and 0 < b < 20 and self.shown("shift", build.form(a)):
+            elif op == "ashr" and 0 < b < 20 and not build.is_strange(a) and self.shown("shift", build.form(a)):
                 op, b = "sdiv", 1 << b
             if op == "sdiv" and b > 1:
                 return self.quotient(a, b)
@@ -223,7 +223,7 @@ class Expressions:
     def test(self, predicate: str, a: Value, b: Value, yes: Block, no: Block) -> None:
         """Branches on a compare. Of <= and >= both outcomes are facts, so they are tried for == and !=."""
         up = self.build.form(a) - self.build.form(b)
-        if predicate in SIDES and 0 < len(up.terms) <= MOST_TERMS:
+        if predicate in SIDES and 0 < len(up.terms) <= MOST_TERMS and not self.build.is_strange(a, b):
             ways = zip(("up", "down"), (up, -up), SIDES[predicate])
             predicate = next((side for word, gap, side in ways if self.shown(word, gap)), predicate)
         self.build.branch(predicate, a, b, yes, no)

@@ -3,7 +3,6 @@ way is refused that was only tried, all is translated again without it; none cha
 import pathlib
 import re
 import subprocess
-from itertools import takewhile
 from typing import NamedTuple, Optional
 
 from .ir import Choice
@@ -52,16 +51,13 @@ class Judge:
         return verdict
 
     def tried(self, verdict: Verdict) -> set[Choice]:
-        """The ways on which what is refused rests, and what is refused behind it by the same rule, if values are."""
+        """The ways on which what is refused rests."""
         line = self.printed[verdict.at]
         f, x, choices = line.function, line.of, {line.choice}
         if verdict.rule == UNJUDGED:
             choices = {line.choice for line in self.printed} | {line.of.nsw for line in self.printed if line.of}
         elif verdict.rule in (402, 503) and x:
-            told = re.findall(r"^(?:refused|also) (\d+) line (\d+)", self.ask("explain", "--annotate").stdout, re.M)
-            lines = [self.printed[int(at)] for _, at in takewhile(lambda fault: int(fault[0]) == verdict.rule, told)]
-            for line in [line for line in lines if line.of]:
-                choices |= {line.of.nsw, *map(line.function.unset.get, [line.of.object, *line.of.args])}
+            choices |= {x.nsw, *map(f.unset.get, [x.object, *x.args])}
         elif verdict.rule in (601, 604) and x:
             choices |= {f.tried.get(x.object)} if x.object else set(f.tried.values())
         elif verdict.rule in (505, 506, 507):

@@ -7,9 +7,9 @@ import re
 from .expressions import OF_UNSIGNED, OPERATIONS
 from .ir import Function, Instruction, Place
 from .judge import Judge, Verdict
+from .ssa import STRANGE
 
 SIGNS = {op: sign for sign, signed in OPERATIONS.items() for op in (signed, OF_UNSIGNED.get(signed))}
-STRANGE = {"or", "xor", "shl", "lshr", "load"}  # what has no bounds
 MOST_FACTS = 6  # that are shown of one goal
 SHOWN = r"\s*(known:|nearest:|to show:|touched:|still pending)(?!.*put `shows`)"
 DOES = {"detach": "this SPAWN", "ret": "this return", "reattach": "the end of this SPAWN"}
