@@ -33,7 +33,6 @@ class Expressions:
 
     def __init__(self, unit, f: Function):
         self.unit, self.f, self.build, self.objects = unit, f, Builder(f, unit.refused), ChainMap({}, unit.objects)
-        self.is_thorough = unit.is_thorough  # whether there are tests that may help, although they always hold
 
     @contextmanager
     def at(self, node: Node) -> Iterator[None]:
@@ -49,7 +48,7 @@ class Expressions:
         if not node.kind:
             return 0
         visit = getattr(self, "of_" + node.kind, None)
-        if not node.kind.endswith("Decl"):
+        if node.kind != "FunctionDecl":
             node.type.check(node.place)
         change = "if, for and while" if node.kind.endswith("Stmt") else "numbers, arrays, and calls"
         node.place.refuse(visit is None, f"{node.kind} is not taken", f"write it with {change}")
@@ -109,7 +108,7 @@ class Expressions:
         op, build = OPERATIONS[opcode], self.build
         if "u" in type.base:
             op = OF_UNSIGNED.get(op, op)
-        if op in ("sdiv", "srem") and isinstance(b, str) and self.is_thorough:
+        if op in ("sdiv", "srem") and isinstance(b, str) and self.unit.is_thorough:
             return self.rest(op, a, b)
         if isinstance(a, str) and isinstance(b, int):
             if op == "shl" and type.base == "long" and 0 < b < 62:
@@ -137,13 +136,13 @@ class Expressions:
             low, high = x.args
             if self.shown("middle", self.build.form(high) - self.build.form(low), form):
                 return binary("add", low, self.quotient(binary("sub", high, low, True), 2), True)
-        if b == 2 and self.is_thorough and self.shown("more", form - 2):
+        if b == 2 and self.unit.is_thorough and self.shown("more", form - 2):
             return binary("add", binary("sdiv", binary("sub", a, 2, True), 2), 1, True)
-        if b == 2 and self.is_thorough and self.shown("less", form - 1):
+        if b == 2 and self.unit.is_thorough and self.shown("less", form - 1):
             less = binary("sub", a, 1, True)
             return binary("sub", less, binary("sdiv", less, 2), True)
-        quotient, most = binary("sdiv", a, b), self.f.most(form, self.build.said) if self.is_thorough else None
-        self.build.said += [Form.of(quotient), form - Form.of(quotient) * b] if self.is_thorough else []
+        quotient, most = binary("sdiv", a, b), self.f.most(form, self.build.said) if self.unit.is_thorough else None
+        self.build.said += [Form.of(quotient), form - Form.of(quotient) * b] if self.unit.is_thorough else []
         return quotient if most is None else self.held(quotient, "slt", most // b + 1, form, -form + most)
 
     def held(self, value: Value, predicate: str, bound: Value, *forms: Form) -> Value:

@@ -69,8 +69,7 @@ class Names:
         return self.of(x.object) + ("" if is_single else index)
 
     def in_text(self, text: str) -> str:
-        named = re.sub(r"%[\w.]+", lambda m: "RESULT" if m[0] == "%.ret" else self.of(m[0]), text)
-        return named.replace("@", "")
+        return re.sub(r"%[\w.]+", lambda m: "RESULT" if m[0] == "%.ret" else self.of(m[0]), text).replace("@", "")
 
 
 def told(path: str, place: Place, text: str, change: str = "") -> str:

@@ -113,7 +113,6 @@ class Statements(Zones):
     def of_VarDecl(self, node: Node) -> None:
         first = next((x for x in node.inner if "init" in node.data and not x.kind.endswith("Attr")), NOTHING)
         type, place = node.type, node.place
-        type.check(place)
         if node.data.get("storageClass") == "static":
             self.unit.add_global(node, f"{self.f.name[1:]}.{node.name}")
         elif type.is_pointer:
@@ -169,17 +168,16 @@ class Statements(Zones):
         self.loops.append(loop)
         made = dict(build.made)
         risen = {id: build.form(build.read(id)) - start for id, start in starts.items()}
-        for id in [id for id in own if self.is_thorough and id not in counters]:
-            build.guess(head, risen[id], -risen[id])
+        others = [risen[id] for id in own if id not in counters and self.unit.is_thorough]
+        build.guess(head, *[form * sign for form in others for sign in (1, -1)])
         if end:
             self.test_bound(first, end, counter, loop)
         self.condition(test, inside, out)
         build.start(inside)
         known = self.known_inside(first, counters, body, risen)
         build.said = build.said + known
-        for own in [build.form(build.read(id)) for id in counters]:
-            most, least = self.f.most(own, build.said), self.f.most(-own, build.said)
-            build.guess(build.now, *[form + end for form, end in ((-own, most), (own, least)) if end is not None])
+        ends = [build.form(build.read(id)) * sign for id in counters for sign in (1, -1)]
+        build.guess(build.now, *[-end + most for end in ends if (most := self.f.most(end, build.said)) is not None])
         build.reaches, loop.inside = build.reaches + known, build.now
         self.value(body)
         build.jump(latch)
@@ -202,11 +200,10 @@ class Statements(Zones):
         begins with. Of `head < tail`, where tail grows up to 32, head is below 32, and there is no counter."""
         ways = body.ways(step)
         changed = [ways[id] for id, _ in first.named() if id in ways]
-        if not self.is_thorough or not changed or changed in ([{"++"}], [{"--"}]):
+        if not self.unit.is_thorough or not changed or changed in ([{"++"}], [{"--"}]):
             return 0, ""
         if first.opcode == "<" and changed == [{"++"}, {"++"}]:
-            high = first.inner[1].named()
-            tests = [x for x in body.walk() if x.opcode == "<" and x.inner[0].named() == high]
+            tests = [x for x in body.walk() if x.opcode == "<" and x.inner[0].named() == first.inner[1].named()]
             ends = [x.inner[1].bare for x in tests if self.first_of(x) is x and not x.inner[1].named()]
             return self.value(ends[0]) if ends else 0, ""
         most, counter = self.f.most(self.gaps(first)[0]), "rounds " + first.id
@@ -225,7 +222,7 @@ class Statements(Zones):
         """Tests before a loop, too, that its counter does not begin past its end, where that is not known."""
         is_pure = not test.ways() and {x.callee() for x in test.walk()} <= {"", "__tapir_sync"}
         is_known = first is not NOTHING and self.f.shows(self.gaps(first)[0] + 1, self.build.said)
-        if self.is_thorough and is_pure and not is_known and counters.keys() & dict(test.named()):
+        if self.unit.is_thorough and is_pure and not is_known and counters.keys() & dict(test.named()):
             inside = self.build.block("entered")
             self.condition(test, inside, out)
             self.build.start(inside)
@@ -244,12 +241,11 @@ class Statements(Zones):
 
     def known_inside(self, first: Node, counters: dict[str, str], body: Node, risen: dict[str, Form]) -> list[Form]:
         """What is 0 or more in a round: a counter has not passed its start, and a test without effects holds."""
-        facts = [risen[id] if way == "++" else -risen[id] for id, way in counters.items()]
         for id in [id for id in risen if body.ways().get(id) == {"++"}]:  # (what is only raised now and then)
             self.build.reaches += [risen[id], *[risen[i] - risen[id] for i, way in counters.items() if way == "++"]]
         gaps = self.gaps(first) if first.opcode in ("<", "<=", ">", ">=") else []
         self.build.guess(self.build.now, *[gap for gap in gaps if len(gap.terms) > 2])
-        return facts + gaps
+        return [risen[id] if way == "++" else -risen[id] for id, way in counters.items()] + gaps
 
     def go_on(self, loop: Loop) -> None:
         """Goes on to the head. What is to hold there is tried where the last block of a round begins, too."""

@@ -12,7 +12,7 @@ MOST_CELLS = 1048576  # of a module's globals
 
 
 class Unit:
-    """What is made of a file."""
+    """What is made of a file; where it is thorough, with tests that may help, although they always hold."""
 
     def __init__(self, tree: Tree, entry: str, refused: set[Choice], is_thorough: bool, known: dict[str, list]):
         self.known, self.passed = known, {}  # a function -> what is passed to it: as was seen before, and now

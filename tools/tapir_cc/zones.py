@@ -21,11 +21,9 @@ class Zones(Expressions):
 
     def touched(self, x: Instruction, known: set[str]) -> list[Zone]:
         """What an instruction touches, by its index or by its callee's zones."""
-        if x.op == "zero":
-            return [Zone(MODES[x.op], x.object, Form(), Form(constant=self.f.extents[x.object]))]
         if x.op in MODES:
-            index = self.named(x.index, known)
-            return [Zone(MODES[x.op], x.object, index, index + 1)]
+            low, cells = (Form(), self.f.extents[x.object]) if x.op == "zero" else (self.named(x.index, known), 1)
+            return [Zone(MODES[x.op], x.object, low, low + cells)]
         callees = [g for g in [self.f, *self.unit.functions] if g.name == x.callee]
         passed = {p: value for g in callees for p, value in zip(g.parameters, x.args)}
         zones = [zone._replace(object=passed.get(zone.object, zone.object)) for g in callees for zone in g.zones]
@@ -48,16 +46,13 @@ class Zones(Expressions):
 
 
 def merged(zones: list[Zone]) -> list[Zone]:
-    """Joins zones, and leaves out what is read where all of it is written. What is added to and read is written."""
-    plain = {zone.object for zone in zones if zone.mode != "adds"}
-    zones = [zone._replace(mode="writes") if zone.mode == "adds" and zone.object in plain else zone for zone in zones]
+    """Joins zones, and leaves out what is read or added to where all of it is written."""
     out: list[Zone] = []
-    for zone in sorted(zones, key=lambda zone: zone.mode):
+    for zone in sorted(zones, key=attrgetter("mode"), reverse=True):
         k = next((k for k, old in enumerate(out) if old[:2] == zone[:2] and joined(old, zone)), len(out))
         out[k : k + 1] = [joined(out[k], zone) if k < len(out) else zone]
     written = [zone for zone in out if zone.mode == "writes"]
-    covered = [x for x in out for old in written if old.object == x.object and joined(old, x) == old]
-    return written + [x for x in out if x not in covered]
+    return [x for x in out if x in written or all(old.object != x.object or joined(old, x) != old for old in written)]
 
 
 def joined(old: Zone, new: Zone) -> Optional[Zone]:
