@@ -1,11 +1,12 @@
 """Expressions. In: nodes of the tree. Out: instructions over i64, and the values that they give. `int` is computed in
 64 bits, which is the same where C leaves overflow undefined; `unsigned` is cut to its 32 bits, and bool is 0 or 1. The
 tree has all of C's conversions as nodes."""
+from collections import ChainMap
 from contextlib import contextmanager
 from functools import partial
 from typing import Callable, Iterator, NamedTuple, Union
 
-from .ir import Block, Claim, Form, Function, Value
+from .ir import MOST_TERMS, Block, Claim, Form, Function, Value
 from .ssa import Builder, wrapped
 from .tree import Node, Type
 
@@ -29,10 +30,9 @@ class Cell(NamedTuple):
 class Expressions:
     """What a function's expressions come to. `self.objects` are the variables that lie in memory. What is made has the
     place of the node that is visited."""
-    build: Builder
-    f: Function
-    objects: dict[str, Cell]
-    is_thorough: bool  # whether there are tests that may help, although they always hold
+
+    def __init__(self, unit, f: Function):
+        self.unit, self.f, self.build, self.objects = unit, f, Builder(f, unit.refused), ChainMap({}, unit.objects)
 
     @contextmanager
     def at(self, node: Node) -> Iterator[None]:
@@ -48,7 +48,7 @@ class Expressions:
         if not node.kind:
             return 0
         visit = getattr(self, "of_" + node.kind, None)
-        if not node.kind.endswith("Decl"):
+        if node.kind != "FunctionDecl":
             node.type.check(node.place)
         change = "if, for and while" if node.kind.endswith("Stmt") else "numbers, arrays, and calls"
         node.place.refuse(visit is None, f"{node.kind} is not taken", f"write it with {change}")
@@ -108,16 +108,14 @@ class Expressions:
         op, build = OPERATIONS[opcode], self.build
         if "u" in type.base:
             op = OF_UNSIGNED.get(op, op)
-        if op in ("sdiv", "srem") and isinstance(b, str) and self.is_thorough:
+        if op in ("sdiv", "srem") and isinstance(b, str) and self.unit.is_thorough:
             return self.rest(op, a, b)
         if isinstance(a, str) and isinstance(b, int):
             if op == "shl" and type.base == "long" and 0 < b < 62:
                 op, b = "mul", 1 << b
-            elif op == "ashr" and 0 < b < 20 and a not in build.strange and self.shown("shift", build.form(a)):
+            elif op == "ashr" and 0 < b < 20 and not build.is_strange(a) and self.shown("shift", build.form(a)):
                 op, b = "sdiv", 1 << b
-            if op == "sdiv" and b == 2:
-                return self.half(a)
-            if op == "sdiv" and b > 1 and self.is_thorough:
+            if op == "sdiv" and b > 1:
                 return self.quotient(a, b)
         result = build.binary(op, a, b, op in ("add", "sub", "mul") and "u" not in type.base)
         is_narrow = op == "shl" and type.base == "int" or op in ("add", "sub", "mul", "shl") and type.base == "uint"
@@ -130,32 +128,27 @@ class Expressions:
         self.build.said += forms if choice else ()
         return choice is not None
 
-    def half(self, a: str) -> Value:
-        """x / 2. (x + y) / 2 is x + (y - x) / 2, which lies between them. Of 1 + (x - 2) / 2 it is known that it is
-        below x and not 0, and of (x - 1) - (x - 1) / 2 that it is below x."""
+    def quotient(self, a: str, b: int) -> Value:
+        """a / b, with its bound, where a has one. (x + y) / 2 is x + (y - x) / 2, which lies between them. Of
+        1 + (x - 2) / 2 it is known that it is below x and not 0, and of (x - 1) - (x - 1) / 2 that it is below x."""
         binary, form, x = self.build.binary, self.build.form(a), self.build.makers.get(a)
-        if x is not None and x.op == "add" and all(isinstance(v, str) for v in x.args):
+        if b == 2 and x is not None and x.op == "add" and all(isinstance(v, str) for v in x.args):
             low, high = x.args
             if self.shown("middle", self.build.form(high) - self.build.form(low), form):
-                return binary("add", low, self.half(binary("sub", high, low, True)), True)
-        if self.is_thorough and self.shown("more", form - 2):
+                return binary("add", low, self.quotient(binary("sub", high, low, True), 2), True)
+        if b == 2 and self.unit.is_thorough and self.shown("more", form - 2):
             return binary("add", binary("sdiv", binary("sub", a, 2, True), 2), 1, True)
-        if self.is_thorough and self.shown("less", form - 1):
+        if b == 2 and self.unit.is_thorough and self.shown("less", form - 1):
             less = binary("sub", a, 1, True)
             return binary("sub", less, binary("sdiv", less, 2), True)
-        return self.quotient(a, 2) if self.is_thorough else binary("sdiv", a, 2)
+        quotient, most = binary("sdiv", a, b), self.f.most(form, self.build.said) if self.unit.is_thorough else None
+        self.build.said += [Form.of(quotient), form - Form.of(quotient) * b] if self.unit.is_thorough else []
+        return quotient if most is None else self.held(quotient, "slt", most // b + 1, form, -form + most)
 
     def held(self, value: Value, predicate: str, bound: Value, *forms: Form) -> Value:
         """A value, with a test that always holds where forms are 0 or more, by which it is known."""
         test = partial(self.build.branch, predicate, value, bound)
         return self.chosen(test, lambda: value) if self.shown("held", *forms) else value
-
-    def quotient(self, a: str, b: int) -> Value:
-        """a / b, with its bound, where a has one."""
-        form, quotient = self.build.form(a), self.build.binary("sdiv", a, b)
-        most = self.f.most(form, self.build.said)
-        self.build.said += [Form.of(quotient), form - Form.of(quotient) * b]
-        return quotient if most is None else self.held(quotient, "slt", most // b + 1, form, -form + most)
 
     def rest(self, op: str, a: Value, b: str) -> Value:
         """a % b or a / b, which is from 0 to b - 1 or to a, where a >= 0 and b >= 1."""
@@ -229,7 +222,7 @@ class Expressions:
     def test(self, predicate: str, a: Value, b: Value, yes: Block, no: Block) -> None:
         """Branches on a compare. Of <= and >= both outcomes are facts, so they are tried for == and !=."""
         up = self.build.form(a) - self.build.form(b)
-        if predicate in SIDES and not self.build.is_strange(a, b) and up.terms:
+        if predicate in SIDES and 0 < len(up.terms) <= MOST_TERMS and not self.build.is_strange(a, b):
             ways = zip(("up", "down"), (up, -up), SIDES[predicate])
             predicate = next((side for word, gap, side in ways if self.shown(word, gap)), predicate)
         self.build.branch(predicate, a, b, yes, no)
@@ -239,18 +232,21 @@ class Expressions:
         if name.startswith("__tapir_"):
             return self.marker(name[len("__tapir_") :], node)
         if name == "memset":
-            return self.clear(node)
+            at, value, size = [x.unconverted for x in node.inner[1:]]
+            is_whole = self.value(value) == 0 and self.value(size) == at.type.cells * at.type.bytes
+            text = "memset clears a whole array at once, and sets to nothing else"
+            node.place.refuse(not is_whole, text, "write a loop")
+            object = self.address(at).object
+            return self.build.put("zero", object, object=object)
         node.place.refuse(not name, "a call through a pointer is not taken", "name the function")
-        args = [self.whole(x) if x.type.is_pointer else self.value(x) for x in node.inner[1:]]
+        self.unit.need(name, node.place)
+        args = []
+        for x in node.inner[1:]:
+            value, index = self.address(x) if x.type.is_pointer else (self.value(x), 0)
+            x.place.refuse(index != 0, "a part of an array is passed", "pass the array, and the index where it begins")
+            args.append(value)
         self.unit.passed.setdefault(name, []).append(args)
         return self.build.put("call", *args, callee="@" + name, hint=name if node.type.base != "void" else "")
-
-    def clear(self, node: Node) -> Value:
-        at, value, size = [x.unconverted for x in node.inner[1:]]
-        is_whole = self.value(value) == 0 and self.value(size) == at.type.cells * at.type.bytes
-        node.place.refuse(not is_whole, "memset clears a whole array at once, and sets to nothing else", "write a loop")
-        object = self.address(at).object
-        return self.build.put("zero", object, object=object)
 
     def target(self, node: Node) -> Union[Cell, str]:
         """What is read or set: a cell, or a variable that is none."""
@@ -266,9 +262,8 @@ class Expressions:
             return self.build.read(target)
         if target in self.unit.initial:
             return self.value(self.unit.initial[target])
-        object, index = target
         hint = node.bare.declared.name or "t"
-        value = self.build.once(("load", *target), "load", hint=hint, object=object, index=index)
+        value = self.build.once(("load", *target), "load", hint=hint, object=target.object, index=target.index)
         return self.converted(value, Type("long"), node.type) if node.type.base == "uint" else value
 
     def store(self, target: Union[Cell, str], value: Value, node: Node) -> Value:
@@ -293,11 +288,6 @@ class Expressions:
             object, index = self.address(node.inner[0])
             step = self.build.binary("mul", self.value(node.inner[1]), node.type.cells, True, "row")
             return Cell(object, self.build.binary("sub" if node.opcode == "-" else "add", index, step, True, "at"))
-
-    def whole(self, node: Node) -> str:
-        object, index = self.address(node)
-        node.place.refuse(index != 0, "a part of an array is passed", "pass the array, and the index where it begins")
-        return object
 
     def gaps(self, node: Node) -> list[Form]:
         """What is 0 or more where a compare holds, or a number that falls to 0 is not there yet."""

@@ -9,6 +9,7 @@ from typing import Callable, NamedTuple, Optional, Sequence, Union
 
 BINARY = {"add", "sub", "mul", "sdiv", "udiv", "srem", "urem", "shl", "lshr", "ashr", "and", "or", "xor"}
 PURE = BINARY | {"trunc", "sext", "icmp", "phi", "load", "alloca", "region"}
+MOST_TERMS = 4  # of a form that is annotated
 MOST_STEPS = 6  # from a register to what bounds it
 MOST_NAME = 56  # letters of a name, before its number
 
@@ -20,9 +21,6 @@ class Form:
     """A sum of registers with factors, none of which is 0, and a constant, as annotations have it: `3*%n-%i+2`."""
     terms: dict[str, int] = field(default_factory=dict)
     constant: int = 0
-
-    def __hash__(self) -> int:
-        return hash((frozenset(self.terms.items()), self.constant))
 
     @staticmethod
     def of(value: Value) -> Form:
@@ -59,7 +57,7 @@ def reach(form: Form, facts: list[Form], known: set[str] = frozenset(), gone: tu
     does not come again."""
     register = next((r for r in reversed(form.terms) if r not in known), None)
     if register is None or register in gone or len(gone) == MOST_STEPS:
-        return [(form, len(gone))] * (register is None and len(form.terms) <= 4)
+        return [(form, len(gone))] * (register is None and len(form.terms) <= MOST_TERMS)
     factor, facts_of = form.terms[register], [x for x in reversed(facts) if register in x.terms]
     ways = [(x, times) for x in facts_of for times in {1, abs(factor)} if x.terms[register] * times == -factor]
     ends = {str(end): end for end in [form.plus(*way) for way in ways]}
@@ -99,8 +97,8 @@ class Claim(NamedTuple):
 
 class Zone(NamedTuple):
     """Cells of an object from `low` to before `high`, and what is done to them: reads, writes or adds."""
-    object: str
     mode: str
+    object: str
     low: Form
     high: Form
 
@@ -116,7 +114,7 @@ class Instruction:
     place: Place = Place()
     predicate: str = ""  # of icmp
     nsw: Optional[Choice] = None  # that it does not overflow is tried
-    incoming: list[tuple[Value, str]] = field(default_factory=list)
+    incoming: list[tuple[Value, object]] = field(default_factory=list)  # of phi: each with the edge that brings it
     targets: list[str] = field(default_factory=list)
     callee: str = ""
     object: Optional[str] = None  # of memory's instructions: what they touch, and the cell
@@ -182,3 +180,20 @@ class Function:
         """Whether a form is 0 or more."""
         least = self.most(-form, facts)
         return least is not None and least <= 0
+
+    def drop_unused(self) -> None:
+        """Takes out what no effect and no claim rests on, also what only uses itself round a loop."""
+        definitions, blocks, live = self.definitions(), self.blocks.values(), set()
+        said = [claim.form for block in blocks for claim in block.keeps if not claim.choice]
+        said += [form for block in blocks for zone in block.foot for form in (zone.low, zone.high)]
+        work = [register for form in said for register in form.terms]
+        work += [value for x in self.instructions() if x.op not in PURE for value in x.uses()]
+        while work:
+            value = work.pop()
+            if value in definitions and value not in live:
+                live.add(value)
+                work += definitions[value].uses()
+        for block in blocks:
+            block.phis = [x for x in block.phis if x.result in live]
+            block.body = [x for x in block.body if x.op not in PURE or x.result in live]
+            block.keeps = [claim for claim in block.keeps if not claim.form.terms.keys() & definitions.keys() - live]

@@ -17,11 +17,10 @@ class Parts(Statements):
         """A function of a part, and what is passed to it."""
         part = Parts(self.unit, Function(f"{self.f.name}.{self.f.fresh(word)[1:]}", self.build.place), body)
         inside, part.is_child, args = body.own() | self.unit.objects.keys(), True, []
-        for id, name in dict(uses.named()).items():
+        for id, name in {id: name for id, name in uses.named() if id not in inside}.items():
             cell = self.objects.get(id)
-            if id not in inside:
-                args.append(cell.object if cell else self.build.read(id))
-                part.parameter(id, name, self.f.extents[cell.object] if cell else 0)
+            args.append(cell.object if cell else self.build.read(id))
+            part.parameter(id, name, self.f.extents[cell.object] if cell else 0)
         return part, args
 
     def make(self, part: "Parts", args: list[Value], own: dict[Value, Form] = {}, forms: list[Form] = []) -> None:
@@ -30,7 +29,7 @@ class Parts(Statements):
         text = f"a parallel part uses more than {MOST_PARAMETERS} variables"
         self.build.place.refuse(len(part.f.parameters) > MOST_PARAMETERS, text, "make a function of it")
         passed = dict(zip(args, map(Form.of, part.f.parameters))) | own
-        for form in [claim.form for claim in self.f.requires] + self.facts + forms:
+        for form in forms + [claim.form for claim in self.f.requires] + self.build.said:
             strange = Form({r: factor for r, factor in form.terms.items() if r not in passed})
             most = self.f.most(strange)
             if most is not None and strange.terms != form.terms:
@@ -38,7 +37,6 @@ class Parts(Statements):
         same = [Form.of(p) - value for value, p in zip(args, part.f.parameters) if isinstance(value, int)]
         part.f.requires += [Claim(form * sign, part.f.place) for form in same for sign in (1, -1)]
         part.run()
-        self.unit.functions.append(part.f)
 
     def outline(self, body: Node) -> None:
         part, args = self.part("child", body, body)
@@ -50,23 +48,19 @@ class Parts(Statements):
         depth 0."""
         ends, header = [self.value(counter.inner[0]), self.value(high)], self.halving(counter, body)
         part, args = self.part("halves", body, header.inner[-1])
-        own = [part.parameter(p.id, p.name) for p in header.inner if p.kind == "ParmVarDecl"]
+        own = {p.name: Form.of(part.parameter(p.id, p.name)) for p in header.inner if p.kind == "ParmVarDecl"}
         first, last = map(self.build.form, ends)
         size, (lo, hi, depth) = self.f.most(last - first), map(Form.of, own)
         deepest = HALVINGS if size is None else max(1, min(HALVINGS, size.bit_length() - 3))
-        own_forms = [hi - lo, depth, -depth + deepest] + [lo - hi + size for size in [size] if size is not None]
-        part.f.requires += [Claim(form, part.f.place) for form in own_forms]
-        part.f.notes["measure"] = f"{depth} max {deepest}"
-        self.make(part, args, {"lo": lo, "hi": hi}, [Form.of("lo") - first, last - Form.of("hi")])
+        forms = [hi - lo, depth, -depth + deepest] + ([] if size is None else [lo - hi + size])
+        self.make(part, args, own, forms + [lo - first, last - hi])
         call = partial(self.build.put, "call", *args, *ends, deepest, callee=part.f.name)
         self.chosen(partial(self.build.branch, "slt", *ends), call)
 
     def halving(self, counter: Node, body: Node) -> Node:
         """The header's function, whose loop has this counter and this body."""
-
-        def with_body(data: dict) -> dict:
-            return body.data if Node(data, body.tree).callee() == "__tapir_leaf" else data
-
         header = self.unit.bodies["__tapir_halved"]
-        own = next(x for x in header.walk() if x.kind == "VarDecl" and x.name == "i")
-        return Node(json.loads(json.dumps(header.data).replace(own.id, counter.id), object_hook=with_body), body.tree)
+        own = next(x.id for x in header.walk() if x.name == "i")
+        (leaf,) = header.calls_of("__tapir_leaf")
+        text = json.dumps(header.data).replace(json.dumps(leaf.data), json.dumps(body.data))
+        return Node(json.loads(text.replace(own, counter.id)), body.tree)

@@ -2,7 +2,7 @@
 what it stands for, by which refusals are mended and told."""
 from typing import Iterator, NamedTuple, Optional
 
-from .ir import BINARY, Block, Choice, Claim, Function, Instruction, Place, Zone
+from .ir import BINARY, Block, Choice, Claim, Function, Instruction, Place
 
 FORMATS = {
     **dict.fromkeys(BINARY, "{x.op}{nsw} i64 {0}, {1}"),
@@ -38,10 +38,6 @@ def claims(word: str, f: Function, claims: list[Claim], of: Optional[Instruction
         yield Line(f"  ;! {word} {form} >= 0", place, f, of, choice)
 
 
-def zones(word: str, f: Function, zones: list[Zone], place: Place) -> Iterator[Line]:
-    return (Line(f"  ;! {word}{zone.mode} {zone.object} {zone.low} {zone.high}", place, f) for zone in zones)
-
-
 def function(f: Function) -> Iterator[Line]:
     types = [f"ptr noalias dereferenceable({8 * f.extents[p]})" if p in f.extents else "i64" for p in f.parameters]
     parameters = ", ".join(f"{type} {p}" for type, p in zip(types, f.parameters))
@@ -49,7 +45,7 @@ def function(f: Function) -> Iterator[Line]:
     yield Line(f"define {'i64' if f.returns else 'void'} {f.name}({parameters}) {{", f.place, f)
     yield from claims("requires", f, f.requires)
     yield from claims("ensures", f, f.ensures)
-    yield from zones("", f, f.zones, f.place)
+    yield from [Line(f"  ;! {' '.join(map(str, zone))}", f.place, f) for zone in f.zones]
     for word, text in f.notes.items():
         yield Line(f"  ;! {word} {text}", f.place, f)
     for b in f.blocks.values():
@@ -63,7 +59,7 @@ def block(f: Function, block: Block) -> Iterator[Line]:
     first = next((x.place for x in [*block.body, block.end] if x.place.line), f.place)
     yield Line(block.name + ":", first, f)
     yield from claims("keeps", f, block.keeps)
-    yield from zones("foot ", f, block.foot, first)
+    yield from [Line(f"  ;! foot {' '.join(map(str, zone))}", first, f) for zone in block.foot]
     for x in block.all():
         yield from claims("shows", f, x.shows, x)
         at = addresses.get((x.object, x.index), x.object)
@@ -74,17 +70,12 @@ def block(f: Function, block: Block) -> Iterator[Line]:
 
 
 def instruction(f: Function, x: Instruction, at: Optional[str]) -> str:
-    labels = [f"label %{target}" for target in x.targets]
-    text = FORMATS[x.op if x.args or x.op != "ret" else "ret void"].format(
-        *x.args,
-        x=x,
-        at=at,
-        nsw=" nsw" if x.nsw else "",
-        cells=f.extents.get(x.object or x.result),
-        type="i64" if x.result else "void",
-        labels=", ".join(labels),
-        incoming=", ".join(f"[ {value}, %{label} ]" for value, label in x.incoming),
-        cases=" ".join(f"i64 {number}, {label}" for number, label in zip(x.args[1:], labels[1:])),
-        passed=", ".join(f"{'ptr' if value in f.extents else 'i64'} {value}" for value in x.args),
-    )
+    nsw, type, cells = " nsw" if x.nsw else "", "i64" if x.result else "void", f.extents.get(x.object or x.result)
+    targets = [f"label %{target}" for target in x.targets]
+    cases = " ".join(f"i64 {number}, {label}" for number, label in zip(x.args[1:], targets[1:]))
+    passed = ", ".join(f"{'ptr' if value in f.extents else 'i64'} {value}" for value in x.args)
+    ways = ", ".join(f"[ {value}, %{edge.block.name} ]" for value, edge in x.incoming)
+    words = {"labels": ", ".join(targets), "cases": cases, "passed": passed, "incoming": ways}
+    form = FORMATS[x.op if x.args or x.op != "ret" else "ret void"]
+    text = form.format(*x.args, x=x, at=at, nsw=nsw, type=type, cells=cells, **words)
     return f"{x.result} = {text}" if x.result else text

@@ -69,8 +69,7 @@ class Names:
         return self.of(x.object) + ("" if is_single else index)
 
     def in_text(self, text: str) -> str:
-        named = re.sub(r"%[\w.]+", lambda m: "RESULT" if m[0] == "%.ret" else self.of(m[0]), text)
-        return named.replace("@", "")
+        return re.sub(r"%[\w.]+", lambda m: "RESULT" if m[0] == "%.ret" else self.of(m[0]), text).replace("@", "")
 
 
 def told(path: str, place: Place, text: str, change: str = "") -> str:
@@ -87,8 +86,8 @@ class Report:
     def __init__(self, path: str, judge: Judge, verdict: Verdict):
         self.path, self.printed, self.rule = path, judge.printed, verdict.rule
         self.line = self.printed[verdict.at]
-        self.f, self.x = self.line.function, self.line.of
-        self.names = Names(self.f or judge.unit.functions[-1])
+        self.f, self.x = self.line.function or judge.unit.functions[-1], self.line.of
+        self.names = Names(self.f)
         self.told = judge.ask("explain", "--annotate").stdout.split("\nalso ")[0].split("\n", 1)[-1]
         self.goals = re.findall(r"to show: (\S+ (?:<=|>=) \S+)", self.told)
         self.goal = self.names.in_text("".join(self.goals[:1]))
@@ -99,15 +98,11 @@ class Report:
         if self.rule == 602 and self.x and self.x.op == "detach":
             change = self.cells_to_part()
         change = change or (self.claim_to_add() if self.goals else "")
-        head = told(self.path, self.place(), self.meaning(means), f"{change} [{self.rule}]")
-        return "\n".join([head.replace(";  [", " ["), *self.facts()])
-
-    def place(self) -> Place:
-        """Where it is refused; of an edge that does not keep an INVARIANT the place of that."""
         asked = [self.printed[int(number)] for number in re.findall(r"asked by line (\d+)", self.told)]
-        places = [line.place for line in asked if self.rule == 505 and not line.of] + [self.line.place]
-        places += [self.f.place] if self.f else []
-        return next((place for place in places if place.line), Place(1, 1))
+        places = [line.place for line in asked if self.rule == 505 and not line.of]  # (of an INVARIANT, not of an edge)
+        place = next(place for place in [*places, self.line.place, self.f.place] if place.line)
+        head = told(self.path, place, self.meaning(means), f"{change} [{self.rule}]")
+        return "\n".join([head.replace(";  [", " ["), *self.facts()])
 
     def what(self) -> str:
         """What the refused instruction touches or does, as the C writes it."""
@@ -196,7 +191,6 @@ class Report:
             known = known + 1 if "known:" in line else 0
             if re.match(SHOWN, line) and known <= MOST_FACTS:
                 line = re.sub(r"(reads|writes|adds) (\S+) (\S+) (\S+)$", r"\1 \2 from \3 to before \4", line[2:])
-                line = re.sub(r"\(line (\d+)[^)]*\)", r"(line \1)", self.names.in_text(line))
                 c_line = lambda m: f"line {self.printed[int(m[1])].place.line}"
-                out.append("  " + re.sub(r"\bline (\d+)", c_line, line))
+                out.append("  " + re.sub(r"\bline (\d+)(?: and put in)?", c_line, self.names.in_text(line)))
         return list(dict.fromkeys(out))

@@ -7,9 +7,9 @@ from dataclasses import dataclass, field
 from functools import partial
 from typing import Callable, Optional
 
-from .expressions import COMPARES, NO_BYTES, Cell, Expressions
+from .expressions import COMPARES, NO_BYTES, Cell
 from .ir import Block, Choice, Claim, Form, Function, Instruction, Value, Zone
-from .ssa import Builder, Loop
+from .ssa import Loop
 from .tree import Node, Type
 from .zones import Zones
 
@@ -17,6 +17,7 @@ CLAIMS = ("requires", "ensures", "keeps", "invariant")
 TYPES = {"RecordDecl", "EnumDecl", "TypedefDecl"}  # what is told where it is used
 SIMPLE = {"DeclRefExpr", "IntegerLiteral", "ImplicitCastExpr", "ParenExpr", "BinaryOperator"}
 MOST_ROUNDS = 1 << 40
+NOTHING = Node({}, None)
 OUT = ("return, break, continue or goto leads out of a SPAWN", "set a variable in the SPAWN, and test it after SYNC")
 
 
@@ -24,20 +25,17 @@ OUT = ("return, break, continue or goto leads out of a SPAWN", "set a variable i
 class Task:
     """A function's own body, or a SPAWN."""
     first: Block
-    region: str
+    region: str  # also a variable, which is 0 where no child is open
     known: set[str]
-    is_open: str  # a variable, which is 0 where no child is open
     given: list[Zone] = field(default_factory=list)  # the author's
 
 
-class Statements(Expressions):
+class Statements(Zones):
     def __init__(self, unit, f: Function, body: Node):
-        self.unit, self.f, self.body, self.is_thorough = unit, f, body, unit.is_thorough
-        self.build, self.objects = Builder(f, unit.refused), ChainMap({}, unit.objects)
+        super().__init__(unit, f)
         pointed = [x.inner[0].bare.declared.id for x in body.walk() if x.kind == "UnaryOperator" and x.opcode == "&"]
         self.in_memory = set(pointed).union(*(spawn.ways().keys() - spawn.own() for spawn in body.spawns()))
-        self.loops = self.build.loops
-        self.facts: list[Form] = []  # what is 0 or more, as loops are not over
+        self.body, self.loops = body, self.build.loops
         self.is_child = False  # whether it is the body of a SPAWN
         self.returned: list[tuple[Value, list[Form]]] = []  # and what compares say there
         self.labels: dict[str, tuple[Block, Task]] = {}
@@ -51,35 +49,41 @@ class Statements(Expressions):
 
     def new_task(self) -> None:
         """What follows is of a task of its own."""
-        known, region, first = set(self.f.names), self.build.put("region", hint="region"), self.build.now
-        self.tasks.append(Task(first, region, known, "0x open in " + first.name))
+        self.tasks.append(Task(self.build.now, self.build.put("region", hint="region"), set(self.f.names)))
         self.build.tasks = [self.tasks[-1], *self.build.tasks]
-        self.build.write(self.task.is_open, 0, "open")
+        self.build.write(self.task.region, 0, "open")
 
     def run(self) -> None:
         self.value(self.body)
         self.sync()
         self.build.close("ret", *[0] * self.f.returns)
-        zones = Zones(self.f, self.unit, self.build.linear, self.build.reaches)
-        self.f.zones = zones.of(self.tasks[0], set(self.f.parameters) - self.f.extents.keys(), False)
+        self.f.zones = self.zones(self.tasks[0], set(self.f.parameters) - self.f.extents.keys(), False)
         for task in self.tasks[1:]:
-            task.first.foot = zones.of(task, task.known, True)
+            task.first.foot = self.zones(task, task.known, True)
         self.build.seal()
-        self.ensure()
+        self.conclude()
+        self.f.drop_unused()
+        self.unit.functions.append(self.f)
 
-    def ensure(self) -> None:
-        """Tries as ENSURES what compares say of a result, where the author says nothing."""
+    def conclude(self) -> None:
+        """Where the author says nothing, tries as ENSURES what compares say of a result, and takes as MEASURE a
+        parameter that falls in each call of itself."""
         f, tried = self.f, self.build.common("%.ret", self.returned) if self.f.returns else []
         tried = [form for form in tried if form.terms.keys() <= {"%.ret", *f.parameters}]
         claims = [Claim(form, f.place, Choice(f.name, f"ensures {form}", f.place)) for form in tried[:8]]
         f.ensures += [claim for claim in claims if claim.choice not in self.unit.refused and not f.ensures]
+        calls = [x for x in f.instructions() if x.callee == f.name]
+        for k, own in enumerate(map(Form.of, f.parameters) if calls else ()):
+            most, changes = f.most(own), [self.build.form(x.args[k]) - own for x in calls]
+            if most is not None and all(not change.terms and change.constant < 0 for change in changes):
+                f.notes = {"measure": f"{own} max {most}"} | f.notes
 
     def sync(self) -> None:
-        if self.build.read(self.task.is_open) != 0:
+        if self.build.read(self.task.region) != 0:
             after = self.build.block("synced")
             self.build.close("sync", self.task.region, to=[after])
             self.build.start(after)
-            self.build.write(self.task.is_open, 0, "open")
+            self.build.write(self.task.region, 0, "open")
 
     def parameter(self, id: str, name: str, cells: int = 0) -> str:
         """A parameter of the function; of an array, its cells."""
@@ -87,25 +91,18 @@ class Statements(Expressions):
         self.f.parameters.append(register)
         if cells:
             self.f.extents[register], self.objects[id] = cells, Cell(register, 0)
-        elif id in self.in_memory:
-            self.store(self.local(id, name, 1), register, self.body)
         else:
-            self.build.write(id, register, name)
+            target = self.local(id, name, 1) if id in self.in_memory else id
+            self.store(target, register, Node({"name": name}, self.body.tree))
         return register
 
     def local(self, id: str, name: str, cells: int) -> Cell:
         object, place = self.f.fresh(name), self.f.place
-        self.f.unset[object] = Choice(self.f.name, "unset", place, len(self.f.extents))
-        zero = Instruction("zero", None, [object], place, object=object)
-        zeros = [zero] if self.f.unset[object] in self.unit.refused else []
+        self.f.unset[object] = self.build.tries("unset")
+        zeros = [] if self.f.unset[object] else [Instruction("zero", None, [object], place, object=object)]
         self.tasks[0].first.body[:0] = [Instruction("alloca", object, place=place), *zeros]
         self.f.extents[object], self.objects[id] = cells, Cell(object, 0)
         return self.objects[id]
-
-    def statement(self, node: Node) -> Value:
-        """Does what an `if` leads to, which comes to nothing."""
-        self.value(node)
-        return 0
 
     def of_CompoundStmt(self, node: Node) -> None:
         for x in [x for x in node.inner if x.kind not in TYPES]:
@@ -114,27 +111,25 @@ class Statements(Expressions):
     of_DeclStmt = of_NullStmt = of_CompoundStmt
 
     def of_VarDecl(self, node: Node) -> None:
-        first = next((x for x in node.inner if "init" in node.data and not x.kind.endswith("Attr")), None)
+        first = next((x for x in node.inner if "init" in node.data and not x.kind.endswith("Attr")), NOTHING)
         type, place = node.type, node.place
-        type.check(place)
         if node.data.get("storageClass") == "static":
             self.unit.add_global(node, f"{self.f.name[1:]}.{node.name}")
         elif type.is_pointer:
-            moves = first is None or node.id in self.body.ways()
+            moves = first is NOTHING or node.id in self.body.ways()
             place.refuse(moves, f"{node.name} is a pointer that moves", "keep the index, not the pointer")
             self.objects[node.id] = self.address(first)
         elif type.lengths:
             place.refuse(type.bytes < 4, *NO_BYTES)
             object = self.local(node.id, node.name, type.cells).object
-            if first is not None:
+            if first is not NOTHING:
                 is_set = not self.unit.is_zero(first)
                 first.place.refuse(is_set, "initial values of local arrays are not taken", "write a loop")
                 self.build.put("zero", object, object=object)
         else:
             target = self.local(node.id, node.name, 1) if node.id in self.in_memory else node.id
-            value = self.value(first) if first is not None else 0
-            if first is not None or node.id == target:
-                self.store(target, value, node)
+            if first is not NOTHING or node.id == target:
+                self.store(target, self.value(first), node)
 
     def of_IfStmt(self, node: Node) -> None:
         """What a SPAWN in a loop does is a function of its own if it has SPAWNs, which so are told apart."""
@@ -142,7 +137,8 @@ class Statements(Expressions):
         if test.callee() == "__tapir_detach":
             self.spawn(partial(self.outline if self.loops and arms[0].spawns() else self.value, arms[0]))
         else:
-            self.chosen(partial(self.condition, test), *[partial(self.statement, arm) for arm in arms])
+            arms = [Node({"inner": [arm.data]}, arm.tree) for arm in arms]  # (which come to nothing)
+            self.chosen(partial(self.condition, test), *[partial(self.of_CompoundStmt, arm) for arm in arms])
 
     def of_ForStmt(self, node: Node) -> None:
         first, _, test, step, body = node.inner
@@ -153,42 +149,40 @@ class Statements(Expressions):
             self.loop(test, body, step)
 
     def of_WhileStmt(self, node: Node) -> None:
-        self.loop(*node.inner, Node({}, node.tree))
+        self.loop(*node.inner)
 
     def of_DoStmt(self, node: Node) -> None:
-        body, again = node.inner
-        self.loop(Node({}, node.tree), body, Node({}, node.tree), again)
+        self.loop(NOTHING, node.inner[0], again=node.inner[1])
 
-    def loop(self, test: Node, body: Node, step: Node, again: Optional[Node] = None) -> None:
-        """A loop, which may be tested where a round begins, and where it ends."""
-        build, facts, ways = self.build, self.facts, step.ways()  # (a counter is set by the step alone, by one)
+    def loop(self, test: Node, body: Node, step: Node = NOTHING, again: Optional[Node] = None) -> None:
+        """A loop, which may be tested where a round begins, and where it ends. Only its step sets a counter, by one."""
+        build, first, ways = self.build, self.first_of(test), step.ways()
         counters = {id: way for id, (way, *_) in ways.items() if way in ("++", "--") and id not in body.ways()}
         own = [id for id in test.ways(body, step) if id in build.values and id not in body.own()]
-        starts, (first, end, counter) = {id: build.form(build.read(id)) for id in own}, self.bound(test, body, step)
+        starts, (end, counter) = {id: build.form(build.read(id)) for id in own}, self.bound(first, body, step)
         head, inside, latch, out = [build.block(hint) for hint in ("head", "body", "next", "end")]
-        self.enter(test, counters, out)
+        self.enter(test, first, counters, out)
         loop = Loop(out, latch, self.task, above=build.now, head=head, inside=inside, known=set(self.f.names))
         build.close("br", to=[head])
         build.start(head, set(build.values))
         self.loops.append(loop)
         made = dict(build.made)
         risen = {id: build.form(build.read(id)) - start for id, start in starts.items()}
-        for id in [id for id in own if self.is_thorough and id not in counters]:
-            build.guess(head, risen[id], -risen[id])
-        if first:
+        others = [risen[id] for id in own if id not in counters and self.unit.is_thorough]
+        build.guess(head, *[form * sign for form in others for sign in (1, -1)])
+        if end:
             self.test_bound(first, end, counter, loop)
         self.condition(test, inside, out)
         build.start(inside)
-        known = self.known_inside(test, counters, body, risen)
+        known = self.known_inside(first, counters, body, risen)
         build.said = build.said + known
-        for own in [build.form(build.read(id)) for id in counters]:
-            most, least = self.f.most(own, build.said), self.f.most(-own, build.said)
-            build.guess(build.now, *[form + end for form, end in ((-own, most), (own, least)) if end is not None])
-        self.facts, build.reaches, loop.inside = self.facts + known, build.reaches + known, build.now
+        ends = [build.form(build.read(id)) * sign for id in counters for sign in (1, -1)]
+        build.guess(build.now, *[-end + most for end in ends if (most := self.f.most(end, build.said)) is not None])
+        build.reaches, loop.inside = build.reaches + known, build.now
         self.value(body)
         build.jump(latch)
         build.start(latch)
-        build.made, self.facts = made, facts  # (so a counter's next value is a register of its own, with few facts)
+        build.made = made  # (so a counter's next value is a register of its own, with few facts)
         self.loops.remove(loop)
         if counter:
             build.write(counter, build.binary("add", build.read(counter), 1, True), "rounds")
@@ -200,36 +194,35 @@ class Statements(Expressions):
         build.skip(loop.above, head, False)
         build.start(out)
 
-    def bound(self, test: Node, body: Node, step: Node) -> tuple[Optional[Node], int, str]:
-        """A part of a test, the gap of which falls at least as fast as a value rises, so that this is below an end
-        wherever it holds; the end; and the value, a variable that counts the rounds: there are at most as many as the
-        gap begins with. Of `head < tail`, where tail grows up to 32, head is below 32, and there is no counter."""
-        first, ways = test.bare, body.ways(step)
-        while first.opcode == "&&":
-            first = first.inner[0].bare
-        changed = [ways[id] for id, _ in first.named() if id in ways] if self.is_simple(first) else []
-        if not self.is_thorough or not changed or changed in ([{"++"}], [{"--"}]):
-            return None, 0, ""
+    def bound(self, first: Node, body: Node, step: Node) -> tuple[int, str]:
+        """Where the gap of a test falls at least as fast as a value rises, so that this is below an end wherever the
+        test holds: the end, and the value, a variable that counts the rounds: there are at most as many as the gap
+        begins with. Of `head < tail`, where tail grows up to 32, head is below 32, and there is no counter."""
+        ways = body.ways(step)
+        changed = [ways[id] for id, _ in first.named() if id in ways]
+        if not self.unit.is_thorough or not changed or changed in ([{"++"}], [{"--"}]):
+            return 0, ""
         if first.opcode == "<" and changed == [{"++"}, {"++"}]:
-            high = first.inner[1].named()
-            tests = [x for x in body.walk() if x.opcode == "<" and x.inner[0].named() == high and self.is_simple(x)]
-            ends = [x.inner[1].bare for x in tests if not x.inner[1].named()]
-            return (first, self.value(ends[0]), "") if ends else (None, 0, "")
+            tests = [x for x in body.walk() if x.opcode == "<" and x.inner[0].named() == first.inner[1].named()]
+            ends = [x.inner[1].bare for x in tests if self.first_of(x) is x and not x.inner[1].named()]
+            return self.value(ends[0]) if ends else 0, ""
         most, counter = self.f.most(self.gaps(first)[0]), "rounds " + first.id
         self.build.write(counter, 0, "rounds")
-        return (first, most + 1, counter) if most is not None and 0 <= most < MOST_ROUNDS else (None, 0, "")
+        return (most + 1, counter) if most is not None and 0 <= most < MOST_ROUNDS else (0, "")
 
-    def compare_of(self, test: Node) -> Node:
-        """What the header puts a `sync` beside, or a test as it stands."""
-        is_parallel = test.bare.opcode == "||" and test.calls_of("__tapir_sync")
-        return test.bare.inner[0].bare if is_parallel else test.bare
+    def first_of(self, test: Node) -> Node:
+        """What holds first where a test does, if that is a form or compares forms. (The header puts a `sync` by it.)"""
+        first, plain = test.bare, {"", "+", "-", "*", *COMPARES}
+        while first.opcode == "&&" or first.calls_of("__tapir_sync"):
+            first = first.inner[0].bare
+        is_simple = all(x.kind in SIMPLE and (x.opcode in plain or not x.named()) for x in first.walk())
+        return first if is_simple else NOTHING
 
-    def enter(self, test: Node, counters: dict[str, str], out: Block) -> None:
+    def enter(self, test: Node, first: Node, counters: dict[str, str], out: Block) -> None:
         """Tests before a loop, too, that its counter does not begin past its end, where that is not known."""
-        own = self.compare_of(test)
-        is_pure = not test.ways() and not any(x.callee() for x in own.walk())
-        is_known = self.is_simple(own) and self.f.shows(self.gaps(own)[0] + 1, self.build.said)
-        if self.is_thorough and is_pure and not is_known and counters.keys() & dict(own.named()):
+        is_pure = not test.ways() and {x.callee() for x in test.walk()} <= {"", "__tapir_sync"}
+        is_known = first is not NOTHING and self.f.shows(self.gaps(first)[0] + 1, self.build.said)
+        if self.unit.is_thorough and is_pure and not is_known and counters.keys() & dict(test.named()):
             inside = self.build.block("entered")
             self.condition(test, inside, out)
             self.build.start(inside)
@@ -246,21 +239,13 @@ class Statements(Expressions):
             self.build.start(inside)
             self.build.guess(loop.head, gap + 1, room, risen)
 
-    def is_simple(self, test: Node) -> bool:
-        plain = {"", "+", "-", "*", *COMPARES}
-        return all(x.kind in SIMPLE and (x.opcode in plain or not x.named()) for x in test.walk())
-
-    def known_inside(self, test: Node, counters: dict[str, str], body: Node, risen: dict[str, Form]) -> list[Form]:
+    def known_inside(self, first: Node, counters: dict[str, str], body: Node, risen: dict[str, Form]) -> list[Form]:
         """What is 0 or more in a round: a counter has not passed its start, and a test without effects holds."""
-        facts = [risen[id] if way == "++" else -risen[id] for id, way in counters.items()]
         for id in [id for id in risen if body.ways().get(id) == {"++"}]:  # (what is only raised now and then)
             self.build.reaches += [risen[id], *[risen[i] - risen[id] for i, way in counters.items() if way == "++"]]
-        own = self.compare_of(test)
-        if own.opcode in ("<", "<=", ">", ">=") and self.is_simple(own):
-            facts += self.gaps(own)
-            if len(facts[-1].terms) > 2:
-                self.build.guess(self.build.now, facts[-1])
-        return facts
+        gaps = self.gaps(first) if first.opcode in ("<", "<=", ">", ">=") else []
+        self.build.guess(self.build.now, *[gap for gap in gaps if len(gap.terms) > 2])
+        return [risen[id] if way == "++" else -risen[id] for id, way in counters.items()] + gaps
 
     def go_on(self, loop: Loop) -> None:
         """Goes on to the head. What is to hold there is tried where the last block of a round begins, too."""
@@ -270,19 +255,16 @@ class Statements(Expressions):
         build.guess(build.now, *[form for form in forms if not made & form.terms.keys()])
         build.jump(loop.head)
 
-    def leave(self, task: Optional[Task]) -> None:
-        self.build.place.refuse(task is not self.task, *OUT)
-
     def of_BreakStmt(self, node: Node) -> None:
         """Also `continue`, which is not of a switch."""
         loops = [loop for loop in self.loops if loop.latch or node.kind == "BreakStmt"]
-        self.leave(loops[-1].task if loops else None)
+        node.place.refuse(not loops or loops[-1].task is not self.task, *OUT)
         self.build.jump(loops[-1].out if node.kind == "BreakStmt" else loops[-1].latch)
 
     of_ContinueStmt = of_BreakStmt
 
     def of_ReturnStmt(self, node: Node) -> None:
-        self.leave(None if self.is_child else self.tasks[0])
+        node.place.refuse(self.is_child or self.task is not self.tasks[0], *OUT)
         values = [self.value(x) for x in node.inner]
         self.returned += [(value, self.build.said) for value in values if self.build.is_reached]
         self.sync()
@@ -290,12 +272,12 @@ class Statements(Expressions):
 
     def of_GotoStmt(self, node: Node, word: str = "targetLabelDeclId") -> Block:
         block, task = self.labels.setdefault(node.data[word], (self.build.block("label"), self.task))
-        self.leave(task)
+        node.place.refuse(task is not self.task, *OUT)
         self.build.jump(block)
         return block
 
     def of_LabelStmt(self, node: Node) -> None:
-        changed = {*self.body.ways(), *[self.task.is_open for _ in self.body.spawns()]}
+        changed = {*self.body.ways(), *[self.task.region for _ in self.body.spawns()]}
         self.build.start(self.of_GotoStmt(node, "declId"), changed, True)
         self.value(node.inner[0])
 
@@ -339,7 +321,7 @@ class Statements(Expressions):
         build.tasks = outer
         build.close("reattach", region, to=[after])
         build.start(after)
-        build.write(self.task.is_open, 1, "open")
+        build.write(self.task.region, 1, "open")
 
     def say(self, kind: str, node: Node) -> None:
         """Takes a claim."""
@@ -380,13 +362,12 @@ class Statements(Expressions):
             self.build.put("atomic", value, object=object, index=index)
         elif word in ("reads", "writes", "adds"):
             ends = [self.build.form(self.value(x)) for x in args[1:]]
-            self.task.given.append(Zone(self.address(args[0].unconverted).object, word, *ends))
-        elif word == "measure":
-            form, most = [self.build.form(self.value(x)) for x in args]
-            node.place.refuse(most.terms, "the most of a MEASURE is a number", "write MEASURE(depth, 20)")
-            f.notes[word] = f"{form} max {most}"
-        elif word == "budget":
-            f.notes[word] = " ".join(str(self.build.form(self.value(x))) for x in args)
+            self.task.given.append(Zone(word, self.address(args[0].unconverted).object, *ends))
+        elif word in ("measure", "budget"):
+            first, last = [self.build.form(self.value(x)) for x in args]
+            is_open = word == "measure" and last.terms
+            node.place.refuse(is_open, "the most of a MEASURE is a number", "write MEASURE(depth, 20)")
+            f.notes[word] = f"{first} {'max ' if word == 'measure' else ''}{last}"
         elif word == "halved":
             self.build.put("call", *f.parameters[:-3], *map(self.value, args), callee=f.name)
         return 0

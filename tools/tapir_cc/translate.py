@@ -4,16 +4,15 @@ import math
 from typing import Iterator
 
 from .expressions import NO_BYTES, NO_POINTER, Cell
-from .ir import PURE, Choice, Claim, Form, Function, Place
+from .ir import Choice, Claim, Form, Function, Place
 from .parts import Parts
 from .tree import Node, Tree, Type
 
 MOST_CELLS = 1048576  # of a module's globals
-ALLOWED = ("__tapir_", "memset")
 
 
 class Unit:
-    """What is made of a file."""
+    """What is made of a file; where it is thorough, with tests that may help, although they always hold."""
 
     def __init__(self, tree: Tree, entry: str, refused: set[Choice], is_thorough: bool, known: dict[str, list]):
         self.known, self.passed = known, {}  # a function -> what is passed to it: as was seen before, and now
@@ -22,8 +21,8 @@ class Unit:
         self.extents: dict[str, int] = {}  # a global -> its cells
         self.initial: dict[Cell, Node] = {}  # a cell of what is const -> its number
         self.functions: list[Function] = []
-        named = [x for x in tree.declarations if x.kind == "FunctionDecl"]
-        self.bodies = {x.name: x for x in named if x.inner and x.inner[-1].kind == "CompoundStmt"}
+        self.above = [entry]  # the functions that are being made, each called by the one before
+        self.bodies = {x.name: x for x in tree.declarations if x.inner and x.inner[-1].kind == "CompoundStmt"}
         for node in [x for x in tree.declarations if x.kind == "VarDecl"]:
             self.add_global(node, node.name)
 
@@ -55,88 +54,49 @@ class Unit:
     def is_zero(self, node: Node) -> bool:
         return all(x.data.get("value", "0") == "0" for x in node.walk())
 
-    def callees_first(self) -> list[Node]:
-        """The functions that a run may call."""
-        out: list[Node] = []
+    def need(self, name: str, place: Place) -> None:
+        """Makes a function that the last one of `above` calls, unless it is there."""
         change = "make one function of them, with a parameter that says which"
-
-        def visit(body: Node, above: list[str]) -> None:
-            for x in [x for x in body.walk() if x.callee()]:
-                name, callee = x.callee(), self.bodies.get(x.callee())
-                is_there = callee or name.startswith(ALLOWED)
-                x.place.refuse(not is_there, f"{name} is not in this file", "put its code here")
-                x.place.refuse(name in above, f"{body.name} and {name} call each other", change)
-                if callee not in (None, body, *out):
-                    visit(callee, [*above, body.name])
-            out.append(body)
-
-        first, text = self.bodies.get(self.entry), f"there is no function {self.entry}, where the run begins"
-        Place(1, 1).refuse(first is None, text, "name another one by --entry")
-        visit(first, [])
-        change = f"write int64_t {first.name}(..)"
-        first.place.refuse(not self.returns(first).is_number, f"{first.name} returns no number", change)
-        for p in [p for p in first.inner if p.kind == "ParmVarDecl" and p.type.is_pointer]:
-            first.place.refuse(True, f"{p.name} is an array, and the host hands over globals alone", "make it a global")
-        return out
-
-    def returns(self, node: Node) -> Type:
-        return node.tree.type_of(node.data["type"]["qualType"].split("(")[0])
+        place.refuse(name not in self.bodies, f"{name} is not in this file", "put its code here")
+        place.refuse(name in self.above[:-1], f"{self.above[-1]} and {name} call each other", change)
+        if name not in (*self.above, *self.passed):
+            self.above.append(name)
+            self.lower(self.bodies[name])
+            self.above.pop()
 
     def lower(self, node: Node) -> None:
         """A function's blocks."""
-        type = self.returns(node)
+        type, is_entry = node.tree.type_of(node.data["type"]["qualType"].split("(")[0]), node.name == self.entry
         f = Function("@" + node.name, node.place, type.is_number)
+        change = f"write int64_t {node.name}(..)"
+        f.place.refuse(is_entry and not f.returns, f"{node.name} returns no number", change)
         is_taken, change = f.returns or type == Type("void"), "a result is int64_t, int, bool or void"
         f.place.refuse(not is_taken, f"what {node.name} returns is not taken", change)
         made = Parts(self, f, node.inner[-1])
-        for p in [p for p in node.inner if p.kind == "ParmVarDecl"]:
+        for k, p in enumerate([p for p in node.inner if p.kind == "ParmVarDecl"]):
+            text = f"{p.name} is an array, and the host hands over globals alone"
+            f.place.refuse(is_entry and p.type.is_pointer, text, "make it a global")
             p.type.check(f.place)
             rows = node.tree.length(node.name, p.name) if p.type.is_pointer else 0
             change = f"write int64_t {p.name}[static N]"
             f.place.refuse(p.type.is_pointer and not rows, f"the size of {p.name} is not said", change)
-            made.parameter(p.id, p.name, rows * p.type.cells)
-        for p, *values in zip(f.parameters, *self.known.get(node.name, ())):
-            if values and node.name != self.entry and all(isinstance(value, int) for value in values):
-                own = Form.of(p)
+            own = Form.of(made.parameter(p.id, p.name, rows * p.type.cells))
+            values = [args[k] for args in self.known.get(node.name, ()) if not is_entry]
+            if values and all(isinstance(value, int) for value in values):
                 f.requires += [Claim(form, f.place) for form in (own - min(values), -own + max(values))]
-        table = [x for x in self.initial if node.name == self.entry and self.extents[x.object] > 1]
+        table = [x for x in self.initial if is_entry and self.extents[x.object] > 1]
         for object in dict.fromkeys(cell.object for cell in table):  # (whatever the host handed over)
             made.build.put("zero", object, object=object)
         for object, index in table:
             made.build.put("store", made.value(self.initial[object, index]), object=object, index=index)
         made.run()
-        calls = [x for x in f.instructions() if x.callee == f.name]
-        for k, own in enumerate(map(Form.of, f.parameters) if calls else ()):  # (one that falls in each call of itself)
-            most, changes = f.most(own), [made.build.form(x.args[k]) - own for x in calls]
-            if most is not None and all(not change.terms and change.constant < 0 for change in changes):
-                f.notes = {"measure": f"{own} max {most}"} | f.notes
-        self.functions.append(f)
 
 
 def translate(tree: Tree, entry: str, refused: set[Choice], is_thorough: bool) -> Unit:
     before, unit = None, Unit(tree, entry, refused, is_thorough, {})
     while (refused, unit.passed) != before:  # (until no variable changes in a loop that seems to)
         before, unit = (set(refused), unit.passed), Unit(tree, entry, refused, is_thorough, unit.passed)
-        for node in unit.callees_first():
-            unit.lower(node)
-    for f in unit.functions:
-        drop_unused(f)
+        text = f"there is no function {entry}, where the run begins"
+        Place(1, 1).refuse(entry not in unit.bodies, text, "name another one by --entry")
+        unit.lower(unit.bodies[entry])
     return unit
-
-
-def drop_unused(f: Function) -> None:
-    """Takes out what no effect and no claim rests on, also what only uses itself round a loop."""
-    definitions, blocks, live = f.definitions(), f.blocks.values(), set()
-    said = [claim.form for block in blocks for claim in block.keeps if not claim.choice]
-    said += [form for block in blocks for zone in block.foot for form in (zone.low, zone.high)]
-    work = [register for form in said for register in form.terms]
-    work += [value for x in f.instructions() if x.op not in PURE for value in x.uses()]
-    while work:
-        value = work.pop()
-        if value in definitions and value not in live:
-            live.add(value)
-            work += definitions[value].uses()
-    for block in blocks:
-        block.phis = [x for x in block.phis if x.result in live]
-        block.body = [x for x in block.body if x.op not in PURE or x.result in live]
-        block.keeps = [claim for claim in block.keeps if not claim.form.terms.keys() & definitions.keys() - live]

@@ -138,10 +138,18 @@ class Tree:
         self.types: dict[str, str] = {}  # a typedef or an enumeration -> what it stands for
         self.constants: dict[str, int] = {}  # an enumerator's id -> its value
         self.file, self.line = "", 0
-        top = json.loads(self.printed("-ast-dump=json"), object_hook=self.filled)
-        self.declarations = Node(top, self).inner
+        self.declarations = Node(json.loads(self.printed("-ast-dump=json"), object_hook=self.filled), self).inner
         for node in self.declarations:
-            self.declare(node)
+            if node.kind == "EnumDecl":
+                value = -1
+                for constant in [x for x in node.inner if x.kind == "EnumConstantDecl"]:
+                    given = [int(x.data["value"]) for x in constant.inner if "value" in x.data]
+                    self.constants[constant.id] = value = given[0] if given else value + 1
+                is_signed = any(self.constants.get(x.id, 0) < 0 for x in node.inner)
+                self.types[f"enum {node.name}"] = self.types[node.id] = "int" if is_signed else "unsigned int"
+            elif node.kind == "TypedefDecl":
+                owned = [x["ownedTagDecl"]["id"] for x in node.data.get("inner", []) if "ownedTagDecl" in x]
+                self.types[node.name] = self.types.get("".join(owned), node.data["type"]["qualType"])
 
     @cache
     def printed(self, word: str) -> str:
@@ -157,32 +165,17 @@ class Tree:
             data["file"], data["line"] = self.file, self.line
         return data
 
-    def declare(self, node: Node) -> None:
-        if node.kind == "EnumDecl":
-            value = -1
-            for constant in [x for x in node.inner if x.kind == "EnumConstantDecl"]:
-                given = [int(x.data["value"]) for x in constant.inner if "value" in x.data]
-                self.constants[constant.id] = value = given[0] if given else value + 1
-            is_signed = any(self.constants.get(x.id, 0) < 0 for x in node.inner)
-            self.types[f"enum {node.name}"] = self.types[node.id] = "int" if is_signed else "unsigned int"
-        elif node.kind == "TypedefDecl":
-            owned = [x["ownedTagDecl"]["id"] for x in node.data.get("inner", []) if "ownedTagDecl" in x]
-            is_enum = owned and owned[0] in self.types
-            self.types[node.name] = self.types[owned[0]] if is_enum else node.data["type"]["qualType"]
-
     def type_of(self, text: str) -> Type:
         text = QUALIFIERS.sub("", text).strip()
         found = TYPE.fullmatch(text)
         if not found:
             return Type(text)
         base, lengths = found[1], tuple(map(int, re.findall(r"\d+", found[3])))
-        if base in WORDS:
-            return Type(WORDS[base], lengths, bool(found[2]))
-        named = self.type_of(self.types[base]) if self.types.get(base, base) != base else Type(base)
+        named = self.type_of(self.types[base]) if self.types.get(base, base) != base else Type(WORDS.get(base, base))
         return Type(text) if named.is_pointer else Type(named.base, lengths + named.lengths, bool(found[2]))
 
     def length(self, function: str, parameter: str) -> int:
         """How many rows a function says that its array has; 0 where it does not say so. (The tree has pointers.)"""
-        head = re.search(rf"^\S.*?\b{function}\((.*)\)\s*\{{$", self.printed("-ast-print"), re.M)
-        found = re.search(rf"\b{parameter}\[[^\]\d]*(\d+)\]", head[1] if head else "")
+        head = rf"^\S.*?\b{function}\(.*?\b{parameter}\[[^\]\d]*(\d+)\].*\)\s*\{{$"
+        found = re.search(head, self.printed("-ast-print"), re.M)
         return int(found[1]) if found else 0
