@@ -1,6 +1,5 @@
 //! Runs from the start to the end.
 ghost use Rattle.std.specs.Prelude.{◌≡◌, ◌<◌, vec_len, IfOk};
-ghost use Rattle.shared_run.specs.serial_machine.Decoding.{IsCodeOf};
 ghost use Rattle.shared_run.specs.store.Made.{HasGlobalCells, IsMadeFor};
 
 use crate::boards::calls::{Player, players_of};
@@ -25,13 +24,11 @@ const MOST_CALLS: u32 = 40_000;
 struct Run<'a> {
     alloc: Global,
     verified: &'a Verified,
-    code: &'a Decoded,
     arguments: &'a [i64],
     memory: &'a Memory,
     wanted: Ending,
     workers: usize,
     seed: u64,
-    ghost decoded: { IsCodeOf verified.now code.now },
     ghost made: { IsMadeFor verified.now memory.now },
     ghost cells: { HasGlobalCells verified.now memory.now },
 }
@@ -121,7 +118,8 @@ fn played<'a, L: Bench>(
     requires one_each { blank.parts ≡ run.now.workers }
 {
     let (alloc, workers) = (run.alloc, run.workers);
-    let mut players = players_of(alloc, run.verified, run.code, workers)?;
+    let code = Decoded::of(alloc, run.verified)?;
+    let mut players = players_of(alloc, run.verified, &code, workers)?;
     let players = players.as_mut_slice();
     if run.seed / 4 % 2 == run.seed % 2 {
         let Ok((mut shared, mut seats)) = Shared::<L>::new(
@@ -213,12 +211,10 @@ pub fn are_right(
     seeds: &Range<u64>,
     report: &mut Report,
 ) -> Result<bool, OutOfMemory> {
-    let code = Decoded::of(alloc, verified)?;
     let memory = memory_of(alloc, verified, begin.0)?;
     let mut run = Run {
         alloc,
         verified,
-        code: &code,
         arguments: begin.1,
         memory: &memory,
         wanted,
