@@ -2,6 +2,7 @@
 //! left and it has not ended, though none of them was refused memory or stopped, they are set to work again.
 ghost use Rattle.std.specs.Prelude.{◌≡◌, vec_len, IfOk};
 ghost use Rattle.shared_run.specs.schedule_core.Admission.{IsAdmitted};
+ghost use Rattle.shared_run.specs.serial_machine.Decoding.{IsCodeOf};
 ghost use Rattle.shared_run.specs.store.Made.{IsMadeFor};
 ghost use Rattle.shared_run.specs.Answer.{IsSerialAnswer, LeadTo};
 ghost use Rattle.shared_run.specs.Story.{origin};
@@ -15,7 +16,7 @@ use crate::work::{work, work_alone};
 use crate::workers::{Worker, crew_of, disband};
 use crossbeam_utils::CachePadded;
 use lists::OutOfMemory;
-use shared_run::{Bench, Keeping, Memory, RunFault, Seat, Shared, Verified};
+use shared_run::{Bench, Decoded, Keeping, Memory, RunFault, Seat, Shared, Verified};
 use std::alloc::Global;
 use std::sync::atomic::AtomicBool;
 use std::sync::ledger::Blank;
@@ -51,12 +52,15 @@ pub(crate) fn run_by<L: Bench + Send + Sync, G: Gate + Sync, R: Threads + Wait +
     let (mut shared, mut seats) = Shared::<L>::new(
         alloc, verified, arguments, memory, workers, keeping, blank,
     )?;
+    let Ok(code) = Decoded::of(alloc, verified) else {
+        return Err(RunFault::OutOfMemory);
+    };
     let Ok(mut figures) = vec![in alloc; Figures::none(); workers] else {
         return Err(RunFault::OutOfMemory);
     };
     for _ in rt.forever() {
         let own = figures.as_mut_slice();
-        let round = round(rt, alloc, verified, &shared, seats, own, gate);
+        let round = round(rt, alloc, verified, &code, &shared, seats, own, gate);
         let Ok((back, left)) = round else {
             return Err(RunFault::OutOfMemory);
         };
@@ -84,18 +88,20 @@ fn round<L: Bench + Send + Sync, G: Gate + Sync, R: Threads + Wait + Clock + Syn
     rt: &R,
     alloc: Global,
     verified: &Verified,
+    code: &Decoded,
     shared: &Shared<'_, L>,
     seats: Vec<Seat<L>>,
     figures: &mut [Figures],
     gate: &G,
 ) -> Result<(Vec<Seat<L>>, Vec<Left>), OutOfMemory>
     requires code { verified.now ≡ L.code }
+    requires decoded { IsCodeOf verified.now code.now }
     ensures seats { IfOk result (λ back. vec_len back.0 ≡ vec_len seats) }
     ensures left { IfOk result (λ back. vec_len back.1 ≡ vec_len seats) }
 {
     let room = Vec::with_capacity(alloc, seats.len())?;
     let left = Vec::with_capacity(alloc, seats.len())?;
-    let crew = crew_of(alloc, seats, figures, verified, shared.places())?;
+    let crew = crew_of(alloc, seats, figures, verified, code)?;
     work_together(rt, shared, gate, crew.as_slice());
     Ok(disband(crew, room, left, figures))
 }

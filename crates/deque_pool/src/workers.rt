@@ -1,13 +1,13 @@
 //! The workers of a run.
 ghost use Rattle.std.specs.Prelude.{◌≡◌, vec_len, vec_capacity, ◌≤◌, IfOk};
-ghost use Rattle.shared_run.specs.schedule_workers.Starts.{ArePlaces};
+ghost use Rattle.shared_run.specs.serial_machine.Decoding.{IsCodeOf};
 
 use crate::figures::Figures;
 use crate::outlook::Left;
 use deque_pool_tickets::{Hands, Thief};
 use lists::OutOfMemory;
 use shared_run::turns::Habits;
-use shared_run::{Bench, Places, Seat, Verified, WorkerStrand};
+use shared_run::{Bench, Decoded, Seat, Verified, WorkerStrand};
 use std::alloc::Global;
 use std::sync::Mutex;
 
@@ -29,10 +29,10 @@ pub(crate) fn crew_of<'p, L: Bench>(
     mut seats: Vec<Seat<L>>,
     figures: &[Figures],
     verified: &'p Verified,
-    places: &'p Places,
+    code: &'p Decoded,
 ) -> Result<Vec<Mutex<Worker<'p, L>>>, OutOfMemory>
     requires code { verified.now ≡ L.code }
-    requires places { ArePlaces verified.now places.now }
+    requires decoded { IsCodeOf verified.now code.now }
     ensures { IfOk result (λ crew. vec_len crew ≡ vec_len seats) }
 {
     let count = seats.len();
@@ -42,7 +42,7 @@ pub(crate) fn crew_of<'p, L: Bench>(
         let Some(hands) = own.pop() else {
             return Err(OutOfMemory);
         };
-        let strand = WorkerStrand::new(alloc, verified, places)?;
+        let strand = WorkerStrand::new(alloc, verified, code)?;
         let me = seats.len();
         let thieves = thieves_from(alloc, &mut ends, me)?;
         let figures = figures.get(me).copied().unwrap_or(Figures::none());

@@ -135,7 +135,7 @@ impl RunBlock {
     {
         let RunBlock { module, run } = self;
         let (own, worker) = worker.parts();
-        let (run, worker, met) = run.meet(alloc, module.verified(), worker);
+        let (run, worker, met) = run.meet(alloc, module.verified(), module.code(), worker);
         (
             RunBlock { module, run },
             WorkerBlock {
@@ -210,7 +210,7 @@ impl WorkerBlock {
         ensures { result ≡ self }
     {
         let WorkerBlock { module, worker } = self;
-        let worker = worker.turn(module.verified());
+        let worker = worker.turn(module.verified(), module.code());
         WorkerBlock { module, worker }
     }
 }

@@ -14,6 +14,7 @@ pub mod FrameViews
 pub mod laws_workers
 -- for the crates above
 pub use Rattle.serial_machine.specs.laws_conditions as laws_conditions
+pub use Rattle.serial_machine.specs as serial_machine
 pub use Rattle.serial_machine.specs.store as store
 pub use Rattle.serial_machine.specs.laws_schedule as laws_schedule
 pub use Rattle.serial_machine.specs.verifier as verifier

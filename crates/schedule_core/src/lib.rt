@@ -32,7 +32,7 @@ pub use parked::Parked;
 pub use ready::Spot;
 pub use schedule::replay;
 pub use schedule_commit::{FrameStrand, Pause, Strand, StrandPause};
-pub use serial_machine::{Finished, Memory, RunFault, Verified, unmet_requirement};
+pub use serial_machine::{Decoded, Finished, Memory, RunFault, Verified, unmet_requirement};
 pub use shared_places::SharedPlaces;
 pub use stage::Stage;
 pub use strands::{advance_strand, blank_strand, fill_strand, fill_strand_ahead};

@@ -1,6 +1,6 @@
 //! Strands: what a worker did outside of the machine, across calls, detaches and what ends them, done at once.
 ghost use Rattle.std.specs.Prelude.{◌≡◌, ◌↔◌, ◌≤◌, IfNone, IfOk, IfSome, IsSome, IsTrue, None, Ok, OnErr, OnOk, OnSome, false, length, true};
-ghost use Rattle.schedule_workers.specs.Starts.{ArePlaces};
+ghost use Rattle.serial_machine.specs.Decoding.{IsCodeOf};
 ghost use Rattle.frame_engine.specs.Flat.{cell_in};
 ghost use Rattle.schedule_commit.specs.strand.strand_pages.Logs.{filled_log, page_around};
 ghost use Rattle.schedule_commit.specs.strand.strand_pages.Tables.{log_of};
@@ -17,7 +17,7 @@ use crate::machine::Machine;
 use frame_engine::{Places, most_moves};
 use lists::OutOfMemory;
 use schedule_commit::{Strand, StrandPause as Pause, has_no_child, page_around, publish};
-use serial_machine::Verified;
+use serial_machine::{Decoded, Verified};
 use std::alloc::Global;
 
 /// A strand without a base, with room for the phi moves of the module.
@@ -39,23 +39,23 @@ pub fn blank_strand(alloc: Global, verified: &Verified) -> Result<Strand, OutOfM
 pub fn advance_strand(
     strand: &mut Strand,
     verified: &Verified,
-    places: &Places,
+    code: &Decoded,
     limit: u64,
 ) -> Result<Pause, OutOfMemory>
-    requires places { ArePlaces verified.now places.now }
+    requires code { IsCodeOf verified.now code.now }
     requires moves { HasRoomFor verified.now strand.old }
-    requires way { ∥ IsUnderWay verified.now places.now strand.old ∥₁ }
+    requires way { ∥ IsUnderWay verified.now code.now.places strand.old ∥₁ }
     requires room { strand.old.done ≤ limit }
     requires limit { limit ≤ 65536 }
     ensures moves { OnOk result (HasRoomFor verified.now strand.new) }
     ensures base { OnOk result (strand.new.base ≡ strand.old.base) }
     ensures room { OnOk result (strand.new.done ≤ limit) }
     ensures more { OnOk result (strand.old.done ≤ strand.new.done) }
-    ensures board { IfOk result (λ pause. pause ≡ Pause.Border → NeedsBoard verified.now places.now strand.new (item_here verified.now strand.new.top.value)) }
+    ensures board { IfOk result (λ pause. pause ≡ Pause.Border → NeedsBoard verified.now code.now.places strand.new (item_here verified.now strand.new.top.value)) }
     ensures limit { IfOk result (λ pause. (pause ≡ Pause.Limit) ↔ (strand.new.done ≡ limit)) }
-    ensures going { IfOk result (λ pause. ∥ IsGoing verified.now places.now strand.new pause ∥₁) }
+    ensures going { IfOk result (λ pause. ∥ IsGoing verified.now code.now.places strand.new pause ∥₁) }
 {
-    strand.go(verified.program(), places, limit)
+    strand.go(verified.program(), code.places(), code.tables(), limit)
 }
 
 /// The page of the address, whose cell the strand needs, holds these values.

@@ -8,3 +8,4 @@ pub mod Resting
 pub use Rattle.schedule_core.specs.store as store
 pub use Rattle.schedule_core.specs as schedule_core
 pub use Rattle.schedule_core.specs.schedule_workers as schedule_workers
+pub use Rattle.schedule_core.specs.serial_machine as serial_machine

@@ -1,5 +1,4 @@
 ghost use Rattle.std.specs.Prelude.{◌≡◌, ◌≢◌, ◌<◌, Err, None, length, vec_len, sum_by, IfOk, IfErr};
-ghost use Rattle.schedule_workers.specs.Starts.{ArePlaces};
 ghost use Rattle.schedule_core.specs.Admission.{IsAdmitted};
 ghost use Rattle.schedule_core.specs.store.Made.{IsMadeFor};
 ghost use Rattle.shared_run.specs.Answer.{IsSerialAnswer, LeadTo};
@@ -9,38 +8,31 @@ use crate::bench::Bench;
 use crate::board::Board;
 use crate::history::{History, Keeping};
 use crate::seat::Seat;
-use schedule_core::{Finished, Memory, Places, RunFault, SharedPlaces, Verified};
+use schedule_core::{Finished, Memory, RunFault, Verified};
 use std::alloc::Global;
 use std::marker::Model;
 use std::sync::Mutex;
 use std::sync::ledger::Blank;
 
-/// A board in a lock, with the places of its module beside it. Contracts see the start, which is that of the ledger: no other board of this ledger
+/// A board in a lock. Contracts see the start, which is that of the ledger: no other board of this ledger
 /// begins elsewhere.
 pub struct Shared<'a, L: Bench> {
     pub board: Mutex<Board<'a, L>>,
-    places: SharedPlaces,
 }
 
 /// Written out, so that no crate above proves it anew.
 impl<L: Bench> Drop for Shared<'_, L> {
     fn drop(self) {
-        let Shared {
-            board: _,
-            places: _,
-        } = self;
+        let Shared { board: _ } = self;
     }
 }
 
 impl<'a, L: Bench> Model for Shared<'a, L> {
-    ghost use Rattle.schedule_workers.specs.Starts.{ArePlaces};
     ghost use Rattle.shared_run.specs.Story.{Origin, origin};
 
     ghost Value = { Origin };
 
     ghost view = { λ s. origin L.code L.arguments L.memory L.crew };
-
-    ghost invariant = { λ s. ArePlaces L.code s.places };
 }
 
 impl<'a, L: Bench> Shared<'a, L> {
@@ -75,23 +67,12 @@ impl<'a, L: Bench> Shared<'a, L> {
         let (board, seats) = Board::new(
             alloc, verified, arguments, memory, workers, keeping, blank,
         )?;
-        let Ok(places) = board.machine().share_places() else {
-            return Err(RunFault::OutOfMemory);
-        };
         Ok((
             Shared {
                 board: Mutex::new(board),
-                places,
             },
             seats,
         ))
-    }
-
-    /// Where the module's objects begin.
-    pub fn places(&self) -> &Places
-        ensures { ArePlaces L.code result.now }
-    {
-        self.places.get()
     }
 
     /// The answer of the run that has ended, with its history: [`Board::finish`]. It takes all its seats and waits for nobody. Else, where
@@ -107,10 +88,10 @@ impl<'a, L: Bench> Shared<'a, L> {
         ensures same { IfErr result (λ back. (back.0.start ≡ self.entry) × (back.1 ≡ seats)) }
         ensures refused { IfErr result (λ back. (state_of back.0).core.result ≡ None) }
     {
-        let Shared { board, places } = self;
+        let Shared { board } = self;
         match board.into_inner().answer(seats) {
             Ok(done) => Ok(done),
-            Err((board, seats)) => Err((Unended { board, places }, seats)),
+            Err((board, seats)) => Err((Unended { board }, seats)),
         }
     }
 }
@@ -118,37 +99,29 @@ impl<'a, L: Bench> Shared<'a, L> {
 /// What was in a [`Shared`] whose run has not ended. Contracts see the board: no contract tells what stands in a lock.
 pub struct Unended<'a, L: Bench> {
     board: Board<'a, L>,
-    places: SharedPlaces,
 }
 
 /// Written out, so that no crate above proves it anew.
 impl<L: Bench> Drop for Unended<'_, L> {
     fn drop(self) {
-        let Unended {
-            board: _,
-            places: _,
-        } = self;
+        let Unended { board: _ } = self;
     }
 }
 
 impl<'a, L: Bench> Model for Unended<'a, L> {
-    ghost use Rattle.schedule_workers.specs.Starts.{ArePlaces};
     ghost use Rattle.shared_run.specs.Story.{Story};
 
     ghost Value = { Story };
 
     ghost view = { λ u. u.board };
-
-    ghost invariant = { λ u. ArePlaces L.code u.places };
 }
 
 impl<'a, L: Bench> Unended<'a, L> {
     /// The board in a lock again.
     pub fn share(self) -> Shared<'a, L> {
-        let Unended { board, places } = self;
+        let Unended { board } = self;
         Shared {
             board: Mutex::new(board),
-            places,
         }
     }
 }

@@ -1,7 +1,7 @@
 ghost use Rattle.std.specs.Prelude.{◌≡◌, ◌≢◌, ◌↔◌, ◌≤◌, IfOk, IfSome, IfNone, IsTrue, OnErr, OnOk, Ok, Some, false, length, true};
 ghost use Rattle.std.specs.List.{list_any};
 ghost use Rattle.semantics.specs.Frames.{Ends, item_of};
-ghost use Rattle.schedule_workers.specs.Starts.{ArePlaces};
+ghost use Rattle.schedule_core.specs.serial_machine.Decoding.{IsCodeOf};
 ghost use Rattle.schedule_core.specs.strand.serial_stack.Shown.{item_here};
 ghost use Rattle.schedule_core.specs.strand.strand_pages.Logs.{filled_log, is_open};
 ghost use Rattle.schedule_core.specs.strand.strand_pages.Tables.{log_of};
@@ -16,7 +16,7 @@ use frame::{Wait, block_at};
 use lists::OutOfMemory;
 use program::{Block, Terminator};
 use schedule_core::{
-    Machine, Places, Strand, StrandPause, Verified, advance_strand, blank_strand, fill_strand,
+    Decoded, Machine, Strand, StrandPause, Verified, advance_strand, blank_strand, fill_strand,
     fill_strand_ahead,
 };
 use std::alloc::Global;
@@ -97,7 +97,7 @@ fn ends_by_reattach(block: &Block, index: usize) -> bool
 pub struct WorkerStrand<'p, L: Bench> {
     pub(crate) bench: PhantomData<L>,
     pub(crate) verified: &'p Verified,
-    pub(crate) places: &'p Places,
+    pub(crate) code: &'p Decoded,
     pub(crate) strand: Strand,
     pub(crate) standing: Standing,
 }
@@ -108,7 +108,7 @@ impl<L: Bench> Drop for WorkerStrand<'_, L> {
         let WorkerStrand {
             bench: _,
             verified: _,
-            places: _,
+            code: _,
             strand: _,
             standing: _,
         } = self;
@@ -117,14 +117,14 @@ impl<L: Bench> Drop for WorkerStrand<'_, L> {
 
 impl<'p, L: Bench> Model for WorkerStrand<'p, L> {
     ghost use Rattle.std.specs.Prelude.{◌≡◌};
-    ghost use Rattle.schedule_workers.specs.Starts.{ArePlaces};
+    ghost use Rattle.schedule_core.specs.serial_machine.Decoding.{IsCodeOf};
     ghost use Rattle.shared_run.specs.Strands.{Apart, Holds};
 
     ghost Value = { Apart };
 
     ghost view = { λ s. record { strand = s.strand; standing = s.standing } };
 
-    ghost invariant = { λ s. (s.verified.now ≡ L.code) × ArePlaces s.verified.now s.places.now × Holds s.verified.now s.places.now s.strand s.standing };
+    ghost invariant = { λ s. (s.verified.now ≡ L.code) × IsCodeOf s.verified.now s.code.now × Holds s.verified.now s.code.now.places s.strand s.standing };
 }
 
 impl<'p, L: Bench> WorkerStrand<'p, L> {
@@ -136,17 +136,17 @@ impl<'p, L: Bench> WorkerStrand<'p, L> {
     pub fn new(
         alloc: Global,
         verified: &'p Verified,
-        places: &'p Places,
+        code: &'p Decoded,
     ) -> Result<WorkerStrand<'p, L>, OutOfMemory>
         requires code { verified.now ≡ L.code }
-        requires places { ArePlaces verified.now places.now }
+        requires decoded { IsCodeOf verified.now code.now }
         ensures { IfOk result (λ strand. strand.standing ≡ Standing.Blank) }
     {
         let strand = blank_strand(alloc, verified)?;
         Ok(WorkerStrand {
             bench: PhantomData,
             verified,
-            places,
+            code,
             strand,
             standing: Standing::Blank,
         })
@@ -273,7 +273,7 @@ impl<'p, L: Bench> WorkerStrand<'p, L> {
             .done
             .saturating_add(count)
             .min(MOST_INSTRUCTIONS);
-        match advance_strand(&mut self.strand, self.verified, self.places, limit) {
+        match advance_strand(&mut self.strand, self.verified, self.code, limit) {
             Ok(pause) => {
                 self.standing = Standing::of(pause);
                 self.standing
@@ -293,7 +293,13 @@ impl<'p, L: Bench> WorkerStrand<'p, L> {
         ensures only { self.new.strand ≡ record self.old.strand { cells = self.new.strand.cells } }
         ensures filled { log_of self.new.strand.cells.log ≡ filled_log (log_of self.old.strand.cells.log) at page.now }
     {
-        fill_strand(&mut self.strand, self.verified, self.places, at, page);
+        fill_strand(
+            &mut self.strand,
+            self.verified,
+            self.code.places(),
+            at,
+            page,
+        );
         self.standing = Standing::Going;
     }
 
@@ -315,7 +321,13 @@ impl<'p, L: Bench> WorkerStrand<'p, L> {
         if self.standing != Standing::Going {
             return false;
         }
-        fill_strand_ahead(&mut self.strand, self.verified, self.places, at, page)
+        fill_strand_ahead(
+            &mut self.strand,
+            self.verified,
+            self.code.places(),
+            at,
+            page,
+        )
     }
 }
 
@@ -329,7 +341,7 @@ impl<L: Bench> WorkerStrand<'_, L> {
         let WorkerStrand {
             bench: _,
             verified: _,
-            places: _,
+            code: _,
             strand,
             standing,
         } = self;

@@ -1,11 +1,11 @@
 //! The calls of a worker.
 ghost use Rattle.std.specs.Prelude.{◌≡◌};
-ghost use Rattle.shared_run.specs.schedule_workers.Starts.{ArePlaces};
+ghost use Rattle.shared_run.specs.serial_machine.Decoding.{IsCodeOf};
 ghost use Rattle.shared_run.specs.schedule_core.FrameStrands.{IsMadeOf};
 
 use lists::OutOfMemory;
 use shared_run::{
-    Bench, Board, Claimed, Committed, FrameStrand, Loaded, Places, Published, Seat, Standing,
+    Bench, Board, Claimed, Committed, Decoded, FrameStrand, Loaded, Published, Seat, Standing,
     Stepped, Ticket, Verified, WorkerStrand, advance, blank_frame_strand, clear,
 };
 use std::alloc::Global;
@@ -22,17 +22,17 @@ pub struct Player<'p, L: Bench> {
 pub fn players_of<'p, L: Bench>(
     alloc: Global,
     verified: &'p Verified,
-    places: &'p Places,
+    code: &'p Decoded,
     count: usize,
 ) -> Result<Vec<Player<'p, L>>, OutOfMemory>
     requires code { verified.now ≡ L.code }
-    requires places { ArePlaces verified.now places.now }
+    requires decoded { IsCodeOf verified.now code.now }
 {
     let mut players = Vec::new(alloc);
     for _player in 0..count {
         players.push(Player {
-            frame_strand: blank_frame_strand(alloc, verified, places)?,
-            strand: WorkerStrand::new(alloc, verified, places)?,
+            frame_strand: blank_frame_strand(alloc, verified, code.places())?,
+            strand: WorkerStrand::new(alloc, verified, code)?,
         })?;
     }
     Ok(players)

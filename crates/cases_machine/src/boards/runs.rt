@@ -1,6 +1,6 @@
 //! Runs from the start to the end.
 ghost use Rattle.std.specs.Prelude.{◌≡◌, ◌<◌, vec_len, IfOk};
-ghost use Rattle.shared_run.specs.schedule_workers.Starts.{ArePlaces};
+ghost use Rattle.shared_run.specs.serial_machine.Decoding.{IsCodeOf};
 ghost use Rattle.shared_run.specs.store.Made.{HasGlobalCells, IsMadeFor};
 
 use crate::boards::calls::{Player, players_of};
@@ -9,8 +9,8 @@ use crate::report::Report;
 use lists::OutOfMemory;
 use serial_machine::serial_run;
 use shared_run::{
-    Bench, Board, Finished, History, Keeping, Memory, Places, Seat, Shared, Start, Verified,
-    places_of, replay,
+    Bench, Board, Decoded, Finished, History, Keeping, Memory, Seat, Shared, Start, Verified,
+    replay,
 };
 use std::alloc::Global;
 use std::marker::Brand;
@@ -25,13 +25,13 @@ const MOST_CALLS: u32 = 40_000;
 struct Run<'a> {
     alloc: Global,
     verified: &'a Verified,
-    places: &'a Places,
+    code: &'a Decoded,
     arguments: &'a [i64],
     memory: &'a Memory,
     wanted: Ending,
     workers: usize,
     seed: u64,
-    ghost placed: { ArePlaces verified.now places.now },
+    ghost decoded: { IsCodeOf verified.now code.now },
     ghost made: { IsMadeFor verified.now memory.now },
     ghost cells: { HasGlobalCells verified.now memory.now },
 }
@@ -121,7 +121,7 @@ fn played<'a, L: Bench>(
     requires one_each { blank.parts ≡ run.now.workers }
 {
     let (alloc, workers) = (run.alloc, run.workers);
-    let mut players = players_of(alloc, run.verified, run.places, workers)?;
+    let mut players = players_of(alloc, run.verified, run.code, workers)?;
     let players = players.as_mut_slice();
     if run.seed / 4 % 2 == run.seed % 2 {
         let Ok((mut shared, mut seats)) = Shared::<L>::new(
@@ -213,12 +213,12 @@ pub fn are_right(
     seeds: &Range<u64>,
     report: &mut Report,
 ) -> Result<bool, OutOfMemory> {
-    let places = places_of(alloc, verified)?;
+    let code = Decoded::of(alloc, verified)?;
     let memory = memory_of(alloc, verified, begin.0)?;
     let mut run = Run {
         alloc,
         verified,
-        places: &places,
+        code: &code,
         arguments: begin.1,
         memory: &memory,
         wanted,

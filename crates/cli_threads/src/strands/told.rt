@@ -5,9 +5,7 @@ ghost use Rattle.shared_run.specs.store.Made.{IsMadeFor};
 
 use crate::strands::walk::told_along;
 use lists::OutOfMemory;
-use shared_run::{
-    Bench, Board, Entry, Keeping, Memory, RunFault, Verified, WorkerStrand, places_of,
-};
+use shared_run::{Bench, Board, Decoded, Entry, Keeping, Memory, RunFault, Verified, WorkerStrand};
 use std::alloc::Global;
 use std::marker::Brand;
 use std::sync::ledger::Blank;
@@ -85,8 +83,8 @@ fn run_by<L: Bench>(
         Keeping::Nothing,
         blank,
     )?;
-    if let Ok(places) = places_of(alloc, verified)
-        && let Ok(strand) = WorkerStrand::new(alloc, verified, &places)
+    if let Ok(code) = Decoded::of(alloc, verified)
+        && let Ok(strand) = WorkerStrand::new(alloc, verified, &code)
     {
         let program = verified.program();
         if let Ok(told) = told_along(alloc, program, board, seats, strand, entries, has_scene) {

@@ -2,7 +2,6 @@
 use Rattle.std.specs.Prelude.{◌≡◌, ⊤, ℕ, ◌<◌, ◌≤◌, Bool, true, false, is_some}
 use Rattle.semantics.specs.Events.{Machine}
 use Rattle.program.specs.declared.function.Program.{Program}
-use Rattle.schedule_workers.specs.Starts.{ArePlaces}
 use Rattle.shared_run.specs.Resting.{IsAtRest, StaysPut, begun_in}
 use Rattle.shared_run.specs.Story.{Origin}
 use Rattle.kernel_calls.specs.declared.hosted.met.Met.{Met}
@@ -18,11 +17,9 @@ start_of program x = begun_in program x.board
 -- events that were enabled one after the other have led here from this start
 pub record RunsFrom (o : Origin) (x : HostedRun) : Type 0 where
   pub rests : IsAtRest o x.board
-  pub places : ArePlaces o.program x.places
 
 -- the worker's strand is one of this module
 pub record WorksFor (program : Program) (x : HostedWorker) : Type 0 where
-  pub places : ArePlaces program x.places
   pub strand : StaysPut program x.strand
 
 -- with these counts

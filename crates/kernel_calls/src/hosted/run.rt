@@ -3,7 +3,7 @@ ghost use Rattle.kernel_calls.specs.hosted.Hosted.{IsProgress, IsTold, RunsFrom,
 ghost use Rattle.kernel_calls.specs.declared.hosted.met.Met.TheVariants.{Stopped};
 ghost use Rattle.schedule_core.specs.Admission.{IsAdmitted};
 ghost use Rattle.schedule_core.specs.store.Made.{IsMadeFor};
-ghost use Rattle.schedule_workers.specs.Starts.{ArePlaces};
+ghost use Rattle.serial_machine.specs.Decoding.{IsCodeOf};
 ghost use Rattle.shared_run.specs.Answer.{IsSerialAnswer, LeadTo};
 ghost use Rattle.shared_run.specs.Resting.{IsAtRest, StaysPut};
 ghost use Rattle.shared_run.specs.Story.{origin, reached};
@@ -12,7 +12,7 @@ use crate::hosted::met::{Met, Progress, progress_of, told};
 use crate::hosted::stop::Stop;
 use crate::hosted::worker::{Ears, HostedWorker};
 use lists::OutOfMemory;
-use schedule_core::SharedPlaces;
+use serial_machine::Decoded;
 use shared_run::turns::{Habits, Met as Served, Offers, meet};
 use shared_run::{
     Bench, Board, BoardRest, Event, Finished, Keeping, Memory, RunFault, StrandRest, Verified,
@@ -24,7 +24,6 @@ use std::sync::ledger::Blank;
 /// A run between two calls of its host.
 pub struct HostedRun {
     pub(crate) board: BoardRest,
-    pub(crate) places: SharedPlaces,
     pub(crate) offers: Offers,
     /// The run is not to go on once it has done so many instructions.
     pub(crate) fuel: u64,
@@ -36,7 +35,6 @@ impl Drop for HostedRun {
     fn drop(self) {
         let HostedRun {
             board: _,
-            places: _,
             offers: _,
             fuel: _,
             stop: _,
@@ -44,7 +42,7 @@ impl Drop for HostedRun {
     }
 }
 
-/// A board before the first event, and where its module's objects begin.
+/// A board before the first event.
 fn board_as<L: Bench>(
     alloc: Global,
     verified: &Verified,
@@ -52,7 +50,7 @@ fn board_as<L: Bench>(
     memory: Memory,
     workers: usize,
     blank: Blank,
-) -> Result<(BoardRest, SharedPlaces), RunFault>
+) -> Result<BoardRest, RunFault>
     requires made { IsMadeFor verified.now memory }
     requires code { verified.now ≡ L.code }
     requires arguments { arguments.now ≡ L.arguments }
@@ -61,9 +59,8 @@ fn board_as<L: Bench>(
     requires name { blank.name ≡ L.name }
     requires parts { blank.parts ≡ L.parts }
     requires one_each { blank.parts ≡ workers }
-    ensures rests { IfOk result (λ made. IsAtRest (origin L.code L.arguments L.memory L.crew) made.0) }
-    ensures new { IfOk result (λ made. made.0.history.events ≡ []) }
-    ensures places { IfOk result (λ made. ArePlaces L.code made.1) }
+    ensures rests { IfOk result (IsAtRest (origin L.code L.arguments L.memory L.crew)) }
+    ensures new { IfOk result (λ made. made.history.events ≡ []) }
     ensures admitted { IsAdmitted verified.now arguments.now memory workers result }
     ensures not_stopped { result ≢ Err RunFault.Stopped }
 {
@@ -76,10 +73,7 @@ fn board_as<L: Bench>(
         Keeping::Events,
         blank,
     )?;
-    let Ok(places) = board.machine().share_places() else {
-        return Err(RunFault::OutOfMemory);
-    };
-    Ok((board.rest(), places))
+    Ok(board.rest())
 }
 
 /// Tells those who go on outside whether others wait. Where memory was refused to a worker the run cannot go on for any.
@@ -104,7 +98,7 @@ fn meet_as<L: Bench>(
     board: BoardRest,
     offers: &mut Offers,
     fuel: u64,
-    places: &SharedPlaces,
+    code: &Decoded,
     number: u8,
     strand: StrandRest,
     habits: &mut Habits,
@@ -114,7 +108,7 @@ fn meet_as<L: Bench>(
     requires parts { blank.parts ≡ L.parts }
     requires one { blank.parts ≡ 1 }
     requires board { IsAtRest (origin L.code L.arguments L.memory L.crew) board }
-    requires places { ArePlaces verified.now places.now }
+    requires decoded { IsCodeOf verified.now code.now }
     requires strand { StaysPut verified.now strand }
     ensures board { IsAtRest (origin L.code L.arguments L.memory L.crew) result.0 }
     ensures strand { StaysPut L.code result.1 }
@@ -124,7 +118,7 @@ fn meet_as<L: Bench>(
     let has_seat = usize::from(number) < board.workers();
     let own = if has_seat { number } else { 0 };
     let (mut board, mut seat) = board.wake::<L>(alloc, verified, blank, own);
-    let mut strand = strand.wake::<L>(verified, places.get());
+    let mut strand = strand.wake::<L>(verified, code);
     let done = board.machine().instructions();
     let (served, offered) = match told(board.end(), done, fuel, Served::Work) {
         Met::Work if has_seat => meet(&mut board, offers, &mut seat, &mut strand, habits),
@@ -240,13 +234,10 @@ impl HostedRun {
         ensures not_stopped { result ≢ Err RunFault.Stopped }
     {
         let blank = Blank::new(workers as u64);
-        let (board, places) = board_as::<Brand>(
-            alloc, verified, arguments, memory, workers, blank,
-        )?;
+        let board = board_as::<Brand>(alloc, verified, arguments, memory, workers, blank)?;
         match Offers::new(alloc, workers) {
             Ok(offers) => Ok(HostedRun {
                 board,
-                places,
                 offers,
                 fuel,
                 stop,
@@ -272,7 +263,6 @@ impl HostedRun {
     {
         Ok(HostedWorker {
             number,
-            places: self.places.share()?,
             strand: StrandRest::new(alloc, verified)?,
             habits: Habits::new(alloc),
             ears: Ears {
@@ -288,8 +278,10 @@ impl HostedRun {
         self,
         alloc: Global,
         verified: &Verified,
+        code: &Decoded,
         worker: HostedWorker,
     ) -> (HostedRun, HostedWorker, (Met, usize))
+        requires decoded { IsCodeOf verified.now code.now }
         requires runs { RunsFrom (start_of verified.now self) self }
         requires works { WorksFor verified.now worker }
         ensures runs { RunsFrom (start_of verified.now self) result.0 }
@@ -305,12 +297,11 @@ impl HostedRun {
         }
         let HostedRun {
             board,
-            places,
             mut offers,
             fuel,
             stop,
         } = self;
-        let (number, own, strand, mut habits, ears) = worker.parts();
+        let (number, strand, mut habits, ears) = worker.parts();
         let (board, strand, met) = meet_as::<Brand>(
             alloc,
             verified,
@@ -318,21 +309,19 @@ impl HostedRun {
             board,
             &mut offers,
             fuel,
-            &places,
+            code,
             number,
             strand,
             &mut habits,
         );
         let run = HostedRun {
             board,
-            places,
             offers,
             fuel,
             stop,
         };
         let worker = HostedWorker {
             number,
-            places: own,
             strand,
             habits,
             ears,
@@ -350,7 +339,6 @@ impl HostedRun {
     {
         let HostedRun {
             board,
-            places,
             offers,
             fuel,
             stop,
@@ -358,7 +346,6 @@ impl HostedRun {
         let (board, progress) = look_as::<Brand>(alloc, verified, Blank::new(1), board);
         let run = HostedRun {
             board,
-            places,
             offers,
             fuel,
             stop,
@@ -386,7 +373,6 @@ impl HostedRun {
     {
         let HostedRun {
             board,
-            places,
             offers,
             fuel,
             stop,
@@ -394,7 +380,6 @@ impl HostedRun {
         let (board, events) = events_as::<Brand>(alloc, verified, Blank::new(1), board, most);
         let run = HostedRun {
             board,
-            places,
             offers,
             fuel,
             stop,
@@ -414,7 +399,6 @@ impl HostedRun {
     {
         let HostedRun {
             board,
-            places,
             offers,
             fuel,
             stop,
@@ -423,7 +407,6 @@ impl HostedRun {
             Ok(finished) => Ok(finished),
             Err(board) => Err(HostedRun {
                 board,
-                places,
                 offers,
                 fuel,
                 stop,

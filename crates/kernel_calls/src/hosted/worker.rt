@@ -1,10 +1,10 @@
 ghost use Rattle.std.specs.Prelude.{◌≡◌};
 ghost use Rattle.kernel_calls.specs.hosted.Hosted.{WorksFor};
-ghost use Rattle.schedule_workers.specs.Starts.{ArePlaces};
+ghost use Rattle.serial_machine.specs.Decoding.{IsCodeOf};
 ghost use Rattle.shared_run.specs.Resting.{StaysPut};
 
 use crate::hosted::stop::Stop;
-use schedule_core::SharedPlaces;
+use serial_machine::Decoded;
 use shared_run::turns::{Habits, Hunger, turn};
 use shared_run::{Bench, StrandRest, Verified};
 use std::marker::Brand;
@@ -32,7 +32,6 @@ impl Hunger for Ears {
 /// A worker with its strand.
 pub struct HostedWorker {
     pub(crate) number: u8,
-    pub(crate) places: SharedPlaces,
     pub(crate) strand: StrandRest,
     pub(crate) habits: Habits,
     pub(crate) ears: Ears,
@@ -43,7 +42,6 @@ impl Drop for HostedWorker {
     fn drop(self) {
         let HostedWorker {
             number: _,
-            places: _,
             strand: _,
             habits: _,
             ears: _,
@@ -55,54 +53,51 @@ impl Drop for HostedWorker {
 fn turn_as<L: Bench>(
     strand: StrandRest,
     verified: &Verified,
-    places: &SharedPlaces,
+    code: &Decoded,
     habits: &mut Habits,
     ears: &Ears,
 ) -> StrandRest
     requires code { verified.now ≡ L.code }
-    requires places { ArePlaces verified.now places.now }
+    requires decoded { IsCodeOf verified.now code.now }
     requires rests { StaysPut verified.now strand }
     ensures { StaysPut L.code result }
 {
-    let mut strand = strand.wake::<L>(verified, places.get());
+    let mut strand = strand.wake::<L>(verified, code);
     turn(&mut strand, habits, ears);
     strand.rest()
 }
 
 impl HostedWorker {
-    /// Its number, its places, its strand, what it remembers, and what it hears.
-    pub(crate) fn parts(self) -> (u8, SharedPlaces, StrandRest, Habits, Ears)
+    /// Its number, its strand, what it remembers, and what it hears.
+    pub(crate) fn parts(self) -> (u8, StrandRest, Habits, Ears)
         ensures number { result.0 ≡ self.number }
-        ensures places { result.1 ≡ self.places }
-        ensures strand { result.2 ≡ self.strand }
+        ensures strand { result.1 ≡ self.strand }
     {
         let HostedWorker {
             number,
-            places,
             strand,
             habits,
             ears,
         } = self;
-        (number, places, strand, habits, ears)
+        (number, strand, habits, ears)
     }
 
     /// Goes on outside of the board, as long as nothing is wanted of it and the stop is not set.
-    pub fn turn(self, verified: &Verified) -> HostedWorker
-        requires { WorksFor verified.now self }
+    pub fn turn(self, verified: &Verified, code: &Decoded) -> HostedWorker
+        requires works { WorksFor verified.now self }
+        requires decoded { IsCodeOf verified.now code.now }
         ensures works { WorksFor verified.now result }
         ensures number { result.number ≡ self.number }
     {
         let HostedWorker {
             number,
-            places,
             strand,
             mut habits,
             ears,
         } = self;
-        let strand = turn_as::<Brand>(strand, verified, &places, &mut habits, &ears);
+        let strand = turn_as::<Brand>(strand, verified, code, &mut habits, &ears);
         HostedWorker {
             number,
-            places,
             strand,
             habits,
             ears,
