@@ -1,4 +1,5 @@
--- What a run of one worker alone says of its gate. A strand does 65,536 instructions and its border's at most, and one at least.
+-- What a run of one worker alone says of its gate. A strand does 65,536 instructions and its border's at most, and one
+-- at least.
 use Rattle.std.specs.Prelude.{ℕ, ◌*◌, ◌<◌, ◌≤◌}
 use Rattle.deque_pool.specs.declared.gate.Go.{Go}
 use Rattle.deque_pool.specs.declared.gate.Go.TheVariants.{On, Stop}

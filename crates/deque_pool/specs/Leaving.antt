@@ -16,7 +16,8 @@ is_stopped LeftStopped = true
 is_stopped Starved = false
 is_stopped Over = false
 
--- memory was refused where it was refused to one of them; else the gate stopped the run where it stopped one of them; else they go on
+-- memory was refused where it was refused to one of them; else the gate stopped the run where it stopped one of them;
+-- else they go on
 abbrev pub outlook_of : List Left → Outlook
 outlook_of left =
     if list_any is_starved left then outlook.OutOfMemory

@@ -1,5 +1,24 @@
 -- A worker's tickets: a list in time, which three kinds of atomic step change.
-use Rattle.std.specs.Prelude.{◌≡◌, ◌≢◌, ℕ, ◌==◌, ◌+◌, ◌≤◌, ◌<◌, ◌⊎◌, true, false, List, [], ◌∷◌, ◌++◌, Bool, length, sum_by, if◌then◌else◌}
+use Rattle.std.specs.Prelude.{
+  ◌≡◌,
+  ◌≢◌,
+  ℕ,
+  ◌==◌,
+  ◌+◌,
+  ◌≤◌,
+  ◌<◌,
+  ◌⊎◌,
+  true,
+  false,
+  List,
+  [],
+  ◌∷◌,
+  ◌++◌,
+  Bool,
+  length,
+  sum_by,
+  if◌then◌else◌,
+}
 use mathlib.Core.Option.{some}
 use lib.ListN.{get_elem?}
 use Rattle.shared_run.specs.schedule_core.declared.ready.Spot.{Spot as Ticket}
@@ -14,7 +33,8 @@ Turn = ℕ × Move
 -- the steps, the latest first, lead from the empty list to these tickets, the oldest first
 abbrev pub Leads : List Turn → List Ticket → Type 0
 Leads [] tickets = tickets ≡ []
-Leads ((seat, Offer t) ∷ log) tickets = (seat ≡ 0) × ((before : List Ticket) × (tickets ≡ before ++ t ∷ []) × Leads log before)
+Leads ((seat, Offer t) ∷ log) tickets = (seat ≡ 0) × ((before : List Ticket) × (tickets ≡ before ++ t ∷ []) ×
+    Leads log before)
 Leads ((seat, Newest t) ∷ log) tickets = (seat ≡ 0) × Leads log (tickets ++ t ∷ [])
 Leads ((seat, Oldest t) ∷ log) tickets = (seat ≢ 0) × Leads log (t ∷ tickets)
 
@@ -29,7 +49,8 @@ GoesOnFrom log seen = (newer : List Turn) × (log ≡ newer ++ seen)
 
 -- what a seat knows is its own steps, whether it is the owner's, and what the history was once
 abbrev pub FitsSeat : List Turn → ℕ → View → Type 0
-FitsSeat log seat v = (v.lives ≡ true → moves_of seat log ≡ v.moves) × (v.owns ≡ (seat == 0)) × GoesOnFrom log v.seen × GoesOnFrom log v.told
+FitsSeat log seat v = (v.lives ≡ true → moves_of seat log ≡ v.moves) × (v.owns ≡ (seat == 0)) × GoesOnFrom log v.seen ×
+    GoesOnFrom log v.told
 
 -- the rule: the list has one history, of all seats' steps, and at each moment the tickets are what it leads to
 abbrev pub IsPlayed : List Ticket → List View → Type 0
@@ -40,8 +61,8 @@ IsPlayed tickets views =
     × ((seat : ℕ) → length views ≤ seat → moves_of seat log ≡ [])
     × (0 < length views)
 
--- a seat that had made and seen this makes a step more: what it sees then goes on from that by steps of others and this one, has no other steps of the seat,
--- and leads to some tickets
+-- a seat that had made and seen this makes a step more: what it sees then goes on from that by steps of others and this
+-- one, has no other steps of the seat, and leads to some tickets
 pub record Goes (moves : List Move) (seen : List Turn) (m : Move) (now : List Turn) : Type 0 where
   pub seat : ℕ
   pub others : List Turn
@@ -50,7 +71,8 @@ pub record Goes (moves : List Move) (seen : List Turn) (m : Move) (now : List Tu
   pub tickets : List Ticket
   pub leads : Leads now tickets
 
--- steps of others, after what a seat has seen, lead to so many tickets at most. Others may take all that is there, so this does not say that they did
+-- steps of others, after what a seat has seen, lead to so many tickets at most. Others may take all that is there, so
+-- this does not say that they did
 pub record MayHaveFew (most : ℕ) (moves : List Move) (seen : List Turn) : Type 0 where
   pub seat : ℕ
   pub others : List Turn

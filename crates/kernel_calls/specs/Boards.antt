@@ -1,5 +1,27 @@
 -- What a host is told of a run on threads of its own.
-use Rattle.std.specs.Prelude.{◌≡◌, ◌≢◌, ◌⊎◌, ◌+◌, ◌-◌, ◌^◌, ◌<◌, ◌≤◌, ℕ, ℤ, List, [], length, min, sum, is_some, true, false, Option, Some, None}
+use Rattle.std.specs.Prelude.{
+  ◌≡◌,
+  ◌≢◌,
+  ◌⊎◌,
+  ◌+◌,
+  ◌-◌,
+  ◌^◌,
+  ◌<◌,
+  ◌≤◌,
+  ℕ,
+  ℤ,
+  List,
+  [],
+  length,
+  min,
+  sum,
+  is_some,
+  true,
+  false,
+  Option,
+  Some,
+  None,
+}
 use Rattle.program.specs.declared.function.Program.{Program}
 use Rattle.shared_run.specs.Answer.{IsSerialAnswer, LeadTo}
 use Rattle.shared_run.specs.Story.{Origin, origin}
@@ -7,7 +29,17 @@ use Rattle.store.specs.declared.outcome.Finished.{Finished}
 use Rattle.kernel_calls.specs.Held.{OfHeld, closed}
 use Rattle.kernel_calls.specs.Replayed.{StandsIn, bad_workers, long_schedule, not_ended}
 use Rattle.kernel_calls.specs.Runs.{Run, machine_of}
-use Rattle.kernel_calls.specs.Told.{Shows, bad_arguments, done, memory_from, other_cells, out_of_fuel, out_of_memory, sizes_in, stopped}
+use Rattle.kernel_calls.specs.Told.{
+  Shows,
+  bad_arguments,
+  done,
+  memory_from,
+  other_cells,
+  out_of_fuel,
+  out_of_memory,
+  sizes_in,
+  stopped,
+}
 use Rattle.schedule_text.specs.ScheduleText.{IsSchedule}
 use Rattle.kernel_calls.specs.Words as words
 use Rattle.kernel_calls.specs.declared.told.Outcome.{Outcome}
@@ -41,7 +73,8 @@ IsSetStatus n = (n ≡ done) ⊎ (n ≡ closed)
 
 -- of a meeting of two that hold something
 abbrev pub IsMetStatus : ℕ → Type 0
-IsMetStatus n = (n ≡ work) ⊎ ((n ≡ idle) ⊎ ((n ≡ done) ⊎ ((n ≡ out_of_memory) ⊎ ((n ≡ out_of_fuel) ⊎ ((n ≡ stopped) ⊎ (n ≡ foreign))))))
+IsMetStatus n = (n ≡ work) ⊎
+    ((n ≡ idle) ⊎ ((n ≡ done) ⊎ ((n ≡ out_of_memory) ⊎ ((n ≡ out_of_fuel) ⊎ ((n ≡ stopped) ⊎ (n ≡ foreign))))))
 
 abbrev pub IsMeetStatus : ℕ → Type 0
 IsMeetStatus n = (n ≡ closed) ⊎ IsMetStatus n
@@ -77,7 +110,8 @@ pub record Begins (program : Program) (arguments row : List ℤ) (workers fuel :
 
 -- of the program that is held
 abbrev pub BeginsAt : Option Program → List ℤ → List ℤ → ℕ → ℕ → Option Run → Type 0
-BeginsAt handle arguments row workers fuel state = OfHeld handle (λ program. Begins program arguments row workers fuel state)
+BeginsAt handle arguments row workers fuel state =
+    OfHeld handle (λ program. Begins program arguments row workers fuel state)
 
 -- ---- a run goes on
 
@@ -124,7 +158,8 @@ IsGranted more old new = OfRun old (λ run. new ≡ Some (WithMore more run))
 
 -- ---- a run's answer
 
--- the outcome is the serial meaning's of the run that is held, its events lead there, and the row has the numbers of its globals
+-- the outcome is the serial meaning's of the run that is held, its events lead there, and the row has the numbers of
+-- its globals
 pub record AnswersSerially (state : Option Run) (row : List ℤ) (outcome : Outcome) : Type 0 where
   pub run : Run
   pub held : state ≡ Some run
@@ -148,7 +183,8 @@ IsSpelledStatus n = (n ≡ done) ⊎ ((n ≡ closed) ⊎ ((n ≡ long_schedule) 
 
 -- the schedule of its events is written, as far as there is room
 abbrev pub IsSpelled : List ℕ → List ℕ → ℕ → Run → Type 0
-IsSpelled before after needed run = (text : List ℕ) × IsSchedule text run.events × words.StandsIn before text after needed
+IsSpelled before after needed run = (text : List ℕ) × IsSchedule text run.events ×
+    words.StandsIn before text after needed
 
 -- no text is the schedule of its events: they are too many, or their text is too long
 abbrev pub HasNoSchedule : Run → Type 0

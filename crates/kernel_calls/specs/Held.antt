@@ -27,8 +27,10 @@ pub record Opens (text : List ℕ) (verdict : Verdict) (handle : Option Program)
 
 -- ---- a run
 
--- the serial run of the program that is held, from the numbers before, comes to the outcome and to the numbers after, within the fuel
-pub record RunsHeld (handle : Option Program) (fuel : ℕ) (arguments before after : List ℤ) (outcome : Outcome) : Type 0 where
+-- the serial run of the program that is held, from the numbers before, comes to the outcome and to the numbers after,
+-- within the fuel
+pub record RunsHeld (handle : Option Program) (fuel : ℕ) (arguments before after : List ℤ)
+    (outcome : Outcome) : Type 0 where
   pub program : Program
   pub held : handle ≡ Some program
   pub runs : RunsProgram program fuel arguments before after outcome
@@ -54,7 +56,8 @@ pub record HasOtherCellsHeld (handle : Option Program) (row : List ℤ) : Type 0
 -- ---- many
 
 -- what `tapirvm_run` promises of its outcome
-pub record IsRun (handle : Option Program) (fuel : ℕ) (arguments before after : List ℤ) (outcome : Outcome) : Type 0 where
+pub record IsRun (handle : Option Program) (fuel : ℕ) (arguments before after : List ℤ)
+    (outcome : Outcome) : Type 0 where
   pub ran : outcome.status ≡ done → RunsHeld handle fuel arguments before after outcome
   pub exceeds : outcome.status ≡ out_of_fuel → ExceedsHeld handle fuel arguments before
   pub lacks : outcome.status ≡ bad_arguments → LacksHeld handle arguments outcome.requirement
@@ -68,7 +71,9 @@ abbrev pub numbers_of : ℕ → ℕ → List ℤ → List ℤ
 numbers_of each row all = take each (drop (row * each) all)
 
 -- each outcome is that of a run over its row, and what no row has stays as it was
-pub record AreRuns (handle : Option Program) (fuel arguments_each cells_each : ℕ) (arguments before after : List ℤ) (outcomes : List Outcome) : Type 0 where
+pub record AreRuns (handle : Option Program) (fuel arguments_each cells_each : ℕ) (arguments before after : List ℤ)
+    (outcomes : List Outcome) : Type 0 where
   pub runs : (row : ℕ) (outcome : Outcome) → slice_get outcomes row ≡ Some outcome →
-      IsRun handle fuel (numbers_of arguments_each row arguments) (numbers_of cells_each row before) (numbers_of cells_each row after) outcome
+      IsRun handle fuel (numbers_of arguments_each row arguments) (numbers_of cells_each row before)
+      (numbers_of cells_each row after) outcome
   pub others : drop (length outcomes * cells_each) after ≡ drop (length outcomes * cells_each) before

@@ -1,5 +1,30 @@
 -- What a host is told of what a module has.
-use Rattle.std.specs.Prelude.{◌≡◌, ◌≢◌, ◌⊎◌, ◌-◌, ◌^◌, ◌≤◌, ◌<◌, ◌-ℤ◌, ℕ, ℤ, List, [], length, map, min, sum, take, Option, Some, None, true, false, slice_get, pos}
+use Rattle.std.specs.Prelude.{
+  ◌≡◌,
+  ◌≢◌,
+  ◌⊎◌,
+  ◌-◌,
+  ◌^◌,
+  ◌≤◌,
+  ◌<◌,
+  ◌-ℤ◌,
+  ℕ,
+  ℤ,
+  List,
+  [],
+  length,
+  map,
+  min,
+  sum,
+  take,
+  Option,
+  Some,
+  None,
+  true,
+  false,
+  slice_get,
+  pos,
+}
 use Rattle.linear.specs.Forms.{Combination}
 use Rattle.linear.specs.declared.form.Term.{Term}
 use Rattle.program.specs.declared.annotation.Inequality.{Inequality}
@@ -78,10 +103,12 @@ pub record IsBound (number : ℕ) (alone other : Combination) (bound : ℤ) : Ty
 
 -- one of these requirements sets the argument at least at this number, or at most
 abbrev pub SetsLow : ℕ → List Inequality → ℤ → Type 0
-SetsLow number requirements bound = (k : ℕ) × (r : Inequality) × (slice_get requirements k ≡ Some r) × IsBound number r.high r.low bound
+SetsLow number requirements bound = (k : ℕ) × (r : Inequality) × (slice_get requirements k ≡ Some r) ×
+    IsBound number r.high r.low bound
 
 abbrev pub SetsHigh : ℕ → List Inequality → ℤ → Type 0
-SetsHigh number requirements bound = (k : ℕ) × (r : Inequality) × (slice_get requirements k ≡ Some r) × IsBound number r.low r.high bound
+SetsHigh number requirements bound = (k : ℕ) × (r : Inequality) × (slice_get requirements k ≡ Some r) ×
+    IsBound number r.low r.high bound
 
 -- each bound that is told is one that a requirement sets
 pub record IsRangeOf (number : ℕ) (requirements : List Inequality) (range : Range) : Type 0 where

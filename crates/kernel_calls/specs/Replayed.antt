@@ -32,7 +32,8 @@ long_schedule = 902
 -- of events
 abbrev pub IsReplayStatus : ℕ → Type 0
 IsReplayStatus n =
-    (n ≡ done) ⊎ ((n ≡ not_ended) ⊎ ((n ≡ bad_arguments) ⊎ ((n ≡ bad_workers) ⊎ ((n ≡ other_cells) ⊎ (n ≡ out_of_memory)))))
+    (n ≡ done) ⊎ ((n ≡ not_ended) ⊎
+    ((n ≡ bad_arguments) ⊎ ((n ≡ bad_workers) ⊎ ((n ≡ other_cells) ⊎ (n ≡ out_of_memory)))))
 
 -- and of a handle
 abbrev pub IsReplayHeldStatus : ℕ → Type 0
@@ -53,7 +54,8 @@ pub record HasEndedIn (machine : running.Machine) (row : List ℤ) (outcome : Ou
   pub instructions : outcome.instructions ≡ machine.core.done
   pub peak : outcome.peak ≡ machine.core.peak
   pub globals : List NamedCells
-  pub cells : (global index : ℕ) → cell_at globals global index ≡ machine.core.memory (record { object = Shared global; index = index })
+  pub cells : (global index : ℕ) →
+      cell_at globals global index ≡ machine.core.memory (record { object = Shared global; index = index })
   pub numbers : row ≡ row_of globals
 
 -- it has not
@@ -63,7 +65,8 @@ pub record StandsIn (machine : running.Machine) (outcome : Outcome) : Type 0 whe
   pub peak : outcome.peak ≡ machine.core.peak
 
 -- the definitions' machine after these events, from the numbers of a row; it keeps the schedule theorem
-pub record IsAfter (program : Program) (arguments row : List ℤ) (workers : ℕ) (events : List Event) (machine : running.Machine) : Type 0 where
+pub record IsAfter (program : Program) (arguments row : List ℤ) (workers : ℕ) (events : List Event)
+    (machine : running.Machine) : Type 0 where
   pub taken : unmet_in program arguments ≡ None
   pub long : length row ≡ sum (sizes_in program)
   pub manned : IsNumberOfWorkers workers
@@ -71,7 +74,8 @@ pub record IsAfter (program : Program) (arguments row : List ℤ) (workers : ℕ
   pub keeps : KeepsItsSchedule program arguments (memory_from program row) workers events
 
 -- it has ended, with what the serial run comes to
-pub record EndsBy (program : Program) (arguments before after : List ℤ) (workers : ℕ) (events : List Event) (outcome : Outcome) : Type 0 where
+pub record EndsBy (program : Program) (arguments before after : List ℤ) (workers : ℕ) (events : List Event)
+    (outcome : Outcome) : Type 0 where
   pub machine : running.Machine
   pub replayed : IsAfter program arguments before workers events machine
   pub ended : HasEndedIn machine after outcome
@@ -83,7 +87,8 @@ pub record EndsBy (program : Program) (arguments before after : List ℤ) (worke
   pub peak : outcome.peak ≡ serial.depth
 
 -- it has not ended
-pub record StandsBy (program : Program) (arguments row : List ℤ) (workers : ℕ) (events : List Event) (outcome : Outcome) : Type 0 where
+pub record StandsBy (program : Program) (arguments row : List ℤ) (workers : ℕ) (events : List Event)
+    (outcome : Outcome) : Type 0 where
   pub machine : running.Machine
   pub replayed : IsAfter program arguments row workers events machine
   pub stands : StandsIn machine outcome

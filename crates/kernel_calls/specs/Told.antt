@@ -1,5 +1,24 @@
 -- What a host in C is told, by the statuses of its header.
-use Rattle.std.specs.Prelude.{◌≡◌, ◌≢◌, ◌⊎◌, ◌==◌, if◌then◌else◌, ℕ, ◌^◌, ◌-◌, ◌≤◌, List, length, map, min, sum, Option, Some, None, ℤ}
+use Rattle.std.specs.Prelude.{
+  ◌≡◌,
+  ◌≢◌,
+  ◌⊎◌,
+  ◌==◌,
+  if◌then◌else◌,
+  ℕ,
+  ◌^◌,
+  ◌-◌,
+  ◌≤◌,
+  List,
+  length,
+  map,
+  min,
+  sum,
+  Option,
+  Some,
+  None,
+  ℤ,
+}
 use Rattle.program.specs.declared.function.Global.{Global}
 use Rattle.program.specs.declared.function.Program.{Program}
 use Rattle.verifier.specs.Accepted.{IsProgramOf, IsRefused}
@@ -102,7 +121,8 @@ pub record Shows (finished : Finished) (row : List ℤ) (outcome : Outcome) : Ty
   pub numbers : row ≡ row_of finished.memory
 
 -- the program's serial run, from the numbers before, comes to the outcome and to the numbers after, within the fuel
-pub record RunsProgram (program : Program) (fuel : ℕ) (arguments before after : List ℤ) (outcome : Outcome) : Type 0 where
+pub record RunsProgram (program : Program) (fuel : ℕ) (arguments before after : List ℤ)
+    (outcome : Outcome) : Type 0 where
   pub taken : unmet_in program arguments ≡ None
   pub long : length before ≡ sum (sizes_in program)
   pub finished : Finished
@@ -118,14 +138,17 @@ pub record ExceedsProgram (program : Program) (fuel : ℕ) (arguments row : List
 
 -- so does that of the program that the text means
 abbrev pub Runs : List ℕ → ℕ → List ℤ → List ℤ → List ℤ → Outcome → Type 0
-Runs text fuel arguments before after outcome = (program : Program) × IsProgramOf text program × RunsProgram program fuel arguments before after outcome
+Runs text fuel arguments before after outcome = (program : Program) × IsProgramOf text program ×
+    RunsProgram program fuel arguments before after outcome
 
 abbrev pub Exceeds : List ℕ → ℕ → List ℤ → List ℤ → Type 0
-Exceeds text fuel arguments row = (program : Program) × IsProgramOf text program × ExceedsProgram program fuel arguments row
+Exceeds text fuel arguments row = (program : Program) × IsProgramOf text program ×
+    ExceedsProgram program fuel arguments row
 
 -- the arguments are not those of the program that the text means
 abbrev pub Lacks : List ℕ → List ℤ → ℕ → Type 0
-Lacks text arguments requirement = (program : Program) × IsProgramOf text program × (unmet_in program arguments ≡ Some requirement)
+Lacks text arguments requirement = (program : Program) × IsProgramOf text program ×
+    (unmet_in program arguments ≡ Some requirement)
 
 -- the row has not as many cells as the globals of the program that the text means
 abbrev pub HasOtherCells : List ℕ → List ℤ → Type 0

@@ -12,7 +12,8 @@ IsWatchedStatus n = (n ≡ done) ⊎ ((n ≡ other_cells) ⊎ ((n ≡ out_of_fue
 
 -- the serial run, within the fuel; it takes more; or nothing is said of it
 abbrev pub ComesTo : Program → List ℤ → List NamedCells → ℕ → Watched → Type 0
-ComesTo program arguments memory fuel (Finished done) = EndsWithinBudget program arguments memory done × (done.instructions ≤ fuel)
+ComesTo program arguments memory fuel (Finished done) = EndsWithinBudget program arguments memory done ×
+    (done.instructions ≤ fuel)
 ComesTo program arguments memory fuel OutOfFuel = TakesMore program arguments memory fuel
 ComesTo program arguments memory fuel Stopped = ⊤
 ComesTo program arguments memory fuel OutOfMemory = ⊤

@@ -19,7 +19,8 @@ IsExplained n = (n ≡ done) ⊎ ((n ≡ refused) ⊎ (n ≡ out_of_effort))
 abbrev pub IsExplainStatus : ℕ → Type 0
 IsExplainStatus n = (n ≡ out_of_memory) ⊎ IsExplained n
 
--- as many of the bytes as there is room for stand at its front, the rest of it is as it was, and `needed` is how many bytes there are
+-- as many of the bytes as there is room for stand at its front, the rest of it is as it was, and `needed` is how many
+-- bytes there are
 pub record StandsIn (before : List ℕ) (words after : List ℕ) (needed : ℕ) : Type 0 where
   pub room : after ≡ take (length before) words ++ drop (length words) before
   pub all : needed ≡ length words

@@ -27,7 +27,8 @@ pub record MayBegin (program : Program) (arguments : List ℤ) (memory : List Na
   pub cells : HasGlobalCells program memory
 
 -- the stack goes on safely, and wherever a first stack of the run stands the serial run leads from there to it
-pub record IsOnWay (program : Program) (arguments : List ℤ) (memory : List NamedCells) (places : Places) (stack : Stack) (done peak : ℕ) : Type 0 where
+pub record IsOnWay (program : Program) (arguments : List ℤ) (memory : List NamedCells) (places : Places) (stack : Stack)
+    (done peak : ℕ) : Type 0 where
   pub may : MayBegin program arguments memory
   pub globals : places.globals ≡ starts_from 0 (sizes_of memory)
   pub allocas : places.allocas ≡ map (λ (f : Function). alloca_starts f.allocas) program.functions
@@ -46,15 +47,18 @@ IsUnderWay r = IsOnWay r.program.now r.arguments.now r.memory r.places r.stack r
 
 -- of this program, from these arguments and this memory
 abbrev pub IsRunOf : Program → List ℤ → List NamedCells → LoneRun → Type 0
-IsRunOf program arguments memory r = (r.program.now ≡ program) × (r.arguments.now ≡ arguments) × (r.memory ≡ memory) × IsUnderWay r
+IsRunOf program arguments memory r = (r.program.now ≡ program) × (r.arguments.now ≡ arguments) × (r.memory ≡ memory) ×
+    IsUnderWay r
 
 -- at least one instruction was done, and not yet all that the budget allows
 abbrev pub GetsOn : LoneRun → LoneRun → Type 0
 GetsOn old new = (old.done < new.done) × (new.done < budget_of new.program.now)
 
--- why it does not begin, or does not end: 801 hands the memory back; else the arguments are taken, and the fault is 803 or 804
+-- why it does not begin, or does not end: 801 hands the memory back; else the arguments are taken, and the fault is 803
+-- or 804
 abbrev pub IsRefusal : Program → List ℤ → List NamedCells → RunFault → Type 0
-IsRefusal program arguments memory (BadArguments requirement m) = (unmet_in program arguments ≡ Some requirement) × (m ≡ memory)
+IsRefusal program arguments memory (BadArguments requirement m) = (unmet_in program arguments ≡ Some requirement) ×
+    (m ≡ memory)
 IsRefusal program arguments memory (BadWorkers m) = ⊥
 IsRefusal program arguments memory OutOfMemory = unmet_in program arguments ≡ None
 IsRefusal program arguments memory Stopped = unmet_in program arguments ≡ None

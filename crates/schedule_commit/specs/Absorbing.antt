@@ -22,7 +22,8 @@ use Rattle.schedule_workers.specs.Stalls.{Blocks, StallsAgree, last_blocks}
 -- whatever a worker's frame does by itself is safe, with other numbers in the cells of living objects at each step
 abbrev pub GoesAloneIn : Program → Machine → Type 0
 GoesAloneIn prog m =
-    (worker : ℕ) (p : Path) (f : frames.Frame) → m.hands worker ≡ Some p → m.core.frames p ≡ Some f → (at : Object → ℤ) →
+    (worker : ℕ) (p : Path) (f : frames.Frame) → m.hands worker ≡ Some p → m.core.frames p ≡ Some f →
+    (at : Object → ℤ) →
     StaysSafeAlone prog (record { at = at; cells = living prog m.core }) p f
 
 -- some machine is shown, from which each schedule is safe, and whose workers' frames may go on alone
@@ -45,7 +46,8 @@ steps_in (Some (Need at)) done = done
 abbrev pub DoesSteps : Program → Places → Run → Run → ℕ → ℕ → Type 0
 DoesSteps prog places old new worker steps =
     (m : Machine) → IsShown prog places m old → RunsSafely prog (length old.hands.items) m → GoesAloneIn prog m →
-    (after : Machine) × Happen prog (length old.hands.items) (steps_by worker steps) m after × IsShown prog places after new
+    (after : Machine) × Happen prog (length old.hands.items) (steps_by worker steps) m after ×
+    IsShown prog places after new
 
 -- the strand's steps are done
 abbrev pub DoesFrameStrand : Program → Places → Run → Run → ℕ → FrameStrand → Type 0
@@ -57,7 +59,8 @@ KeepsHand prog places old worker x =
     (m : Machine) → IsShown prog places m old → RunsSafely prog (length old.hands.items) m → GoesAloneIn prog m →
     (replay prog (length old.hands.items) (steps_by worker x.course.done) m).hands worker ≡ m.hands worker
 
--- whatever machine is shown, frames that are stalled are so at their last instructions, after so many steps of the worker
+-- whatever machine is shown, frames that are stalled are so at their last instructions, after so many steps of the
+-- worker
 abbrev pub LeavesStallsBy : Program → Places → Run → Run → ℕ → ℕ → Type 0
 LeavesStallsBy prog places old new worker steps =
     (m : Machine) → IsShown prog places m old → RunsSafely prog (length old.hands.items) m → GoesAloneIn prog m →

@@ -31,7 +31,12 @@ pub record IsPut (old new : Run) (slot : ℕ) (x : FrameStrand) : Type 0 where
   pub node : Node Activation
   pub stood : node_at old.cactus slot ≡ Some node
   pub frame : Frame
-  pub only : frame ≡ record node.frame.frame { place = x.course.present.place; registers = frame.registers; waits = Nothing }
+  pub only : frame ≡ record node.frame.frame {
+    place = x.course.present.place;
+    registers = frame.registers;
+    waits =
+        Nothing;
+  }
   pub registers : frame.registers.items ≡ x.course.present.registers.items
   pub room : frame.registers ≡ with_items node.frame.frame.registers x.course.present.registers.items
   pub cells : IsPutInto x.course.cells.writes old.cells.cells.items new.cells.cells.items

@@ -4,7 +4,12 @@ use Rattle.program.specs.declared.function.Program.{Program}
 use Rattle.serial_machine.specs.store.Cells.{NamedCells}
 use Rattle.serial_machine.specs.store.Requirements.{unmet_in}
 use Rattle.serial_machine.specs.store.declared.outcome.RunFault.{RunFault}
-use Rattle.serial_machine.specs.store.declared.outcome.RunFault.TheVariants.{BadArguments, BadWorkers, OutOfMemory, Stopped}
+use Rattle.serial_machine.specs.store.declared.outcome.RunFault.TheVariants.{
+  BadArguments,
+  BadWorkers,
+  OutOfMemory,
+  Stopped,
+}
 
 abbrev pub IsNumberOfWorkers : ℕ → Type 0
 IsNumberOfWorkers workers = (0 < workers) × (workers ≤ 64)
@@ -13,10 +18,13 @@ IsNumberOfWorkers workers = (0 < workers) × (workers ≤ 64)
 abbrev pub MayBegin : Program → List ℤ → ℕ → Type 0
 MayBegin program arguments workers = (unmet_in program arguments ≡ None) × IsNumberOfWorkers workers
 
--- 801 for the arguments, else 802 for the number of workers, and both hand the memory back; only a run that may begin has another fault
+-- 801 for the arguments, else 802 for the number of workers, and both hand the memory back; only a run that may begin
+-- has another fault
 abbrev pub IsRefusal : Program → List ℤ → List NamedCells → ℕ → RunFault → Type 0
-IsRefusal program arguments memory workers (BadArguments requirement m) = (unmet_in program arguments ≡ Some requirement) × (m ≡ memory)
-IsRefusal program arguments memory workers (BadWorkers m) = (unmet_in program arguments ≡ None) × (¬ IsNumberOfWorkers workers) × (m ≡ memory)
+IsRefusal program arguments memory workers (BadArguments requirement m) =
+    (unmet_in program arguments ≡ Some requirement) × (m ≡ memory)
+IsRefusal program arguments memory workers (BadWorkers m) = (unmet_in program arguments ≡ None) ×
+    (¬ IsNumberOfWorkers workers) × (m ≡ memory)
 IsRefusal program arguments memory workers OutOfMemory = MayBegin program arguments workers
 IsRefusal program arguments memory workers Stopped = MayBegin program arguments workers
 

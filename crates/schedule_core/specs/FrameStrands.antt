@@ -27,7 +27,8 @@ pub record IsMadeOf (program : Program) (x : FrameStrand) : Type 0 where
   pub places_are : ArePlaces program x.places.now
   pub room : ∥ HasRoomFor program (vec_capacity x.course.path) ∥₁
 
--- the worker runs the frame that was loaded, word for word, at its path, and each cell that was read holds what was read
+-- the worker runs the frame that was loaded, word for word, at its path, and each cell that was read holds what was
+-- read
 abbrev pub FrameStrandFits : Stage → ℕ → FrameStrand → Type 0
 FrameStrandFits stage worker x = (x.pause ≢ Some Blank) × ((slot : ℕ) × FitsRun stage.run worker x slot)
 
@@ -40,9 +41,11 @@ pub record IsLoaded (stage : Stage) (worker : ℕ) (x : FrameStrand) : Type 0 wh
 -- so many steps of the worker are enabled one after the other, and after them the stage is the other
 pub record TakesSteps (old new : Stage) (worker steps : ℕ) : Type 0 where
   pub replays : ReplaysMore old new (replicate steps (Step worker))
-  pub enabled : (m : running.Machine) → IsState old m → AreEnabled (program_of old) (workers_of old) (steps_by worker steps) m
+  pub enabled : (m : running.Machine) → IsState old m →
+      AreEnabled (program_of old) (workers_of old) (steps_by worker steps) m
 
--- A strand is its instructions, and the border's where it stands at one; up to the border the worker runs the same frame.
+-- A strand is its instructions, and the border's where it stands at one; up to the border the worker runs the same
+-- frame.
 pub record Absorbs (old new : Stage) (worker : ℕ) (x : FrameStrand) : Type 0 where
   pub steps : TakesSteps old new worker (steps_in x.pause x.course.done)
   pub hand : (m : running.Machine) → IsState old m →

@@ -43,7 +43,8 @@ pub record IsAddressIn (places : Places) (frame : machine.Frame) (alloca index :
 
 -- it is what each cell at this address holds, where one does
 abbrev pub IsHeldAt : Stage → running.Machine → ℤ → Option ℤ → Type 0
-IsHeldAt stage m at word = (c : Cell) (z : ℤ) → address (layout_in stage m) c ≡ at → m.core.memory c ≡ Some z → word ≡ Some z
+IsHeldAt stage m at word = (c : Cell) (z : ℤ) → address (layout_in stage m) c ≡ at → m.core.memory c ≡ Some z →
+    word ≡ Some z
 
 -- it is what the cell of an alloca of the path's frame holds, where that frame lives and the cell has a value
 abbrev pub IsHeldBy : Stage → running.Machine → Path → ℕ → ℕ → Option ℤ → Type 0

@@ -31,7 +31,8 @@ line_in block index = step_line block (slice_get block.steps index)
 
 -- the line of the frame's next instruction
 abbrev pub next_line : Program → Frame → Option ℕ
-next_line prog f = option_and_then (λ (block : Block). line_in block f.place.index) (block_at prog f.function.0 f.place.block.0)
+next_line prog f = option_and_then (λ (block : Block). line_in block f.place.index)
+    (block_at prog f.function.0 f.place.block.0)
 
 -- the line of the sync that ends a block
 abbrev pub sync_line : Program → FunctionId → BlockId → Option ℕ
@@ -57,8 +58,8 @@ place_line prog f = option_and_then (λ (block : Block). line_in block f.index) 
 abbrev pub ending_at : Program → Option ℕ → running_frames.Frame → Option ℕ
 ending_at prog block f = option_and_then (λ (b : ℕ). option_and_then ending_line (block_at prog f.function b)) block
 
--- the line of a task with this top: where it is stalled, that of its sync, which was the top's last instruction and ended this block; else that of
--- the top's next instruction
+-- the line of a task with this top: where it is stalled, that of its sync, which was the top's last instruction and
+-- ended this block; else that of the top's next instruction
 abbrev pub line_at_top : Program → running.Machine → Option ℕ → RunningPath → running.Status → Option ℕ
 line_at_top prog c last top (running.Stalled region) = option_and_then (ending_at prog last) (c.core.frames top)
 line_at_top prog c last top running.Ready = option_and_then (place_line prog) (c.core.frames top)
@@ -67,15 +68,18 @@ line_at_top prog c last top (running.Running worker) = option_and_then (place_li
 -- the line of the task of a path, where frames did their last instructions in these blocks
 abbrev pub line_of_task : Program → ℕ → running.Machine → Blocks → RunningPath → Option ℕ
 line_of_task prog workers c last t =
-    option_and_then (line_at_top prog c (last (running.top_of c.core t)) (running.top_of c.core t)) (running.status_of workers c t)
+    option_and_then (line_at_top prog c (last (running.top_of c.core t)) (running.top_of c.core t))
+    (running.status_of workers c t)
 
 -- after the events of a schedule from this state
 abbrev pub line_after : Program → ℕ → List running.Event → running.Machine → RunningPath → Option ℕ
-line_after prog workers events c t = line_of_task prog workers (replay prog workers events c) (last_blocks prog workers events c no_blocks) t
+line_after prog workers events c t = line_of_task prog workers (replay prog workers events c)
+    (last_blocks prog workers events c no_blocks) t
 
 -- the line of the next instruction of the worker's task
 abbrev pub line_of_worker : Program → running.Machine → ℕ → Option ℕ
-line_of_worker prog c worker = option_and_then (λ p. option_and_then (place_line prog) (c.core.frames p)) (c.hands worker)
+line_of_worker prog c worker = option_and_then (λ p. option_and_then (place_line prog) (c.core.frames p))
+    (c.hands worker)
 
 -- some worker's next instruction stands on the line
 abbrev pub StandsAt : Program → running.Machine → ℕ → Type 0

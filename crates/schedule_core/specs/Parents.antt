@@ -24,7 +24,8 @@ pub record IsParentSlot (run : Run) (worker slot : ℕ) : Type 0 where
 -- it is no child, or has no parent
 abbrev pub HasNoParentSlot : Run → ℕ → Type 0
 HasNoParentSlot run worker =
-    (top : ℕ) (child : Node Activation) → hand_of run.hands.items worker ≡ Some top → node_at run.cactus top ≡ Some child → child.frame.frame.role ≢ Body →
+    (top : ℕ) (child : Node Activation) → hand_of run.hands.items worker ≡ Some top →
+    node_at run.cactus top ≡ Some child → child.frame.frame.role ≢ Body →
     child.parent ≡ None
 
 -- in this use of the slot stands the lowest frame of a ready task, whose top detached the child that the worker runs
@@ -42,4 +43,5 @@ pub record IsReadyParent (run : Run) (m : running.Machine) (worker slot generati
 abbrev pub HasNoReadyParent : ℕ → running.Machine → ℕ → Type 0
 HasNoReadyParent workers m worker =
     (number : ℕ) (above : RunningPath) (child : defined.Frame) → m.hands worker ≡ Some (number ∷ above) →
-    m.core.frames (number ∷ above) ≡ Some child → running.is_child child.role ≡ true → ¬ (running.top_status workers m above ≡ Some running.Ready)
+    m.core.frames (number ∷ above) ≡ Some child → running.is_child child.role ≡ true →
+    ¬ (running.top_status workers m above ≡ Some running.Ready)

@@ -1,5 +1,21 @@
 -- The ready tasks whose tops stand below the frame that a worker runs.
-use Rattle.std.specs.Prelude.{◌≡◌, ◌≢◌, ◌⊎◌, ℕ, zero, suc, List, [], ◌∷◌, ◌++◌, Option, Some, None, IsSomeAnd, option_and_then}
+use Rattle.std.specs.Prelude.{
+  ◌≡◌,
+  ◌≢◌,
+  ◌⊎◌,
+  ℕ,
+  zero,
+  suc,
+  List,
+  [],
+  ◌∷◌,
+  ◌++◌,
+  Option,
+  Some,
+  None,
+  IsSomeAnd,
+  option_and_then,
+}
 use Rattle.semantics.specs.Paths.{Path as RunningPath}
 use Rattle.semantics.specs.Events as running
 use Rattle.frame.specs.declared.path.Path.{Path}
@@ -30,7 +46,8 @@ IsNotReady frames slot = ¬ IsSomeAnd (frame_at frames slot) IsReady
 
 -- the slot of the frame that made the slot's
 abbrev pub maker_of : Frames Activation → Option ℕ → Option ℕ
-maker_of frames slot = option_and_then (λ s. option_and_then (λ (node : Node Activation). node.parent) (node_at frames s)) slot
+maker_of frames slot =
+    option_and_then (λ s. option_and_then (λ (node : Node Activation). node.parent) (node_at frames s)) slot
 
 -- the slot's task is added if it is ready
 abbrev pub Notes : Frames Activation → Option ℕ → List Spot → List Spot → Type 0
@@ -52,7 +69,8 @@ abbrev pub AreReadyUnder : Stage → running.Machine → ℕ → RunningPath →
 AreReadyUnder stage m zero p spots = spots ≡ []
 AreReadyUnder stage m (suc n) [] spots = spots ≡ []
 AreReadyUnder stage m (suc n) (k ∷ above) spots =
-    ((spot : Spot) × (rest : List Spot) × IsReadyTop stage m above spot × (spots ≡ spot ∷ rest) × AreReadyUnder stage m n above rest) ⊎
+    ((spot : Spot) × (rest : List Spot) × IsReadyTop stage m above spot × (spots ≡ spot ∷ rest) ×
+    AreReadyUnder stage m n above rest) ⊎
     ((running.top_status (workers_of stage) m above ≢ Some running.Ready) × AreReadyUnder stage m n above spots)
 
 abbrev pub AreReadyFrom : Stage → running.Machine → ℕ → Option RunningPath → List Spot → Type 0

@@ -1,5 +1,20 @@
 -- What a stage stands for: a machine of the definitions, from which each schedule goes well.
-use Rattle.std.specs.Prelude.{◌≡◌, ℕ, ◌≤◌, ◌<◌, List, length, map, Option, Some, None, IsSome, option_and_then, slice_get, ℤ}
+use Rattle.std.specs.Prelude.{
+  ◌≡◌,
+  ℕ,
+  ◌≤◌,
+  ◌<◌,
+  List,
+  length,
+  map,
+  Option,
+  Some,
+  None,
+  IsSome,
+  option_and_then,
+  slice_get,
+  ℤ,
+}
 use Rattle.semantics.specs.Cells.{Object, Shared, Local, Memory}
 use Rattle.semantics.specs.Events.{Machine, Event, start}
 use Rattle.semantics.specs.Replay.{replay}
@@ -37,11 +52,13 @@ given globals x = given_in globals x.object x.index
 -- each declared cell of a global holds a number
 abbrev pub AreFull : Program → Memory → Type 0
 AreFull prog memory =
-    (g i : ℕ) (global : Global) → slice_get prog.globals g ≡ Some global → i < global.cells → IsSome (memory (record { object = Shared g; index = i }))
+    (g i : ℕ) (global : Global) → slice_get prog.globals g ≡ Some global → i < global.cells →
+    IsSome (memory (record { object = Shared g; index = i }))
 
 -- what the machine's memory holds of a global, by its name
 abbrev pub global_named : Machine → List NamedCells → List ℕ → ℕ → Option ℤ
-global_named m globals name i = option_and_then (λ g. m.core.memory (record { object = Shared g; index = i })) (number_of globals name)
+global_named m globals name i = option_and_then (λ g. m.core.memory (record { object = Shared g; index = i }))
+    (number_of globals name)
 
 -- these globals, of the same names and sizes, hold what the machine's memory does
 pub record HoldsGlobals (m : Machine) (before after : List NamedCells) : Type 0 where
@@ -58,7 +75,8 @@ pub record IsReached (prog : Program) (workers : ℕ) (m : Machine) : Type 0 whe
   pub events : List Event
   pub after : replay prog workers events (start prog arguments memory) ≡ m
 
--- wherever events lead from this machine, workers can go on, their frames may go on as strands, and the globals' cells hold numbers
+-- wherever events lead from this machine, workers can go on, their frames may go on as strands, and the globals' cells
+-- hold numbers
 pub record GoesWell (prog : Program) (workers : ℕ) (m : Machine) : Type 0 where
   pub safe : RunsSafely prog workers m
   pub strands : (events : List Event) → StaysSafeAsStrands prog (replay prog workers events m)

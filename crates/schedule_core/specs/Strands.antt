@@ -23,12 +23,13 @@ pub record IsStrandOf (program : Program) (x : Strand) : Type 0 where
   pub places_are : ArePlaces program places
   pub way : ∥ IsUnderWay program places x ∥₁
 
--- the worker runs the base as it was loaded, at its path, without children if it had none, and each cell that was read holds what was read
+-- the worker runs the base as it was loaded, at its path, without children if it had none, and each cell that was read
+-- holds what was read
 abbrev pub StrandFits : Stage → ℕ → Strand → Type 0
 StrandFits stage worker x = (slot : ℕ) × FitsStrand (program_of stage) stage.run worker x slot
 
--- The base is the worker's frame, before its first instruction. It is said to have no child where it has none. Its segment is the larger free part at an
--- end of the worker's piece of the cells that are lent.
+-- The base is the worker's frame, before its first instruction. It is said to have no child where it has none. Its
+-- segment is the larger free part at an end of the worker's piece of the cells that are lent.
 pub record IsBegun (stage : Stage) (worker : ℕ) (x : Strand) : Type 0 where
   pub way : (places : Places) → ArePlaces (program_of stage) places → ∥ IsUnderWay (program_of stage) places x ∥₁
   pub fits : StrandFits stage worker x

@@ -67,7 +67,8 @@ pub record Shows (stage : Stage) (low high : ℕ) (view : TaskView) : Type 0 whe
 pub record ShowsTop (stage : Stage) (m : running.Machine) (view : TaskView) : Type 0 where
   pub frame : Frame
   pub stands : m.core.frames (place_in view.top_path.now) ≡ Some frame
-  pub shown : ShowsNode (layout_of (program_of stage) stage.places stage.run.cactus m.core) stage.places (place_in view.top_path.now) frame view.top.now
+  pub shown : ShowsNode (layout_of (program_of stage) stage.places stage.run.cactus m.core) stage.places
+      (place_in view.top_path.now) frame view.top.now
 
 -- the view is of the task of this path, where the stage stands as this machine
 pub record IsTask (stage : Stage) (m : running.Machine) (path : Path) (view : TaskView) : Type 0 where
@@ -113,7 +114,8 @@ pub record IsLesser (first : Option Path) (path least : Path) : Type 0 where
 pub record Advances (frames : Frames Activation) (slot : ℕ) (first next : Option Path) : Type 0 where
   pub among : IfSome next (λ path. (first ≡ Some path) ⊎ IsReadyAt frames slot path)
   pub at_most : (path : Path) → first ≡ Some path → IsSomeAnd next (λ least. IsAtMost least path)
-  pub covers : IsTree frames → (path : Path) → IsReadyAt frames slot path → IsSomeAnd next (λ least. IsAtMost least path)
+  pub covers : IsTree frames → (path : Path) → IsReadyAt frames slot path →
+      IsSomeAnd next (λ least. IsAtMost least path)
 
 -- the path is a ready task's, and no other ready task's is less
 pub record IsFirstReady (workers : ℕ) (m : running.Machine) (path : Path) : Type 0 where

@@ -15,7 +15,8 @@ pub record IsSerialAnswer (o : Origin) (done : Finished) : Type 0 where
   pub serial : Outcome
   pub is_serial : IsSerialMeaning o.program o.arguments (given o.memory) serial
   pub result : serial.ending ≡ Gave (Some done.result)
-  pub memory : (global index : ℕ) → serial.memory (record { object = Shared global; index = index }) ≡ cell_at done.memory global index
+  pub memory : (global index : ℕ) → serial.memory (record { object = Shared global; index = index })
+      ≡ cell_at done.memory global index
   pub names : names_of done.memory ≡ names_of o.memory
   pub count : done.instructions ≡ serial.count
   pub peak : done.peak ≡ serial.depth
@@ -25,6 +26,7 @@ pub record LeadTo (o : Origin) (events : List Event) (done : Finished) : Type 0 
   pub enabled : AreEnabled o.program o.workers (map event_of events) (first_of o)
   pub ended : has_ended (reached o events) ≡ true
   pub result : (reached o events).core.result ≡ Some done.result
-  pub memory : (global index : ℕ) → (reached o events).core.memory (record { object = Shared global; index = index }) ≡ cell_at done.memory global index
+  pub memory : (global index : ℕ) → (reached o events).core.memory (record { object = Shared global; index = index })
+      ≡ cell_at done.memory global index
   pub count : (reached o events).core.done ≡ done.instructions
   pub peak : (reached o events).core.peak ≡ done.peak

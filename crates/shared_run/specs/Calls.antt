@@ -68,7 +68,8 @@ pub record IsFilled (x y : FrameStrand) (at z : ℤ) : Type 0 where
 
 -- why a strand gets nothing: it holds a frame, and needs no cell, or one that is not there
 abbrev pub IsStranger : Story → FrameStrand → Type 0
-IsStranger s x = (x.pause ≢ Some Blank) × ((at : ℤ) → x.pause ≡ Some (Need at) → cell_in s.stage.run.cells.cells.items at ≡ None)
+IsStranger s x = (x.pause ≢ Some Blank) × ((at : ℤ) → x.pause ≡ Some (Need at) →
+    cell_in s.stage.run.cells.cells.items at ≡ None)
 
 -- what the event makes of the state, where it is enabled
 abbrev pub outcome : Story → Event → Option Machine
@@ -123,7 +124,8 @@ Steps s t p q stepped.OutOfMemory = Stays s t p q
 -- what a strand gets
 abbrev pub Fetches : Story → Place → FrameStrand → FrameStrand → Fetched → Type 0
 Fetches s p x y fetched.Frame = (x.pause ≡ Some Blank) × IsLoaded s.stage p.worker y
-Fetches s p x y fetched.Cell = (at z : ℤ) × (x.pause ≡ Some (Need at)) × (cell_in s.stage.run.cells.cells.items at ≡ Some z) × IsFilled x y at z
+Fetches s p x y fetched.Cell = (at z : ℤ) × (x.pause ≡ Some (Need at)) ×
+    (cell_in s.stage.run.cells.cells.items at ≡ Some z) × IsFilled x y at z
 Fetches s p x y fetched.Idle = (y ≡ x) × (x.pause ≡ Some Blank) × ((state_of s).hands p.worker ≡ None)
 Fetches s p x y fetched.Stranger = (y ≡ x) × IsStranger s x
 
@@ -150,14 +152,16 @@ Commits x s t p q committed.OutOfMemory = Stays s t p q
 -- the strand fits, and its steps were appended; or it does not, and nothing was
 abbrev pub Absorbing : FrameStrand → Story → Story → Place → Place → Bool → Type 0
 Absorbing x s t p q true =
-    FrameStrandFits s.stage p.worker x × Appends (replicate (steps_in x.pause x.course.done) (Step p.worker)) s t p q × Absorbs s.stage t.stage p.worker x
+    FrameStrandFits s.stage p.worker x × Appends (replicate (steps_in x.pause x.course.done) (Step p.worker)) s t p q ×
+    Absorbs s.stage t.stage p.worker x
 Absorbing x s t p q false = Same s t p q × ¬ FrameStrandFits s.stage p.worker x
 
 -- ---- a claim
 
 -- the worker is idle, and the task of the path is ready
 abbrev pub CanTake : Story → Place → Path → Type 0
-CanTake s p path = ((state_of s).hands p.worker ≡ None) × (status_in s.start.workers (state_of s) path ≡ Some running.Ready)
+CanTake s p path = ((state_of s).hands p.worker ≡ None) ×
+    (status_in s.start.workers (state_of s) path ≡ Some running.Ready)
 
 -- one steal of the task of the path by the seat's worker, or nothing
 abbrev pub Takes : Path → Story → Story → Place → Place → Claimed → Type 0
@@ -167,12 +171,15 @@ Takes path s t p q claimed.OutOfMemory = Same s t p q
 
 -- the same for the ticket's task
 abbrev pub Claims : Ticket → Story → Story → Place → Place → Claimed → Type 0
-Claims ticket s t p q claimed.Taken = (path : Path) × (named_by s.stage ticket ≡ Some path) × Takes path s t p q claimed.Taken
-Claims ticket s t p q claimed.Gone = Same s t p q × ((path : Path) → named_by s.stage ticket ≡ Some path → ¬ CanTake s p path)
+Claims ticket s t p q claimed.Taken = (path : Path) × (named_by s.stage ticket ≡ Some path) ×
+    Takes path s t p q claimed.Taken
+Claims ticket s t p q claimed.Gone = Same s t p q × ((path : Path) → named_by s.stage ticket ≡ Some path →
+    ¬ CanTake s p path)
 Claims ticket s t p q claimed.OutOfMemory = Same s t p q
 
 -- the same for the ready task of least path
 abbrev pub ClaimsFirst : Story → Story → Place → Place → Claimed → Type 0
-ClaimsFirst s t p q claimed.Taken = (path : Path) × IsFirstReady s.start.workers (state_of s) path × Takes path s t p q claimed.Taken
+ClaimsFirst s t p q claimed.Taken = (path : Path) × IsFirstReady s.start.workers (state_of s) path ×
+    Takes path s t p q claimed.Taken
 ClaimsFirst s t p q claimed.Gone = Same s t p q × ((path : Path) → ¬ CanTake s p path)
 ClaimsFirst s t p q claimed.OutOfMemory = Same s t p q

@@ -22,7 +22,13 @@ pub record Origin : Type 0 where
   pub workers : ℕ
 
 abbrev pub origin : Program → List ℤ → List NamedCells → ℕ → Origin
-origin program arguments memory workers = record { program = program; arguments = arguments; memory = memory; workers = workers }
+origin program arguments memory workers = record {
+  program = program;
+  arguments = arguments;
+  memory = memory;
+  workers =
+      workers;
+}
 
 -- the start, the events since then in their order, and the stage that they led to
 pub record Story : Type 0 where
@@ -52,8 +58,8 @@ reached o events = state_after o.program o.arguments o.memory o.workers events
 abbrev pub state_of : Story → Machine
 state_of s = reached s.start s.events
 
--- the stage is the replay of the events, each of which was enabled; it is one of an accepted module, from arguments that `main` takes and memory
--- that was made for the module
+-- the stage is the replay of the events, each of which was enabled; it is one of an accepted module, from arguments
+-- that `main` takes and memory that was made for the module
 pub record IsLegal (o : Origin) (events : List Event) (stage : Stage) : Type 0 where
   pub replays : Replays o.program o.arguments o.memory o.workers events stage
   pub enabled : AreEnabled o.program o.workers (map event_of events) (first_of o)
@@ -68,4 +74,5 @@ named_by stage ticket = path_of_use stage.run.cactus ticket.slot ticket.generati
 
 -- an unused seat for each worker, in their order
 abbrev pub AreSeats : ℕ → List Place → Type 0
-AreSeats workers seats = (length seats ≡ workers) × ((worker : ℕ) → worker < workers → slice_get seats worker ≡ Some (place worker 0))
+AreSeats workers seats = (length seats ≡ workers) ×
+    ((worker : ℕ) → worker < workers → slice_get seats worker ≡ Some (place worker 0))

@@ -1,5 +1,26 @@
 -- A worker's strand, and what the calls of a board do with it.
-use Rattle.std.specs.Prelude.{◌≡◌, ◌≢◌, ◌≤◌, ◌↔◌, ◌+◌, ⊤, ℕ, ℤ, ◌++◌, min, replicate, IsSome, Option, Some, None, Bool, true, false, List, reverse}
+use Rattle.std.specs.Prelude.{
+  ◌≡◌,
+  ◌≢◌,
+  ◌≤◌,
+  ◌↔◌,
+  ◌+◌,
+  ⊤,
+  ℕ,
+  ℤ,
+  ◌++◌,
+  min,
+  replicate,
+  IsSome,
+  Option,
+  Some,
+  None,
+  Bool,
+  true,
+  false,
+  List,
+  reverse,
+}
 use Rattle.program.specs.declared.function.Program.{Program}
 use Rattle.program.specs.declared.instruction.Terminator.TheVariants as terminator
 use Rattle.semantics.specs.Frames.{Item, Does, Ends}
@@ -45,12 +66,14 @@ IsUp Full = ⊤
 IsUp (Need at) = ⊤
 IsUp Spoilt = ⊥
 
--- What is kept of the strand where it stands so: a border is what only the board can do; where it is full, or needs a cell, the next instruction is one of
--- a cell for whose page there is no place, or of one that is not at hand (`Stopped`).
+-- What is kept of the strand where it stands so: a border is what only the board can do; where it is full, or needs a
+-- cell, the next instruction is one of a cell for whose page there is no place, or of one that is not at hand
+-- (`Stopped`).
 abbrev pub Holds : Program → Places → Strand → Standing → Type 0
 Holds prog places x Blank = HasRoomFor prog x
 Holds prog places x Going = HasRoomFor prog x × ∥ IsUnderWay prog places x ∥₁
-Holds prog places x Border = HasRoomFor prog x × ∥ IsUnderWay prog places x ∥₁ × NeedsBoard prog places x (item_here prog x.top.value)
+Holds prog places x Border = HasRoomFor prog x × ∥ IsUnderWay prog places x ∥₁ ×
+    NeedsBoard prog places x (item_here prog x.top.value)
 Holds prog places x Full = HasRoomFor prog x × ∥ IsGoing prog places x pause.Full ∥₁
 Holds prog places x (Need at) = HasRoomFor prog x × ∥ IsGoing prog places x (pause.Need at) ∥₁
 Holds prog places x Spoilt = ⊤
@@ -72,8 +95,8 @@ is_reattach (Some (Ends other)) = false
 abbrev pub StandsSo : Program → Apart → Type 0
 StandsSo prog y = (places : Places) × ArePlaces prog places × Holds prog places y.strand y.standing
 
--- It went on by so many instructions at most, and no further than a strand may. It did all of them where nothing stands in its way, and else is told
--- what does.
+-- It went on by so many instructions at most, and no further than a strand may. It did all of them where nothing stands
+-- in its way, and else is told what does.
 pub record GoesOnBy (count : ℕ) (x y : Apart) : Type 0 where
   pub within : y.strand.done ≤ x.strand.done + count
   pub short : y.strand.done ≤ 65536
@@ -100,7 +123,8 @@ pub record IsFilled (s : Story) (at : ℤ) (x y : Apart) : Type 0 where
   pub there : IsSome (cell_in s.stage.run.cells.cells.items at)
   pub goes_on : y.standing ≡ Going
   pub only : y.strand ≡ record x.strand { cells = y.strand.cells }
-  pub filled : log_of y.strand.cells.log ≡ filled_log (log_of x.strand.cells.log) at (page_around s.stage.run.cells.cells.items at)
+  pub filled : log_of y.strand.cells.log ≡ filled_log (log_of x.strand.cells.log) at
+      (page_around s.stage.run.cells.cells.items at)
 
 -- the page of the cell that it needs; or there is none, or it needs none, and it is as it was
 abbrev pub Fills : Story → Apart → Apart → Bool → Type 0
@@ -121,10 +145,12 @@ FitsBoard s p x = IsUp x.standing × StrandFits s.stage p.worker x.strand
 -- its instructions as steps of the seat's worker, which are enabled one after the other, or nothing
 abbrev pub Publishes : Apart → Story → Story → Place → Place → Published → Type 0
 Publishes x s t p q published.Done =
-    FitsBoard s p x × Appends (replicate x.strand.done (Step p.worker)) s t p q × TakesSteps s.stage t.stage p.worker x.strand.done
+    FitsBoard s p x × Appends (replicate x.strand.done (Step p.worker)) s t p q ×
+    TakesSteps s.stage t.stage p.worker x.strand.done
 Publishes x s t p q published.Stranger = Same s t p q × ¬ FitsBoard s p x
 Publishes x s t p q published.OutOfMemory = Stays s t p q
 
--- the tickets name, outermost first, the ready tasks whose tops are among so many frames below the one that the seat's worker runs next
+-- the tickets name, outermost first, the ready tasks whose tops are among so many frames below the one that the seat's
+-- worker runs next
 abbrev pub AreReadyTickets : Story → Place → ℕ → List Spot → Type 0
 AreReadyTickets s p levels tickets = AreReadyBelow s.stage (state_of s) p.worker levels (reverse tickets)

@@ -19,13 +19,16 @@ use Rattle.strand.specs.OwnCells.{segment_of}
 use Rattle.strand.specs.Shown.{CanGo, ShowsStrand}
 use Rattle.strand.specs.declared.strand.Strand.{Strand}
 
--- The machine's frame shows one that may go on as a strand: wherever it comes within 65,536 instructions with no more cells of its own than the segment has,
--- its next steps are safe. Syncs of its own it passes only where it has no child.
-pub record GoesAsStrand (prog : Program) (places : Places) (l : Layout) (p : Path) (g : Frame) (f : machine.Frame) (childless : Bool) (s : Segment) : Type 0 where
+-- The machine's frame shows one that may go on as a strand: wherever it comes within 65,536 instructions with no more
+-- cells of its own than the segment has, its next steps are safe. Syncs of its own it passes only where it has no
+-- child.
+pub record GoesAsStrand (prog : Program) (places : Places) (l : Layout) (p : Path) (g : Frame) (f : machine.Frame)
+    (childless : Bool) (s : Segment) : Type 0 where
   pub shown : ShowsFrame l places p g f
   pub waits : g.waits ≡ wait_of f.waits
   pub apart : AreApart l
-  pub goes : (d : strands.Strand) → IsStrand prog d → d.base ≡ at p g → (childless ≡ false → d.synced ≡ []) → end_above prog s.start d.top d.below ≤ s.start + s.count →
+  pub goes : (d : strands.Strand) → IsStrand prog d → d.base ≡ at p g → (childless ≡ false → d.synced ≡ []) →
+      end_above prog s.start d.top d.below ≤ s.start + s.count →
       d.done ≤ 65536 → CanGo prog l s d
 
 abbrev pub GoesAsStrandFrom : Program → Places → Layout → Frame → Strand → Type 0
@@ -52,7 +55,8 @@ pub record IsUnderWay (prog : Program) (places : Places) (x : Strand) : Type 0 w
   pub along : (l : Layout) (g : Frame) → GoesAsStrandFrom prog places l g x → IsAlong prog places l g x
 
 -- the same of a frame that is to be loaded, the root's number first in its path
-pub record MayBegin (prog : Program) (places : Places) (path : List ℕ) (f : machine.Frame) (childless : Bool) (s : Segment) : Type 0 where
+pub record MayBegin (prog : Program) (places : Places) (path : List ℕ) (f : machine.Frame) (childless : Bool)
+    (s : Segment) : Type 0 where
   pub layout : Layout
   pub frame : Frame
   pub goes : GoesAsStrand prog places layout (reverse path) frame f childless s
@@ -63,11 +67,13 @@ pub record IsLent (l : Layout) (s : Segment) : Type 0 where
   pub outside : (c : Cell) → IsIn l c → IsOutside s (address l c)
   pub small : s.start + s.count < 9223372036854775808
 
--- A worker's frame may be loaded, whichever of the machine's frames shows it, and wherever the objects begin whose cells live, apart from each other and from
--- the segment. Where it is said to be childless, none of its children lives.
+-- A worker's frame may be loaded, whichever of the machine's frames shows it, and wherever the objects begin whose
+-- cells live, apart from each other and from the segment. Where it is said to be childless, none of its children lives.
 abbrev pub LoadsGoAsStrands : Program → Places → (Object → ℕ) → Machine → Type 0
 LoadsGoAsStrands prog places living m =
-    (begins : Object → ℤ) (s : Segment) → IsLent (record { at = begins; cells = living }) s → (worker : ℕ) (p : Path) (g : Frame) (f : machine.Frame) → m.hands worker ≡ Some p →
-    m.core.frames p ≡ Some g → ShowsFrame (record { at = begins; cells = living }) places p g f → g.waits ≡ wait_of f.waits →
+    (begins : Object → ℤ) (s : Segment) → IsLent (record { at = begins; cells = living }) s →
+    (worker : ℕ) (p : Path) (g : Frame) (f : machine.Frame) → m.hands worker ≡ Some p →
+    m.core.frames p ≡ Some g → ShowsFrame (record { at = begins; cells = living }) places p g f →
+    g.waits ≡ wait_of f.waits →
     (childless : Bool) → (childless ≡ true → (region : ℕ) → none_within m.core p g.made region ≡ true) →
     GoesAsStrand prog places (record { at = begins; cells = living }) p g f childless s

@@ -30,15 +30,17 @@ pub record ShowsLog (l : Layout) (f : Footprint) (b : Log) : Type 0 where
   pub near : (a v : ℤ) → b.reads a ≡ Some v → b.near a ≡ Some v
   pub deltas : (a z : ℤ) → b.writes a ≡ Some (Delta z) → b.reads a ≡ None
 
--- The segment's cell holds what the strand's writes make of the number that it held when its frame began. A cell that was read before it was written was read
--- as that number: no machine tells otherwise, since in none of them it has a value then.
+-- The segment's cell holds what the strand's writes make of the number that it held when its frame began. A cell that
+-- was read before it was written was read as that number: no machine tells otherwise, since in none of them it has a
+-- value then.
 pub record HoldsOwn (f : Footprint) (c : Cell) (first : ℤ) (now : Option ℤ) : Type 0 where
   pub read : (v : ℤ) → f.reads c ≡ Some v → Some first ≡ Some v
   pub is : now ≡ put (f.writes c) (Some first)
   pub there : IsSome now
   pub delta : (z : ℤ) → f.writes c ≡ Some (footprint.Delta z) → f.reads c ≡ None
 
--- In l lie the objects of the machine, in k also those of the strand's own frames, whose cells held these numbers first.
+-- In l lie the objects of the machine, in k also those of the strand's own frames, whose cells held these numbers
+-- first.
 pub record ShowsKept (l k : Layout) (first : Cell → ℤ) (f : Footprint) (x : StrandCells) : Type 0 where
   pub log : ShowsLog l f (log_of x.log)
   -- the frames' own cells are in the segment

@@ -1,4 +1,5 @@
--- Where the cells of a worker's own frames lie: in its segment, the allocas of each frame after those of the frames below it.
+-- Where the cells of a worker's own frames lie: in its segment, the allocas of each frame after those of the frames
+-- below it.
 use Rattle.std.specs.Prelude.{◌≡◌, ℕ, ◌+◌, ◌<◌, ◌≤◌, ◌≢◌, List, [], ◌∷◌, sum, false, ℤ, pos}
 use Rattle.semantics.specs.Paths.{Path, Under}
 use Rattle.semantics.specs.Cells.{Cell, owns}
@@ -16,13 +17,15 @@ pub record Segment : Type 0 where
 abbrev pub end_above : Program → ℕ → Placed → List Placed → ℕ
 end_above prog start t [] = start
 end_above prog start t (g ∷ rest) =
-    for_body t.frame.role (end_above prog start g rest + sum (alloca_sizes prog t.frame.function)) (end_above prog start g rest)
+    for_body t.frame.role (end_above prog start g rest + sum (alloca_sizes prog t.frame.function))
+    (end_above prog start g rest)
 
 -- the machine's layout with the allocas of the frames above the base
 abbrev pub layout_above : Layout → Program → ℕ → Placed → List Placed → Layout
 layout_above l prog start t [] = l
 layout_above l prog start t (g ∷ rest) =
-    for_body t.frame.role (with_allocas t.path (alloca_sizes prog t.frame.function) (end_above prog start g rest) (layout_above l prog start g rest))
+    for_body t.frame.role (with_allocas t.path (alloca_sizes prog t.frame.function) (end_above prog start g rest)
+    (layout_above l prog start g rest))
     (layout_above l prog start g rest)
 
 -- the address is none of the segment's

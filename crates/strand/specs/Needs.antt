@@ -23,14 +23,16 @@ use Rattle.strand.specs.Layouts.{Segment}
 use Rattle.strand.specs.declared.cells.StrandCells.{StrandCells}
 use Rattle.strand.specs.declared.strand.Strand.{Strand}
 
--- the strand loads next the cell at the address, one of an object of the machine, which is not at hand, and there is a place for its page
+-- the strand loads next the cell at the address, one of an object of the machine, which is not at hand, and there is a
+-- place for its page
 pub record NeedsCell (prog : Program) (l : Layout) (d : strands.Strand) (b : StrandCells) (at : ℤ) : Type 0 where
   pub cell : Cell
   pub living : IsIn l cell
   pub is : at ≡ address l cell
   pub register : RegisterId
   pub place : Address
-  pub item : item_at prog d.top.frame.function d.top.frame.block d.top.frame.index ≡ Some (Does (instruction.Load register place))
+  pub item : item_at prog d.top.frame.function d.top.frame.block d.top.frame.index
+      ≡ Some (Does (instruction.Load register place))
   pub names : cell_at d.top.frame place ≡ Some cell
   pub new : value_at (log_of b.log) at ≡ None
   pub room : has_place (log_of b.log) at ≡ true
@@ -42,7 +44,8 @@ Reaches (frame_strands.Loads x) c = x ≡ c
 Reaches (frame_strands.Stores x) c = x ≡ c
 Reaches (frame_strands.Adds x) c = x ≡ c
 
--- the strand loads next a cell of an object of the machine, stores to it or adds to it, and there is no place for the cell's page
+-- the strand loads next a cell of an object of the machine, stores to it or adds to it, and there is no place for the
+-- cell's page
 pub record LacksPage (prog : Program) (l : Layout) (d : strands.Strand) (b : StrandCells) : Type 0 where
   pub cell : Cell
   pub living : IsIn l cell
@@ -58,5 +61,6 @@ PausesAt prog l d b (engine_pause.Stopped (stop.Need at)) = NeedsCell prog l d b
 -- the strand goes on to this pause
 abbrev pub GoesTo : Program → Places → Strand → Strand → engine.Pause Stop → Type 0
 GoesTo prog places old new r =
-    (l : Layout) (s : Segment) (d : strands.Strand) → IsStrand prog d → ShowsStrand l prog places s d old → CanGo prog l s d →
+    (l : Layout) (s : Segment) (d : strands.Strand) → IsStrand prog d → ShowsStrand l prog places s d old →
+    CanGo prog l s d →
     (e : GoneOn l prog places s d new) × PausesAt prog l e.strand new.cells r

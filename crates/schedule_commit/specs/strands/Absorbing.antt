@@ -29,8 +29,10 @@ pub record StandsForStrands (prog : Program) (places : Places) (k : Run) : Type 
   pub orderly : IsOrderly machine
   pub loads : GoAsStrandsIn prog places machine
 
--- it is a strand of the definitions, whose instructions happen as steps of the worker, and the machine that absorbed it is shown
-pub record Absorbs (prog : Program) (places : Places) (old new : Run) (worker : ℕ) (x : Strand) (m : Machine) : Type 0 where
+-- it is a strand of the definitions, whose instructions happen as steps of the worker, and the machine that absorbed it
+-- is shown
+pub record Absorbs (prog : Program) (places : Places) (old new : Run) (worker : ℕ) (x : Strand)
+    (m : Machine) : Type 0 where
   pub strand : strands.Strand
   pub is : IsStrand prog strand
   pub shows : ShowsStrand (layout_of prog places old.cactus m.core) prog places (segment_of x.cells) strand x
@@ -40,12 +42,14 @@ pub record Absorbs (prog : Program) (places : Places) (old new : Run) (worker : 
 -- whatever machine is shown
 abbrev pub DoesStrand : Program → Places → Run → Run → ℕ → Strand → Type 0
 DoesStrand prog places old new worker x =
-    (m : Machine) → IsShown prog places m old → RunsSafely prog (length old.hands.items) m → IsOrderly m → GoAsStrandsIn prog places m →
+    (m : Machine) → IsShown prog places m old → RunsSafely prog (length old.hands.items) m → IsOrderly m →
+    GoAsStrandsIn prog places m →
     Absorbs prog places old new worker x m
 
 -- whatever machine is shown, frames that are stalled are so at their last instructions, after the strand's steps
 abbrev pub LeavesStallsByStrand : Program → Places → Run → Run → ℕ → Strand → Type 0
 LeavesStallsByStrand prog places old new worker x =
-    (m : Machine) → IsShown prog places m old → RunsSafely prog (length old.hands.items) m → IsOrderly m → GoAsStrandsIn prog places m →
+    (m : Machine) → IsShown prog places m old → RunsSafely prog (length old.hands.items) m → IsOrderly m →
+    GoAsStrandsIn prog places m →
     (last : Blocks) → StallsAgree last old.cactus →
     StallsAgree (last_blocks prog (length old.hands.items) (steps_by worker x.done) m last) new.cactus

@@ -27,15 +27,27 @@ runner_under (Some f) runner = None
 pub record IsBase (x : Strand) (old new : Activation) : Type 0 where
   pub frame : Frame
   pub there : slice_get (frames_of x) 0 ≡ Some frame
-  pub only : new ≡ record old { frame = new.frame; counts = new.counts; runner = runner_under (slice_get (frames_of x) 1) old.runner }
-  pub went : new.frame ≡ record old.frame { place = frame.place; registers = new.frame.registers; made = frame.made; waits = frame.waits }
+  pub only : new ≡ record old {
+    frame = new.frame;
+    counts = new.counts;
+    runner =
+        runner_under (slice_get (frames_of x) 1) old.runner;
+  }
+  pub went : new.frame ≡ record old.frame {
+    place = frame.place;
+    registers = new.frame.registers;
+    made = frame.made;
+    waits = frame.waits;
+  }
   pub registers : new.frame.registers.items ≡ frame.registers.items
-  pub counts : (region : ℕ) → counted_in new region ≡ counted_above (slice_get (frames_of x) 1) region + counted_in old region
+  pub counts : (region : ℕ) →
+      counted_in new region ≡ counted_above (slice_get (frames_of x) 1) region + counted_in old region
   pub as_many : length new.counts.items ≡ length old.counts.items
 
 -- the base has a count for the region of the frame above it
 pub record MayCount (x : Strand) (a : Activation) : Type 0 where
-  pub region : (f : Frame) (r : RegisterId) (n : BlockId) → slice_get (frames_of x) 1 ≡ Some f → f.role ≡ role.Child r n → r.0 < length a.counts.items
+  pub region : (f : Frame) (r : RegisterId) (n : BlockId) → slice_get (frames_of x) 1 ≡ Some f →
+      f.role ≡ role.Child r n → r.0 < length a.counts.items
   pub room : (region : ℕ) → counted_in a region + 1 < 18446744073709551616
 
 -- ---- the callees

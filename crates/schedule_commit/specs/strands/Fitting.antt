@@ -20,8 +20,8 @@ HasNoChild a = (region : ℕ) → counted_in a region ≡ 0
 abbrev pub segment_block : StrandCells → Block
 segment_block x = record { start = x.start; cells = length x.own.items }
 
--- The worker runs the base, word for word as it was loaded, at its path, without children if it had none, what was read is there, and no frame that lives has its
--- allocas among the strand's.
+-- The worker runs the base, word for word as it was loaded, at its path, without children if it had none, what was read
+-- is there, and no frame that lives has its allocas among the strand's.
 pub record FitsStrand (prog : Program) (k : Run) (worker : ℕ) (x : Strand) (slot : ℕ) : Type 0 where
   pub node : Node Activation
   pub hand : hand_of k.hands.items worker ≡ Some slot

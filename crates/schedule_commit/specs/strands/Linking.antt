@@ -1,5 +1,24 @@
 -- The frames above the base, as they are to stand in the cactus.
-use Rattle.std.specs.Prelude.{◌≡◌, ℕ, suc, ◌-◌, ◌<◌, List, [], ◌∷◌, ◌++◌, length, map, take, Option, Some, None, cond, eqb, slice_get}
+use Rattle.std.specs.Prelude.{
+  ◌≡◌,
+  ℕ,
+  suc,
+  ◌-◌,
+  ◌<◌,
+  List,
+  [],
+  ◌∷◌,
+  ◌++◌,
+  length,
+  map,
+  take,
+  Option,
+  Some,
+  None,
+  cond,
+  eqb,
+  slice_get,
+}
 use Rattle.linear.specs.declared.form.RegisterId.{RegisterId}
 use Rattle.program.specs.declared.identifier.BlockId.{BlockId}
 use Rattle.frame.specs.declared.frame.Role.{Role}
@@ -23,7 +42,8 @@ path_of x n = x.base.path.items ++ map (λ (f : Frame). f.made - 1) (take n (fra
 -- each detached child's region is a register of its parent
 abbrev pub RegionsFit : Strand → Type 0
 RegionsFit x =
-    (n : ℕ) (f g : Frame) (r : RegisterId) (continuation : BlockId) → slice_get (frames_of x) n ≡ Some f → slice_get (frames_of x) (suc n) ≡ Some g →
+    (n : ℕ) (f g : Frame) (r : RegisterId) (continuation : BlockId) → slice_get (frames_of x) n ≡ Some f →
+    slice_get (frames_of x) (suc n) ≡ Some g →
     g.role ≡ role.Child r continuation → r.0 < length f.registers.items
 
 abbrev pub counted_of : Role → ℕ → ℕ

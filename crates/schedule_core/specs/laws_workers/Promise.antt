@@ -1,5 +1,25 @@
--- A run that shows a state to which a schedule leads stands safely, shows such a state again after each event, and keeps the schedule theorem.
-use Rattle.std.specs.Prelude.{◌≡◌, ◌↔◌, ℕ, ◌<◌, ◌≤◌, List, [], ◌∷◌, ◌++◌, length, Some, None, IsSome, Bool, ℤ, pos, ◌+ℤ◌, slice_get}
+-- A run that shows a state to which a schedule leads stands safely, shows such a state again after each event, and
+-- keeps the schedule theorem.
+use Rattle.std.specs.Prelude.{
+  ◌≡◌,
+  ◌↔◌,
+  ℕ,
+  ◌<◌,
+  ◌≤◌,
+  List,
+  [],
+  ◌∷◌,
+  ◌++◌,
+  length,
+  Some,
+  None,
+  IsSome,
+  Bool,
+  ℤ,
+  pos,
+  ◌+ℤ◌,
+  slice_get,
+}
 use Rattle.syntax.specs.declared.operator.Width.TheVariants.{Bits64}
 use Rattle.semantics.specs.Cells.{Shared, Memory}
 use Rattle.semantics.specs.Arithmetic.{wrapped}
@@ -23,7 +43,8 @@ use Rattle.schedule_workers.specs.Shown.{IsShown}
 -- ---- where a schedule leads
 
 -- the run shows the state to which the events lead, from arguments that `main` takes and globals that have values
-pub record IsScheduled (program : Program) (places : Places) (arguments : List ℤ) (memory : Memory) (events : List Event) (k : Run) : Type 0 where
+pub record IsScheduled (program : Program) (places : Places) (arguments : List ℤ) (memory : Memory)
+    (events : List Event) (k : Run) : Type 0 where
   pub taken : AreTaken program arguments
   pub globals : HasGlobals program memory
   pub manned : 1 ≤ length k.hands.items
@@ -32,7 +53,8 @@ pub record IsScheduled (program : Program) (places : Places) (arguments : List �
 -- so it stands safely: what its workers do next needs no test
 abbrev pub RunsStandSafely : Type 0
 RunsStandSafely =
-    (program : Program) → IsAccepted program → (places : Places) (arguments : List ℤ) (memory : Memory) (events : List Event) (k : Run) →
+    (program : Program) → IsAccepted program →
+    (places : Places) (arguments : List ℤ) (memory : Memory) (events : List Event) (k : Run) →
     IsScheduled program places arguments memory events k → StandsSafely program places k
 
 -- the new run is the old one after this event, or the event was not enabled
@@ -44,9 +66,12 @@ DoesEvent program places old new e done =
 -- either way it shows the state to which one event more leads
 abbrev pub RunsStayScheduled : Type 0
 RunsStayScheduled =
-    (program : Program) → IsAccepted program → (places : Places) (arguments : List ℤ) (memory : Memory) (events : List Event) (old new : Run) →
-    length new.hands.items ≡ length old.hands.items → (e : Event) (done : Bool) → DoesEvent program places old new e done →
-    IsScheduled program places arguments memory events old → IsScheduled program places arguments memory (events ++ e ∷ []) new
+    (program : Program) → IsAccepted program →
+    (places : Places) (arguments : List ℤ) (memory : Memory) (events : List Event) (old new : Run) →
+    length new.hands.items ≡ length old.hands.items → (e : Event) (done : Bool) →
+    DoesEvent program places old new e done →
+    IsScheduled program places arguments memory events old →
+    IsScheduled program places arguments memory (events ++ e ∷ []) new
 
 -- ---- the globals
 
@@ -58,13 +83,16 @@ global_at places g i = wrapped Bits64 (number_in places.globals g +ℤ pos i)
 abbrev pub HoldsGlobals : Program → Places → Memory → Run → Type 0
 HoldsGlobals program places memory k =
     (g i : ℕ) → i < global_cells (slice_get program.globals g) →
-    (z : ℤ) × (memory (record { object = Shared g; index = i }) ≡ Some z) × (cell_in k.cells.cells.items (global_at places g i) ≡ Some z)
+    (z : ℤ) × (memory (record { object = Shared g; index = i }) ≡ Some z) ×
+    (cell_in k.cells.cells.items (global_at places g i) ≡ Some z)
 
 abbrev pub RunsHoldGlobals : Type 0
 RunsHoldGlobals =
-    (program : Program) → IsAccepted program → (places : Places) (arguments : List ℤ) (memory : Memory) (events : List Event) (k : Run) →
+    (program : Program) → IsAccepted program →
+    (places : Places) (arguments : List ℤ) (memory : Memory) (events : List Event) (k : Run) →
     IsScheduled program places arguments memory events k →
-    HoldsGlobals program places (replay program (length k.hands.items) events (start program arguments memory)).core.memory k
+    HoldsGlobals program places
+    (replay program (length k.hands.items) events (start program arguments memory)).core.memory k
 
 -- ---- the schedule theorem
 
@@ -81,7 +109,8 @@ pub record EndsAs (places : Places) (serial : Outcome) (k : Run) : Type 0 where
       cell_in k.cells.cells.items (global_at places g i) ≡ Some z
 
 -- The schedule theorem of a run that shows this machine: what it says of the machine, and of the run's own numbers.
-pub record KeepsItsSchedule (program : Program) (places : Places) (arguments : List ℤ) (memory : Memory) (m : Machine) (k : Run) : Type 0 where
+pub record KeepsItsSchedule (program : Program) (places : Places) (arguments : List ℤ) (memory : Memory) (m : Machine)
+    (k : Run) : Type 0 where
   pub serial : Outcome
   pub is_serial : IsSerialMeaning program arguments memory serial
   pub within_budget : serial.count ≤ budget_of program
@@ -94,6 +123,8 @@ pub record KeepsItsSchedule (program : Program) (places : Places) (arguments : L
 
 abbrev pub RunsKeepTheirSchedules : Type 0
 RunsKeepTheirSchedules =
-    (program : Program) → IsAccepted program → (places : Places) (arguments : List ℤ) (memory : Memory) (events : List Event) (k : Run) →
+    (program : Program) → IsAccepted program →
+    (places : Places) (arguments : List ℤ) (memory : Memory) (events : List Event) (k : Run) →
     IsScheduled program places arguments memory events k →
-    KeepsItsSchedule program places arguments memory (replay program (length k.hands.items) events (start program arguments memory)) k
+    KeepsItsSchedule program places arguments memory
+    (replay program (length k.hands.items) events (start program arguments memory)) k

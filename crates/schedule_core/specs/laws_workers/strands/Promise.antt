@@ -1,4 +1,5 @@
--- A worker's frame may go on apart from the machine, by itself and over borders, in each program that the verifier takes.
+-- A worker's frame may go on apart from the machine, by itself and over borders, in each program that the verifier
+-- takes.
 use Rattle.std.specs.Prelude.{◌≡◌, ℕ, ◌+◌, ◌≤◌, List, Option, Some, ℤ}
 use Rattle.semantics.specs.Cells.{Object, Memory}
 use Rattle.semantics.specs.State.{State}
@@ -30,7 +31,8 @@ use Rattle.schedule_commit.specs.strand.Along.{LoadsGoAsStrands}
 -- wherever a schedule leads
 abbrev pub FramesGoAlone : Type 0
 FramesGoAlone =
-    (text : List ℕ) (program : Program) → IsProgramOf text program → (arguments : List ℤ) (memory : Memory) → AreTaken program arguments →
+    (text : List ℕ) (program : Program) → IsProgramOf text program → (arguments : List ℤ) (memory : Memory) →
+    AreTaken program arguments →
     HasGlobals program memory → (workers : ℕ) → 1 ≤ workers → (events : List Event) →
     GoesAloneIn program (replay program workers events (start program arguments memory))
 
@@ -40,12 +42,14 @@ FramesGoAlone =
 abbrev pub laid_out : (Object → ℤ) → Program → State → Layout
 laid_out at prog s = record { at = at; cells = living prog s }
 
--- what a strand's top frame does next is safe, and so is each plain step after it, with any numbers in the cells of living objects at each of them
+-- what a strand's top frame does next is safe, and so is each plain step after it, with any numbers in the cells of
+-- living objects at each of them
 pub record IsSafeStrand (prog : Program) (m : Machine) (w : ℕ) (d : Strand) : Type 0 where
   pub alone : (at : Object → ℤ) → StaysSafeAlone prog (laid_out at prog (absorbed m w d).core) d.top.path d.top.frame
   -- a call passes whole objects
   pub whole : (register : Option RegisterId) (callee : FunctionId) (arguments : List Argument) →
-      item_at prog d.top.frame.function d.top.frame.block d.top.frame.index ≡ Some (Does (instruction.Call register callee arguments)) →
+      item_at prog d.top.frame.function d.top.frame.block d.top.frame.index
+      ≡ Some (Does (instruction.Call register callee arguments)) →
       ArgumentsAreWhole d.top.frame arguments
   -- what it points to does not go before it
   pub points : PointsUp d.top.path d.top.frame
@@ -59,7 +63,8 @@ StaysSafeAsStrands prog m = (w : ℕ) (d : Strand) → IsStrand prog d → Runs 
 -- wherever a schedule leads
 abbrev pub FramesGoAsStrands : Type 0
 FramesGoAsStrands =
-    (text : List ℕ) (program : Program) → IsProgramOf text program → (arguments : List ℤ) (memory : Memory) → AreTaken program arguments →
+    (text : List ℕ) (program : Program) → IsProgramOf text program → (arguments : List ℤ) (memory : Memory) →
+    AreTaken program arguments →
     HasGlobals program memory → (workers : ℕ) → 1 ≤ workers → (events : List Event) →
     StaysSafeAsStrands program (replay program workers events (start program arguments memory))
 
@@ -68,6 +73,9 @@ FramesGoAsStrands =
 -- wherever a schedule leads
 abbrev pub LoadedFramesGoAsStrands : Type 0
 LoadedFramesGoAsStrands =
-    (text : List ℕ) (program : Program) → IsProgramOf text program → (places : Places) → ArePlaces program places → (arguments : List ℤ) (memory : Memory) →
+    (text : List ℕ) (program : Program) → IsProgramOf text program → (places : Places) → ArePlaces program places →
+    (arguments : List ℤ) (memory : Memory) →
     AreTaken program arguments → HasGlobals program memory → (workers : ℕ) → 1 ≤ workers → (events : List Event) →
-    LoadsGoAsStrands program places (living program (replay program workers events (start program arguments memory)).core) (replay program workers events (start program arguments memory))
+    LoadsGoAsStrands program places
+    (living program (replay program workers events (start program arguments memory)).core)
+    (replay program workers events (start program arguments memory))
