@@ -5,7 +5,7 @@ use Rattle.program.specs.declared.function.Program.{Program}
 use Rattle.schedule_workers.specs.Starts.{ArePlaces}
 use Rattle.schedule_core.specs.strand.Along.{IsUnderWay}
 use Rattle.schedule_core.proofs.Coding.{places_are}
-use Rattle.shared_run.specs.Strands.{Apart, Holds, StandsSo}
+use Rattle.shared_run.specs.Strands.{Apart, StandsSo}
 use Rattle.shared_run.proofs.Strands.{holds_onward, stands_so}
 use Rattle.shared_run.proofs.worker_strand.WorkerStrand.advance.Goals as goal
 
