@@ -1,0 +1,8 @@
+//! Frames of a strand as windows of a row: what `windows` does over a border is a step of the strand.
+//!
+//! - `law`: a call, a detach, a return, a reattach and a sync, whatever the frames stand on and whatever is kept elsewhere.
+#![tactic(auto)]
+
+mod law;
+
+pub use law::strands_cross;
