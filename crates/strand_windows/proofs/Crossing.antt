@@ -188,11 +188,11 @@ reattaches_as l s ground t rest d old new pc b end h next region continuation so
     }
 
 pub syncs_as : SyncsAsStrands
-syncs_as l s ground t rest d old new pc b end h registers from next blocks region target there is only long kept enters =
+syncs_as l s ground t rest d old new pc b end h registers from next blocks region target there is along enters =
     let below = h.shown.windows.below in
     let act = syncs_to t.prog l s d h.can region target (here l s ground t rest d old new pc b end h (Ends (terminator.Sync region target)) is.here) in
     let can = crosses l s ground t rest d old new pc b end h (Sync region.0 target.0 act.0) act.2 (λ stuck. stuck) in
-    let on = sync_shown ground t (run_of d below) old new pc h.shown.windows.frames can registers from next blocks region target there is only long kept enters in
+    let on = sync_shown ground t (run_of d below) old new pc h.shown.windows.frames can registers from next blocks region target there is along.only along.long along.kept enters in
     record {
       registers = on.registers;
       shown = record {

@@ -1,3 +1,4 @@
 pub mod Grounds
 pub mod Own
 pub mod Crossing
+pub mod Along

@@ -1,4 +1,4 @@
-ghost use Rattle.strand_windows.specs.Steps.{CallsAsStrands, DetachesAsStrands, ReattachesAsStrands, ReturnsAsStrands, ReturnsNothingAsStrands, SyncsAsStrands};
+ghost use Rattle.strand_windows.specs.Steps.{AdvancesAsStrands, CallsAsStrands, DetachesAsStrands, ReattachesAsStrands, ReturnsAsStrands, ReturnsNothingAsStrands, SyncsAsStrands};
 
 /// Where windows show a strand that can go on, each step that they make over a border is the strand's, and they show it again.
 pub fn strands_cross()
@@ -8,4 +8,9 @@ pub fn strands_cross()
     ensures nothing { ReturnsNothingAsStrands }
     ensures reattaches { ReattachesAsStrands }
     ensures syncs { SyncsAsStrands }
+{}
+
+/// So are the plain steps of the frame on top, as the engine does them in its window.
+pub fn strands_advance()
+    ensures { AdvancesAsStrands }
 {}

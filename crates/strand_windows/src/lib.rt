@@ -1,8 +1,8 @@
-//! Frames of a strand as windows of a row: what `windows` does over a border is a step of the strand.
+//! Frames of a strand as windows of a row: what `windows` does there are steps of the strand.
 //!
-//! - `law`: a call, a detach, a return, a reattach and a sync, whatever the frames stand on and whatever is kept elsewhere.
+//! - `law`: a call, a detach, a return, a reattach and a sync, whatever the frames stand on and whatever is kept elsewhere; and plain steps.
 #![tactic(auto)]
 
 mod law;
 
-pub use law::strands_cross;
+pub use law::{strands_advance, strands_cross};
