@@ -2,3 +2,4 @@ pub mod Grounds
 pub mod Own
 pub mod Crossing
 pub mod Along
+pub mod Entering

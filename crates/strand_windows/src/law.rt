@@ -1,4 +1,9 @@
-ghost use Rattle.strand_windows.specs.Steps.{AdvancesAsStrands, CallsAsStrands, DetachesAsStrands, ReattachesAsStrands, ReturnsAsStrands, ReturnsNothingAsStrands, SyncsAsStrands};
+ghost use Rattle.strand_windows.specs.Steps.{AdvancesAsStrands, CallsAsStrands, DetachesAsStrands, ReattachesAsStrands, ReturnsAsStrands, ReturnsNothingAsStrands, SyncsAsStrands, TakesIn};
+
+/// The frame on top of a strand in boxes, copied into a row, is shown there with what the strand's cells show.
+pub fn strands_enter()
+    ensures { TakesIn }
+{}
 
 /// Where windows show a strand that can go on, each step that they make over a border is the strand's, and they show it again.
 pub fn strands_cross()
