@@ -1,23 +1,19 @@
 -- Each step over a border that windows make is the strand's.
 use Rattle.std.proofs.Common.{◌≡◌, ◌≢◌, ℕ, ℤ, pos, List, [], ◌∷◌, ◌++◌, refl, ap, sym, ◌∙◌, subst, reverse, Bool, true, false, Option, Some, None}
-use Rattle.linear.specs.declared.form.RegisterId.{RegisterId}
 use Rattle.semantics.specs.Frames as frames
-use Rattle.semantics.specs.Frames.{Body, Does, Ends, Free, Item, OnCall, Role, Wait, item_at}
+use Rattle.semantics.specs.Frames.{Does, Ends, Item, Role, item_at}
 use Rattle.semantics.specs.Effect.{Action, Call, Detach, Reattach, Return, Sync}
 use Rattle.semantics.specs.State.{called, continued, detached, resumed, synced, waiting}
 use Rattle.semantics.proofs.Actions.{return_is_body}
-use Rattle.program.specs.declared.identifier.FunctionId.{FunctionId}
-use Rattle.program.specs.declared.instruction.Argument.{Argument}
 use Rattle.program.specs.declared.instruction.Instruction.TheVariants as instruction
-use Rattle.program.specs.declared.instruction.Operand.{Operand}
 use Rattle.program.specs.declared.instruction.Terminator.TheVariants as terminator
 use Rattle.frame_engine.specs.Shows.{Layout}
 use Rattle.serial_stack.specs.Layouts.{Ground, IsHeld, end_on}
-use Rattle.serial_stack.specs.Shown.{BeginsAt, place_of}
-use Rattle.serial_stack.specs.Steps.{HasNoStep, IsNotCalling, IsNotFree, IsStuck}
+use Rattle.serial_stack.specs.Shown.{BeginsAt}
+use Rattle.serial_stack.specs.Steps.{HasNoStep, IsNotCalling, IsNotFree}
 use Rattle.laws_strands.specs.stacks.Footprint.{memory_of}
 use Rattle.laws_strands.specs.stacks.Strands as strands
-use Rattle.laws_strands.specs.stacks.Strands.{IsStrand, Placed, at, entered, is_called, is_detached, is_past_sync, is_reattached, is_returned, next_action}
+use Rattle.laws_strands.specs.stacks.Strands.{Placed, at, entered, is_called, is_detached, is_past_sync, is_reattached, is_returned, next_action}
 use Rattle.laws_strands.proofs.stacks.Rising.{ends_match}
 use Rattle.strand.specs.Layouts.{Segment, end_above}
 use Rattle.strand.specs.declared.cells.StrandCells.{StrandCells}
@@ -27,7 +23,7 @@ use Rattle.windows.specs.declared.windows.Windows.{Windows}
 use Rattle.windows.specs.Shown.{CanCross, IsItem, Returned, ShowsBelow, ShowsFrames, Text}
 use Rattle.windows.proofs.Kept.{placed}
 use Rattle.windows.proofs.Syncing.{sync_shown}
-use Rattle.strand_windows.specs.Shown.{Shows, ShowsWindows, Stands, ground_at, last_of, run_of}
+use Rattle.strand_windows.specs.Shown.{ShowsWindows, Stands, ground_at, last_of, run_of}
 use Rattle.strand_windows.specs.Steps.{CallsAsStrands, DetachesAsStrands, ReattachesAsStrands, ReturnedAs, ReturnsAsStrands, ReturnsNothingAsStrands, SyncsAsStrands}
 use Rattle.strand_windows.proofs.Grounds.{all_end, same_ground}
 use Rattle.strand_windows.proofs.Own.{called_own, detached_own, reattached_own, returned_own, synced_own}

@@ -1,5 +1,5 @@
 -- The frame that is copied into a row is shown there.
-use Rattle.std.proofs.Common.{◌≡◌, ℕ, List, [], refl, ap, sym, subst, reverse, ℤ}
+use Rattle.std.proofs.Common.{ℕ, List, [], refl, ap, sym, subst, reverse, ℤ}
 use Rattle.frame_engine.specs.Activation.{allocas_of}
 use Rattle.frame_engine.specs.Shows.{ShowsBases, ShowsRegisters}
 use Rattle.frame_engine.specs.Words.{bases}

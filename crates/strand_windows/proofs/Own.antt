@@ -1,5 +1,5 @@
 -- After a step over a border the strand's cells show it again.
-use Rattle.std.proofs.Common.{◌≡◌, ℕ, suc, ◌+◌, ◌<◌, ◌≤◌, List, [], ◌∷◌, length, refl, ap, sym, ◌∙◌, subst, arith, true, ℤ, Option}
+use Rattle.std.proofs.Common.{◌≡◌, ℕ, suc, ◌+◌, ◌≤◌, List, [], ◌∷◌, length, refl, ap, sym, ◌∙◌, subst, arith, true, ℤ, Option}
 use Rattle.std.specs.Prelude.{IsSome, sum}
 use Rattle.std.proofs.lemmas.Bool.{false_from_ne_true}
 use Rattle.linear.specs.declared.form.RegisterId.{RegisterId}
