@@ -71,7 +71,7 @@ module _ (l k : Layout) (first : Cell → ℤ) (f : Footprint) (x : StrandCells)
   abbrev gone_footprint : Footprint
   gone_footprint = with_writes f (clears p) no_adds
 
-  same_writes : (c : Cell) → owns p c.object ≡ false → gone_footprint.writes c ≡ f.writes c
+  pub same_writes : (c : Cell) → owns p c.object ≡ false → gone_footprint.writes c ≡ f.writes c
   same_writes c e = ap (λ (t : Bool). stored (cond {A = Option (Option ℤ)} t (Some None) None) (f.writes c)) e
 
   pub cleared_kept : ShowsKept l (with_allocas p sizes home k) first f x → ShowsKept l k first gone_footprint x

@@ -1,0 +1,5 @@
+pub mod Grounds
+pub mod Own
+pub mod Crossing
+pub mod Along
+pub mod Entering
