@@ -26,6 +26,7 @@ pub use activation::{Frame, Places};
 pub use arithmetic::{binary, compare, sum};
 pub use beginning::{blank, first_registers};
 pub use borders::taker;
+pub use calls::have_words;
 pub use cells::Cells;
 pub use clearing::write_zeros;
 pub use entering::enter_along;

@@ -6,9 +6,13 @@
 
 mod borders;
 mod cells;
+mod crossing;
 mod going;
+mod leaving;
 mod loading;
+mod span;
 mod strand;
+mod stretch;
 
 pub use cells::StrandCells;
 pub use going::Pause;

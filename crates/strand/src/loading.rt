@@ -9,6 +9,7 @@ ghost use Rattle.strand.specs.Along.{IsUnderWay, MayBegin};
 ghost use Rattle.strand.specs.OwnCells.{segment_of};
 
 use crate::cells::StrandCells;
+use crate::span::Span;
 use crate::strand::{Base, Strand};
 use frame_engine::{Frame, blank};
 use lists::OutOfMemory;
@@ -61,6 +62,7 @@ impl Strand {
             cells,
             end: 0,
             moves,
+            span: Span::none(alloc),
         })
     }
 

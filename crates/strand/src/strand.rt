@@ -1,6 +1,7 @@
 ghost use Rattle.std.specs.Prelude.{◌≡◌, ◌++◌, ◌∷◌, [], OnOk};
 
 use crate::cells::StrandCells;
+use crate::span::Span;
 use frame_engine::{Frame, blank};
 use lists::OutOfMemory;
 use std::alloc::Global;
@@ -33,6 +34,8 @@ pub struct Strand {
     pub end: u64,
     /// Room for the phi moves of an edge.
     pub moves: Vec<i64>,
+    /// The frames that stand in windows while it goes on. Between two calls of `go` there are none.
+    pub span: Span,
 }
 
 /// A frame that is over, or a new one.

@@ -1,0 +1,162 @@
+use crate::span::Maker;
+use crate::strand::{Strand, fresh};
+use code_tables::Tables;
+use frame::{Role, Wait};
+use frame_engine::{Frame, Place as TextPlace, function_at, have_words};
+use lists::OutOfMemory;
+use program::{Instruction, Program, RegisterId, Terminator};
+use window_runs::{Place, place_at};
+use windows::Windows;
+
+/// How a frame below waits for the one above it, and what that one runs.
+fn roles_at(program: &Program, tables: &Tables, maker: Maker) -> (Wait, Role) {
+    let there = place_at(tables, maker.at);
+    let function = function_at(program, there.function);
+    let block = &function.blocks.as_slice()[there.block.0];
+    let steps = block.steps.as_slice();
+    if there.index < steps.len() {
+        let step = &steps[there.index];
+        match &step.instruction {
+            Instruction::Call { register, .. } => {
+                return (
+                    Wait::Call {
+                        child: maker.made - 1,
+                        register: *register,
+                    },
+                    Role::Body,
+                );
+            }
+            _ => unreachable!(),
+        }
+    }
+    match &block.ending {
+        Some(ending) => match &ending.terminator {
+            Terminator::Detach {
+                region,
+                continuation,
+                ..
+            } => (
+                Wait::Nothing,
+                Role::Child {
+                    region: *region,
+                    continuation: *continuation,
+                },
+            ),
+            _ => unreachable!(),
+        },
+        None => unreachable!(),
+    }
+}
+
+/// The region of the sync at this slot.
+fn region_at(program: &Program, tables: &Tables, pc: usize) -> RegisterId {
+    let there = place_at(tables, pc);
+    let function = function_at(program, there.function);
+    let block = &function.blocks.as_slice()[there.block.0];
+    match &block.ending {
+        Some(ending) => match &ending.terminator {
+            Terminator::Sync { region, .. } => *region,
+            _ => unreachable!(),
+        },
+        None => unreachable!(),
+    }
+}
+
+/// Writes the window that stands from `base` to `end` into the frame, which goes on at the slot.
+#[inline(always)]
+fn write_window(
+    frame: &mut Frame,
+    tables: &Tables,
+    windows: &Windows,
+    pc: usize,
+    base: usize,
+    end: usize,
+    home: i64,
+) -> Result<(), OutOfMemory> {
+    have_words(&mut frame.registers, end - base)?;
+    windows.take_out(base, frame.registers.as_mut_slice());
+    let there = place_at(tables, pc);
+    frame.function = there.function;
+    frame.place = TextPlace {
+        block: there.block,
+        index: there.index,
+    };
+    frame.home = home;
+    Ok(())
+}
+
+/// Where the window of the frame above that of this number begins.
+#[inline(always)]
+fn base_above(windows: &Windows, number: usize) -> usize {
+    if number + 1 < windows.below.len() {
+        windows.below[number + 1].base
+    } else {
+        windows.base
+    }
+}
+
+impl Strand {
+    /// The frame of this number below the top in windows goes to the box on top, and a box for the one above it stands on that.
+    fn give_out_one(
+        &mut self,
+        program: &Program,
+        tables: &Tables,
+        number: usize,
+    ) -> Result<(), OutOfMemory> {
+        let saved = self.span.windows.below[number];
+        let maker = self.span.makers[number];
+        let end = base_above(&self.span.windows, number) - 1;
+        let (waits, role) = roles_at(program, tables, maker);
+        let mut frame = fresh(&mut self.spare, self.alloc)?;
+        let above = frame.as_mut();
+        let top = self.top.as_mut();
+        write_window(
+            top,
+            tables,
+            &self.span.windows,
+            saved.pc,
+            saved.base,
+            end,
+            saved.home,
+        )?;
+        top.made = maker.made;
+        top.waits = waits;
+        above.role = role;
+        above.depth = top.depth + 1;
+        self.push(frame)?;
+        Ok(())
+    }
+
+    /// Each frame in a window goes to a box: the one that was taken in to the one that it came from, and the others on it. The one on top stands there;
+    /// `room` steps are left, of so many when the first one was taken in.
+    pub(crate) fn give_out(
+        &mut self,
+        program: &Program,
+        tables: &Tables,
+        here: Place,
+        room: u64,
+        had: u64,
+    ) -> Result<(), OutOfMemory> {
+        for number in 0..self.span.windows.below.len() {
+            self.give_out_one(program, tables, number)?;
+        }
+        let top = self.top.as_mut();
+        write_window(
+            top,
+            tables,
+            &self.span.windows,
+            here.pc,
+            self.span.windows.base,
+            here.end,
+            self.span.windows.home,
+        )?;
+        top.made = self.span.made;
+        // A frame that has gone on waits for nothing, but right behind a sync.
+        if self.span.synced_room == room {
+            top.waits = Wait::Region(region_at(program, tables, self.span.synced_at));
+        } else if room != had {
+            top.waits = Wait::Nothing;
+        }
+        Ok(())
+    }
+}
