@@ -170,15 +170,14 @@ impl<'p, L: Bench> WorkerStrand<'p, L> {
     pub fn frames_below(&self) -> usize
         ensures { result ≡ length self.now.strand.below.items }
     {
-        self.strand.below.len()
+        self.strand.count_below()
     }
 
     /// Whether a frame below is behind a detach, so that its task is ready once the strand is published.
     pub fn has_ready_frame(&self) -> bool
         ensures { result ≡ list_any (λ frame. waits_for_nothing frame.value.waits) self.now.strand.below.items }
     {
-        let mut frames = self.strand.below.iter();
-        frames.any(|frame| waits_for_nothing(frame.waits))
+        self.strand.has_ready(self.code.tables())
     }
 
     /// Whether a reattach is next.
@@ -203,6 +202,23 @@ impl<'p, L: Bench> WorkerStrand<'p, L> {
             Some(&self.strand)
         } else {
             None
+        }
+    }
+
+    /// Its frames are as a board takes them; whether memory was refused.
+    pub fn settle(&mut self) -> bool {
+        if !self.standing.is_up() {
+            return false;
+        }
+        match self
+            .strand
+            .settle(self.verified.program(), self.code.tables())
+        {
+            Ok(()) => false,
+            Err(OutOfMemory) => {
+                self.standing = Standing::Spoilt;
+                true
+            }
         }
     }
 

@@ -5,7 +5,8 @@ use frame::{Role, Wait};
 use frame_engine::{Frame, Place as TextPlace, function_at, have_words};
 use lists::OutOfMemory;
 use program::{Instruction, Program, RegisterId, Terminator};
-use window_runs::{Place, place_at};
+use slot_codes::{Border, Code};
+use window_runs::place_at;
 use windows::Windows;
 
 /// How a frame below waits for the one above it, and what that one runs.
@@ -127,16 +128,9 @@ impl Strand {
         Ok(())
     }
 
-    /// Each frame in a window goes to a box: the one that was taken in to the one that it came from, and the others on it. The one on top stands there;
-    /// `room` steps are left, of so many when the first one was taken in.
-    pub(crate) fn give_out(
-        &mut self,
-        program: &Program,
-        tables: &Tables,
-        here: Place,
-        room: u64,
-        had: u64,
-    ) -> Result<(), OutOfMemory> {
+    /// Each frame in a window goes to a box: the one that was taken in to the one that it came from, and the others on it.
+    #[inline(never)]
+    pub(crate) fn give_out(&mut self, program: &Program, tables: &Tables) -> Result<(), OutOfMemory> {
         for number in 0..self.span.windows.below.len() {
             self.give_out_one(program, tables, number)?;
         }
@@ -145,18 +139,59 @@ impl Strand {
             top,
             tables,
             &self.span.windows,
-            here.pc,
+            self.span.place.pc,
             self.span.windows.base,
-            here.end,
+            self.span.place.end,
             self.span.windows.home,
         )?;
         top.made = self.span.made;
         // A frame that has gone on waits for nothing, but right behind a sync.
-        if self.span.synced_room == room {
+        if self.done == self.span.synced {
             top.waits = Wait::Region(region_at(program, tables, self.span.synced_at));
-        } else if room != had {
+        } else if self.done != self.span.taken {
             top.waits = Wait::Nothing;
         }
+        self.span.holds = false;
         Ok(())
+    }
+
+    /// Its frames stand in boxes from here on, as they are published.
+    pub fn settle(&mut self, program: &Program, tables: &Tables) -> Result<(), OutOfMemory> {
+        if self.span.holds { self.give_out(program, tables) } else { Ok(()) }
+    }
+
+    /// How many of its frames stand below the one that goes on.
+    pub fn count_below(&self) -> usize {
+        if self.span.holds {
+            self.below.len() + self.span.makers.len()
+        } else {
+            self.below.len()
+        }
+    }
+
+    /// Whether a frame below is behind a detach.
+    pub fn has_ready(&self, tables: &Tables) -> bool {
+        for frame in self.below.as_slice() {
+            if let Wait::Nothing = frame.waits {
+                return true;
+            }
+        }
+        if !self.span.holds {
+            return false;
+        }
+        for maker in self.span.makers.as_slice() {
+            if is_detach(tables, maker.at) {
+                return true;
+            }
+        }
+        false
+    }
+}
+
+/// Whether a detach stands at this slot.
+fn is_detach(tables: &Tables, pc: usize) -> bool {
+    match &tables.codes.as_slice()[pc] {
+        Code::Border { border, .. } => matches!(border, Border::Detach { .. }),
+        _ => false,
     }
 }

@@ -97,6 +97,7 @@ impl Strand {
         become_copy(&mut self.base.frame, frame)?;
         become_copy(self.top.as_mut(), frame)?;
         self.spare.append(&mut self.below)?;
+        self.span.holds = false;
         self.base.childless = childless;
         self.done = 0;
         self.deepest = 0;

@@ -165,6 +165,9 @@ fn publish_all<L: Bench, T: Tasks>(
         if nth > 0 && !comes_to_border(board, strand) {
             break;
         }
+        if strand.settle() {
+            return Met::OutOfMemory;
+        }
         met = publish(board, tasks, seat, strand, habits, reason);
         strand.clear();
         if let Met::Work = met {
