@@ -1,37 +1,21 @@
-use crate::span::Maker;
 use crate::strand::{Strand, fresh};
 use code_tables::Tables;
 use frame::{Role, Wait};
 use frame_engine::{Frame, Place as TextPlace, function_at, have_words};
 use lists::OutOfMemory;
 use program::{Instruction, Program, RegisterId, Terminator};
-use slot_codes::{Border, Code};
 use window_runs::place_at;
-use windows::Windows;
+use windows::{Saved, Windows};
 
-/// How a frame below waits for the one above it, and what that one runs.
-fn roles_at(program: &Program, tables: &Tables, maker: Maker) -> (Wait, Role) {
-    let there = place_at(tables, maker.at);
-    let function = function_at(program, there.function);
-    let block = &function.blocks.as_slice()[there.block.0];
-    let steps = block.steps.as_slice();
-    if there.index < steps.len() {
-        let step = &steps[there.index];
-        match &step.instruction {
-            Instruction::Call { register, .. } => {
-                return (
-                    Wait::Call {
-                        child: maker.made - 1,
-                        register: *register,
-                    },
-                    Role::Body,
-                );
-            }
-            _ => unreachable!(),
-        }
-    }
-    match &block.ending {
-        Some(ending) => match &ending.terminator {
+/// Whether a frame below that goes on at this slot made the one above it by a detach: behind a call it goes on within the block.
+fn is_behind_detach(tables: &Tables, pc: usize) -> bool {
+    place_at(tables, pc).index == 0
+}
+
+/// How a frame below waits for the one above it, and what that one runs. `made` are its children.
+fn roles_at(program: &Program, tables: &Tables, saved: Saved, made: u64) -> (Wait, Role) {
+    if is_behind_detach(tables, saved.pc) {
+        match ending_at(program, tables, saved.taker) {
             Terminator::Detach {
                 region,
                 continuation,
@@ -44,22 +28,47 @@ fn roles_at(program: &Program, tables: &Tables, maker: Maker) -> (Wait, Role) {
                 },
             ),
             _ => unreachable!(),
-        },
+        }
+    } else {
+        let register = register_at(program, tables, saved.pc - 1);
+        (
+            Wait::Call {
+                child: made - 1,
+                register,
+            },
+            Role::Body,
+        )
+    }
+}
+
+/// The ending at this slot.
+fn ending_at<'p>(program: &'p Program, tables: &Tables, pc: usize) -> &'p Terminator {
+    let there = place_at(tables, pc);
+    let function = function_at(program, there.function);
+    let block = &function.blocks.as_slice()[there.block.0];
+    match &block.ending {
+        Some(ending) => &ending.terminator,
         None => unreachable!(),
+    }
+}
+
+/// What takes the result of the call at this slot.
+fn register_at(program: &Program, tables: &Tables, pc: usize) -> Option<RegisterId> {
+    let there = place_at(tables, pc);
+    let function = function_at(program, there.function);
+    let block = &function.blocks.as_slice()[there.block.0];
+    let step = &block.steps.as_slice()[there.index];
+    match &step.instruction {
+        Instruction::Call { register, .. } => *register,
+        _ => unreachable!(),
     }
 }
 
 /// The region of the sync at this slot.
 fn region_at(program: &Program, tables: &Tables, pc: usize) -> RegisterId {
-    let there = place_at(tables, pc);
-    let function = function_at(program, there.function);
-    let block = &function.blocks.as_slice()[there.block.0];
-    match &block.ending {
-        Some(ending) => match &ending.terminator {
-            Terminator::Sync { region, .. } => *region,
-            _ => unreachable!(),
-        },
-        None => unreachable!(),
+    match ending_at(program, tables, pc) {
+        Terminator::Sync { region, .. } => *region,
+        _ => unreachable!(),
     }
 }
 
@@ -105,9 +114,9 @@ impl Strand {
         number: usize,
     ) -> Result<(), OutOfMemory> {
         let saved = self.span.windows.below[number];
-        let maker = self.span.makers[number];
+        let made = self.span.made_by(number, saved.made);
         let end = base_above(&self.span.windows, number) - 1;
-        let (waits, role) = roles_at(program, tables, maker);
+        let (waits, role) = roles_at(program, tables, saved, made);
         let mut frame = fresh(&mut self.spare, self.alloc)?;
         let above = frame.as_mut();
         let top = self.top.as_mut();
@@ -120,7 +129,7 @@ impl Strand {
             end,
             saved.home,
         )?;
-        top.made = maker.made;
+        top.made = made;
         top.waits = waits;
         above.role = role;
         above.depth = top.depth + 1;
@@ -144,7 +153,9 @@ impl Strand {
             self.span.place.end,
             self.span.windows.home,
         )?;
-        top.made = self.span.made;
+        top.made = self
+            .span
+            .made_by(self.span.windows.below.len(), self.span.windows.made);
         // A frame that has gone on waits for nothing, but right behind a sync.
         if self.done == self.span.synced {
             top.waits = Wait::Region(region_at(program, tables, self.span.synced_at));
@@ -163,7 +174,7 @@ impl Strand {
     /// How many of its frames stand below the one that goes on.
     pub fn count_below(&self) -> usize {
         if self.span.holds {
-            self.below.len() + self.span.makers.len()
+            self.below.len() + self.span.windows.below.len()
         } else {
             self.below.len()
         }
@@ -179,19 +190,11 @@ impl Strand {
         if !self.span.holds {
             return false;
         }
-        for maker in self.span.makers.as_slice() {
-            if is_detach(tables, maker.at) {
+        for saved in self.span.windows.below.as_slice() {
+            if is_behind_detach(tables, saved.pc) {
                 return true;
             }
         }
         false
-    }
-}
-
-/// Whether a detach stands at this slot.
-fn is_detach(tables: &Tables, pc: usize) -> bool {
-    match &tables.codes.as_slice()[pc] {
-        Code::Border { border, .. } => matches!(border, Border::Detach { .. }),
-        _ => false,
     }
 }
