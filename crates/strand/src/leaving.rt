@@ -155,7 +155,7 @@ impl Strand {
         )?;
         top.made = self
             .span
-            .made_by(self.span.windows.below.len(), self.span.windows.made);
+            .made_by(self.span.windows.below.len(), self.span.more);
         // A frame that has gone on waits for nothing, but right behind a sync.
         if self.done == self.span.synced {
             top.waits = Wait::Region(region_at(program, tables, self.span.synced_at));
