@@ -115,7 +115,12 @@ impl Machine<'_> {
     /// # Errors
     ///
     /// Memory was refused: the strand shows nothing any more.
-    pub fn load_strand(&self, worker: u8, strand: &mut Strand) -> Result<bool, OutOfMemory>
+    pub fn load_strand(
+        &self,
+        worker: u8,
+        strand: &mut Strand,
+        code: &Decoded,
+    ) -> Result<bool, OutOfMemory>
         ensures begun { IfOk result (λ there. IsTrue there → IsBegun self.now.stage worker strand.new) }
         ensures moves { OnOk result (strand.new.moves ≡ strand.old.moves) }
         ensures same { result ≡ Ok false → strand.new ≡ strand.old }
@@ -137,6 +142,7 @@ impl Machine<'_> {
             part.start as u64,
             part.cells,
             self.stage.run.cells.cells.len(),
+            code.tables(),
         )?;
         Ok(true)
     }

@@ -256,7 +256,7 @@ impl<'p, L: Bench> WorkerStrand<'p, L> {
         ensures none { result ≢ Ok true → ¬ IsUp self.new.standing }
     {
         self.renew()?;
-        match machine.load_strand(worker, &mut self.strand) {
+        match machine.load_strand(worker, &mut self.strand, self.code) {
             Ok(true) => {
                 self.standing = Standing::Going;
                 Ok(true)

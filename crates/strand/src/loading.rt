@@ -11,6 +11,8 @@ ghost use Rattle.strand.specs.OwnCells.{segment_of};
 use crate::cells::StrandCells;
 use crate::span::Span;
 use crate::strand::{Base, Strand};
+use crate::stretch::place_of;
+use code_tables::Tables;
 use frame_engine::{Frame, blank};
 use lists::OutOfMemory;
 use std::alloc::Global;
@@ -37,6 +39,15 @@ fn become_copy(target: &mut Frame, source: &Frame) -> Result<(), OutOfMemory>
 }
 
 impl Strand {
+    /// The frame goes on in a window; its box shows nothing but how it waits and what it runs.
+    fn take_in(&mut self, tables: &Tables, frame: &Frame) -> Result<(), OutOfMemory> {
+        let top = self.top.as_mut();
+        top.waits = frame.waits;
+        top.role = frame.role;
+        top.depth = frame.depth;
+        self.span.take_in(frame, place_of(tables, frame), 0)
+    }
+
     /// A strand without a base, with room for so many phi moves.
     pub fn new(alloc: Global, moves: usize) -> Result<Strand, OutOfMemory>
         ensures { IfOk result (λ x. length x.moves.items ≡ moves) }
@@ -80,6 +91,7 @@ impl Strand {
         start: u64,
         room: usize,
         cells: usize,
+        tables: &Tables,
     ) -> Result<(), OutOfMemory>
         ensures path { OnOk result (self.new.base.path.items ≡ path.now) }
         ensures loaded { OnOk result (IsCopy frame.now self.new.base.frame) }
@@ -95,9 +107,8 @@ impl Strand {
         self.base.path.clear();
         self.base.path.extend_from_slice(path)?;
         become_copy(&mut self.base.frame, frame)?;
-        become_copy(self.top.as_mut(), frame)?;
+        self.take_in(tables, frame)?;
         self.spare.append(&mut self.below)?;
-        self.span.holds = false;
         self.base.childless = childless;
         self.done = 0;
         self.deepest = 0;
