@@ -137,12 +137,20 @@ impl Strand {
         Ok(())
     }
 
-    /// Each frame in a window goes to a box: the one that was taken in to the one that it came from, and the others on it.
-    #[inline(never)]
-    pub(crate) fn give_out(&mut self, program: &Program, tables: &Tables) -> Result<(), OutOfMemory> {
+    /// Writes its frames into boxes, as they are published: the base's to the first one. The windows stay as they are.
+    pub fn settle(&mut self, program: &Program, tables: &Tables) -> Result<(), OutOfMemory> {
+        self.spare.append(&mut self.below)?;
+        let top = self.top.as_mut();
+        top.role = self.base.frame.role;
+        top.depth = self.base.frame.depth;
         for number in 0..self.span.windows.below.len() {
             self.give_out_one(program, tables, number)?;
         }
+        self.give_out_top(program, tables)
+    }
+
+    /// The frame that goes on.
+    fn give_out_top(&mut self, program: &Program, tables: &Tables) -> Result<(), OutOfMemory> {
         let top = self.top.as_mut();
         write_window(
             top,
@@ -159,37 +167,21 @@ impl Strand {
         // A frame that has gone on waits for nothing, but right behind a sync.
         if self.done == self.span.synced {
             top.waits = Wait::Region(region_at(program, tables, self.span.synced_at));
-        } else if self.done != self.span.taken {
+        } else if self.done != 0 {
             top.waits = Wait::Nothing;
+        } else {
+            top.waits = self.base.frame.waits;
         }
-        self.span.holds = false;
         Ok(())
-    }
-
-    /// Its frames stand in boxes from here on, as they are published.
-    pub fn settle(&mut self, program: &Program, tables: &Tables) -> Result<(), OutOfMemory> {
-        if self.span.holds { self.give_out(program, tables) } else { Ok(()) }
     }
 
     /// How many of its frames stand below the one that goes on.
     pub fn count_below(&self) -> usize {
-        if self.span.holds {
-            self.below.len() + self.span.windows.below.len()
-        } else {
-            self.below.len()
-        }
+        self.span.windows.below.len()
     }
 
     /// Whether a frame below is behind a detach.
     pub fn has_ready(&self, tables: &Tables) -> bool {
-        for frame in self.below.as_slice() {
-            if let Wait::Nothing = frame.waits {
-                return true;
-            }
-        }
-        if !self.span.holds {
-            return false;
-        }
         for saved in self.span.windows.below.as_slice() {
             if is_behind_detach(tables, saved.pc) {
                 return true;

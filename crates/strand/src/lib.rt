@@ -4,7 +4,6 @@
 //! - `StrandCells`: the cells of its own frames' allocas, in a segment of addresses, and those that were read and written of others (`strand_pages`).
 #![tactic(auto)]
 
-mod borders;
 mod cells;
 mod crossing;
 mod going;

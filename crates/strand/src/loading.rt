@@ -39,15 +39,6 @@ fn become_copy(target: &mut Frame, source: &Frame) -> Result<(), OutOfMemory>
 }
 
 impl Strand {
-    /// The frame goes on in a window; its box shows nothing but how it waits and what it runs.
-    fn take_in(&mut self, tables: &Tables, frame: &Frame) -> Result<(), OutOfMemory> {
-        let top = self.top.as_mut();
-        top.waits = frame.waits;
-        top.role = frame.role;
-        top.depth = frame.depth;
-        self.span.take_in(frame, place_of(tables, frame), 0)
-    }
-
     /// A strand without a base, with room for so many phi moves.
     pub fn new(alloc: Global, moves: usize) -> Result<Strand, OutOfMemory>
         ensures { IfOk result (λ x. length x.moves.items ≡ moves) }
@@ -107,8 +98,7 @@ impl Strand {
         self.base.path.clear();
         self.base.path.extend_from_slice(path)?;
         become_copy(&mut self.base.frame, frame)?;
-        self.take_in(tables, frame)?;
-        self.spare.append(&mut self.below)?;
+        self.span.take_in(frame, place_of(tables, frame))?;
         self.base.childless = childless;
         self.done = 0;
         self.deepest = 0;

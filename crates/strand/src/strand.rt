@@ -34,7 +34,7 @@ pub struct Strand {
     pub end: u64,
     /// Room for the phi moves of an edge.
     pub moves: Vec<i64>,
-    /// The frames that stand in windows while it goes on. Between two calls of `go` there are none.
+    /// Its frames. Those in boxes are what `settle` has written last.
     pub span: Span,
 }
 
@@ -56,16 +56,6 @@ impl Strand {
     {
         let maker = mem::replace(&mut self.top, frame);
         self.below.push(maker)?;
-        Ok(())
-    }
-
-    /// The frame, which stood below the one on top, goes on.
-    #[inline(always)]
-    pub(crate) fn go_back_to(&mut self, frame: Box<Frame>) -> Result<(), OutOfMemory>
-        ensures only { OnOk result (self.new ≡ record self.old { top = frame; spare = self.new.spare }) }
-    {
-        let over = mem::replace(&mut self.top, frame);
-        self.spare.push(over)?;
         Ok(())
     }
 }
