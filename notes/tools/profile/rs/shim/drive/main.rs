@@ -9,7 +9,7 @@ use std::sync::ledger::Blank;
 use std::sync::atomic::{AtomicU64, Ordering};
 use std::sync::Arc;
 use shared_run::turns::{Habits, Hunger, Met, Offers, Tasks, Told, meet, turn};
-use shared_run::{Bench, Board, Finished, Keeping, Memory, PrivateStack, Verified};
+use shared_run::{Bench, Board, Finished, Keeping, Memory, WorkerStrand, Verified};
 
 struct Ears(Arc<AtomicU64>);
 impl Hunger for Ears { fn is_there(&self) -> bool { self.0.load(Ordering::SeqCst) == 1 } }
@@ -26,7 +26,7 @@ impl Tasks for Counting {
 }
 
 #[unsafe(no_mangle)] #[inline(never)]
-fn measured<'p>(board: &mut Board<'p, Brand>, tasks: &mut Counting, seats: &mut [shared_run::Seat<Brand>], stacks: &mut [PrivateStack<'p, Brand>], habits: &mut [Habits], ears: &Ears) {
+fn measured<'p>(board: &mut Board<'p, Brand>, tasks: &mut Counting, seats: &mut [shared_run::Seat<Brand>], stacks: &mut [WorkerStrand<'p, Brand>], habits: &mut [Habits], ears: &Ears) {
     let n = seats.len();
     loop {
         for w in 0..n {
@@ -57,11 +57,10 @@ pub extern "C" fn main(_: i32, _: *const *const u8) -> i32 {
         return 0;
     }
     let (mut board, mut seats) = match Board::<Brand>::new(Global, &v, &a, m, workers, Keeping::Nothing, Blank::new(workers as u64)) { Ok(x) => x, Err(_) => std::exit(8) };
-    let Ok(shared) = board.machine().share_places() else { std::exit(9) };
-    let places = shared.get();
+    let Ok(code) = serial_machine::Decoded::of(Global, &v) else { std::exit(9) };
     let mut stacks = std::StdVec::new();
     let mut habits = std::StdVec::new();
-    for _ in 0..workers { let Ok(s) = PrivateStack::new(Global, &v, places) else { std::exit(10) }; stacks.push(s); habits.push(Habits::new(Global)); }
+    for _ in 0..workers { let Ok(s) = WorkerStrand::new(Global, &v, &code) else { std::exit(10) }; stacks.push(s); habits.push(Habits::new(Global)); }
     let Ok(offers) = Offers::new(Global, workers) else { std::exit(11) };
     let Ok(wanted) = offers.share() else { std::exit(12) };
     let mut tasks = Counting { offers, publications: 0, strangers: 0, steals: 0, steps: 0, reasons: [0; 4] };
