@@ -18,7 +18,8 @@ IsReadable text = (whole : Module) × Answers text (Ok whole)
 
 -- the text with lines put in is accepted, or it is the text as it was, or a rule refuses that
 abbrev pub StaysAccepted : List ℕ → List ℕ → Type 0
-StaysAccepted text annotated = IsAcceptedText annotated ⊎ ((annotated ≡ text) ⊎ ((number line : ℕ) × IsRefused text (record { line = line; number = number })))
+StaysAccepted text annotated = IsAcceptedText annotated ⊎
+    ((annotated ≡ text) ⊎ ((number line : ℕ) × IsRefused text (record { line = line; number = number })))
 
 -- behind spaces and tabs the line begins with `;!`
 abbrev pub is_annotation : List ℕ → Bool
@@ -29,7 +30,8 @@ pub data AreLinesAmong : List (List ℕ) → List (List ℕ) → Type 0 where
   None : AreLinesAmong [] []
   Kept : (line other : List ℕ) (lines more : List (List ℕ)) → content line ≡ content other → AreLinesAmong lines more
       → AreLinesAmong (line ∷ lines) (other ∷ more)
-  Added : (line : List ℕ) (lines more : List (List ℕ)) → IsTrue (is_annotation line) → AreLinesAmong lines more → AreLinesAmong lines (line ∷ more)
+  Added : (line : List ℕ) (lines more : List (List ℕ)) → IsTrue (is_annotation line) → AreLinesAmong lines more →
+      AreLinesAmong lines (line ∷ more)
 
 -- the second text is the first with annotations put in, each on a line of its own
 abbrev pub IsAnnotated : List ℕ → List ℕ → Type 0

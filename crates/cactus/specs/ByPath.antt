@@ -9,7 +9,8 @@ module _ {F : Type 0} where
   abbrev pub first_named : List (Option (Node F)) → List ℕ → Option (Node F)
   first_named [] numbers = None
   first_named (None ∷ nodes) numbers = first_named nodes numbers
-  first_named (Some node ∷ nodes) numbers = cond (same_path node.path.numbers numbers) (Some node) (first_named nodes numbers)
+  first_named (Some node ∷ nodes) numbers = cond (same_path node.path.numbers numbers) (Some node)
+      (first_named nodes numbers)
 
   -- what stands at a path
   unfoldable pub named : Frames F → List ℕ → Option (Node F)
@@ -24,10 +25,13 @@ module _ {F : Type 0} where
 
   -- living frames have different paths, and each but the root has a living parent
   pub record IsTree (frames : Frames F) : Type 0 where
-    pub distinct : (slot other : ℕ) (node twin : Node F) → node_at frames slot ≡ Some node → node_at frames other ≡ Some twin →
+    pub distinct : (slot other : ℕ) (node twin : Node F) → node_at frames slot ≡ Some node →
+        node_at frames other ≡ Some twin →
         node.path.numbers ≡ twin.path.numbers → slot ≡ other
-    pub root : (slot : ℕ) (node : Node F) → node_at frames slot ≡ Some node → node.parent ≡ None → node.path.numbers ≡ []
-    pub below : (slot parent : ℕ) (node : Node F) → node_at frames slot ≡ Some node → node.parent ≡ Some parent → IsBelow frames parent node.path.numbers
+    pub root : (slot : ℕ) (node : Node F) → node_at frames slot ≡ Some node → node.parent ≡ None →
+        node.path.numbers ≡ []
+    pub below : (slot parent : ℕ) (node : Node F) → node_at frames slot ≡ Some node → node.parent ≡ Some parent →
+        IsBelow frames parent node.path.numbers
 
   -- no living frame has the frame in this slot as its parent
   abbrev pub IsLeaf : Frames F → ℕ → Type 0
@@ -41,12 +45,19 @@ module _ {F : Type 0} where
 
   abbrev pub child_node : Frames F → Node F → ℕ → ℕ → F → Node F
   child_node frames above parent number frame =
-      record { generation = frames.made; path = record { numbers = above.path.numbers ++ number ∷ [] }; parent = Some parent; frame = frame }
+      record {
+        generation = frames.made;
+        path = record { numbers = above.path.numbers ++ number ∷ [] };
+        parent =
+            Some parent;
+        frame = frame;
+      }
 
   -- the child that the map did not have yet is in it
   abbrev pub GrowsMap : Frames F → Frames F → ℕ → ℕ → F → Type 0
   GrowsMap old new parent number frame =
-      (above : Node F) → IsTree old → node_at old parent ≡ Some above → named old (above.path.numbers ++ number ∷ []) ≡ None →
+      (above : Node F) → IsTree old → node_at old parent ≡ Some above →
+      named old (above.path.numbers ++ number ∷ []) ≡ None →
       Binds old new (above.path.numbers ++ number ∷ []) (Some (child_node old above parent number frame))
 
   -- the frame, if it has no child, is in the map no more

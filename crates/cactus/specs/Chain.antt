@@ -7,7 +7,8 @@ use Rattle.cactus.specs.Frames.{Frames, node_at, IsAdded}
 use Rattle.cactus.specs.ByPath.{named, IsTree}
 
 module _ {F : Type 0} where
-  -- each stands in its slot, which was free, and has the slot of the one before it as its parent's; top is the last's slot
+  -- each stands in its slot, which was free, and has the slot of the one before it as its parent's; top is the last's
+  -- slot
   abbrev pub AddsUpTo : Frames F → Frames F → ℕ → List (Link F) → List ℕ → ℕ → Type 0
   AddsUpTo old new parent [] [] top = (new ≡ old) × (top ≡ parent)
   AddsUpTo old new parent [] (slot ∷ slots) top = ⊥
@@ -21,7 +22,8 @@ module _ {F : Type 0} where
   -- each path is that of a child of the one before it
   abbrev pub RiseFrom : List ℕ → List (Link F) → Type 0
   RiseFrom numbers [] = ⊤
-  RiseFrom numbers (link ∷ links) = ((number : ℕ) × (link.path.numbers ≡ numbers ++ number ∷ [])) × RiseFrom link.path.numbers links
+  RiseFrom numbers (link ∷ links) = ((number : ℕ) × (link.path.numbers ≡ numbers ++ number ∷ [])) ×
+      RiseFrom link.path.numbers links
 
   -- the frame stands in a slot, at its path
   pub record StandsLinked (frames : Frames F) (link : Link F) : Type 0 where
@@ -35,7 +37,8 @@ module _ {F : Type 0} where
     pub tree : IsTree new
     pub made : new.made ≡ old.made + length links
     pub here : All (StandsLinked new) links
-    pub elsewhere : (numbers : List ℕ) → All (λ (link : Link F). numbers ≢ link.path.numbers) links → named new numbers ≡ named old numbers
+    pub elsewhere : (numbers : List ℕ) → All (λ (link : Link F). numbers ≢ link.path.numbers) links →
+        named new numbers ≡ named old numbers
     pub stays : (slot : ℕ) (node : Node F) → node_at old slot ≡ Some node → node_at new slot ≡ Some node
 
   -- the map has the chain's frames at their paths, and everywhere else what it had

@@ -40,7 +40,13 @@ module _ {F : Type 0} where
   pub record IsAdded (old new : Frames F) (path : Path) (parent : Option ℕ) (frame : F) (slot : ℕ) : Type 0 where
     pub free : node_at old slot ≡ None
     pub made : new.made ≡ old.made + 1
-    pub change : ChangesOnly old new slot (Some (record { generation = old.made; path = path; parent = parent; frame = frame }))
+    pub change : ChangesOnly old new slot (Some (record {
+      generation = old.made;
+      path = path;
+      parent = parent;
+      frame =
+          frame;
+    }))
 
   -- the child of this number of the frame in the parent's slot stands in a slot that was free
   pub record AddsChild (old new : Frames F) (parent number : ℕ) (frame : F) (slot : ℕ) : Type 0 where

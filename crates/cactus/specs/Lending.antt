@@ -8,7 +8,8 @@ use Rattle.cactus.specs.contracts.cactus.Cactus.{the_row}
 module _ {F : Type 0} where
   abbrev pub written : Frames F → ℕ → Option (Node F) → F → Frames F
   written frames slot None frame = frames
-  written frames slot (Some node) frame = record frames { nodes = slice_set frames.nodes slot (Some (record node { frame = frame })) }
+  written frames slot (Some node) frame =
+      record frames { nodes = slice_set frames.nodes slot (Some (record node { frame = frame })) }
 
   -- the frames, with another frame in a slot that is not free
   abbrev pub with_frame : Frames F → ℕ → F → Frames F

@@ -7,7 +7,8 @@ use Rattle.program.specs.declared.instruction.Operand.{Operand}
 use Rattle.program.specs.declared.instruction.PhiEntry.{PhiEntry}
 use Rattle.program.specs.declared.instruction.Phi.{Phi}
 use Rattle.program.specs.declared.instruction.Terminator.{Terminator}
-use Rattle.program.specs.declared.instruction.Terminator.TheVariants.{Jump, Branch, Switch, Return, Detach, Reattach, Sync}
+use Rattle.program.specs.declared.instruction.Terminator.TheVariants.{Jump, Branch, Switch, Return, Detach, Reattach}
+use Rattle.program.specs.declared.instruction.Terminator.TheVariants.{Sync}
 use Rattle.program.specs.declared.instruction.Ending.{Ending}
 use Rattle.program.specs.declared.function.Block.{Block}
 use Rattle.program.specs.declared.function.Function.{Function}
@@ -34,15 +35,20 @@ moves_from from phis = filter_map (move_from from) phis
 
 -- the edge from a block to another; none where the function has no such block
 abbrev pub edge_to : List Block → ℕ → Way → BlockId → List Edge
-edge_to blocks from way to = option_to_list (option_map (λ target. record { to = to; way = way; moves = moves_from from target.phis }) (slice_get blocks to.0))
+edge_to blocks from way to =
+    option_to_list (option_map (λ target. record { to = to; way = way; moves = moves_from from target.phis })
+    (slice_get blocks to.0))
 
 -- the edges of a terminator in its order; a reattach has none
 abbrev pub edges_along : List Block → ℕ → Terminator → List Edge
 edges_along blocks from (Jump target) = edge_to blocks from ByBranch target
-edges_along blocks from (Branch condition when_true when_false) = edge_to blocks from ByBranch when_true ++ edge_to blocks from ByBranch when_false
-edges_along blocks from (Switch width value default cases) = edge_to blocks from ByBranch default ++ flat_map (λ c. edge_to blocks from ByBranch c.target) cases
+edges_along blocks from (Branch condition when_true when_false) = edge_to blocks from ByBranch when_true ++
+    edge_to blocks from ByBranch when_false
+edges_along blocks from (Switch width value default cases) = edge_to blocks from ByBranch default ++
+    flat_map (λ c. edge_to blocks from ByBranch c.target) cases
 edges_along blocks from (Return value) = []
-edges_along blocks from (Detach region body continuation) = edge_to blocks from Detached body ++ edge_to blocks from Continued continuation
+edges_along blocks from (Detach region body continuation) = edge_to blocks from Detached body ++
+    edge_to blocks from Continued continuation
 edges_along blocks from (Reattach region continuation) = []
 edges_along blocks from (Sync region target) = edge_to blocks from (Synced region) target
 
@@ -53,7 +59,8 @@ edges_at_end blocks from (Some ending) = edges_along blocks from ending.terminat
 -- the edges of the last blocks of a function, from the block of this number on
 abbrev pub edges_from : List Block → ℕ → List Block → List BlockEdges
 edges_from blocks from [] = []
-edges_from blocks from (block ∷ rest) = record { edges = edges_at_end blocks from block.ending } ∷ edges_from blocks (suc from) rest
+edges_from blocks from (block ∷ rest) = record { edges = edges_at_end blocks from block.ending } ∷
+    edges_from blocks (suc from) rest
 
 abbrev pub graph_of : Function → FunctionGraph
 graph_of function = record { blocks = edges_from function.blocks 0 function.blocks }

@@ -21,7 +21,8 @@ pub record Leg : Type 0 where
 -- a path from one block to another; its legs, the last first
 abbrev pub IsPath : List BlockEdges → ℕ → List Leg → ℕ → Type 0
 IsPath blocks from [] to = from ≡ to
-IsPath blocks from (leg ∷ legs) to = Contains (edges_of blocks leg.from) leg.edge × (leg.edge.to.0 ≡ to) × IsPath blocks from legs leg.from
+IsPath blocks from (leg ∷ legs) to = Contains (edges_of blocks leg.from) leg.edge × (leg.edge.to.0 ≡ to) ×
+    IsPath blocks from legs leg.from
 
 -- no leg leaves a block that is a stop
 abbrev pub Avoids : (ℕ → Bool) → List Leg → Type 0
@@ -31,7 +32,8 @@ Avoids stop (leg ∷ legs) = (stop leg.from ≡ false) × Avoids stop legs
 -- a path leads from a start to a block, and leaves no stop
 abbrev pub IsReached : List BlockEdges → List Bool → List Bool → ℕ → Type 0
 IsReached blocks starts stops to =
-    (from : ℕ) × (slice_index_or starts from false ≡ true) × (legs : List Leg) × IsPath blocks from legs to × Avoids (λ b. slice_index_or stops b false) legs
+    (from : ℕ) × (slice_index_or starts from false ≡ true) × (legs : List Leg) × IsPath blocks from legs to ×
+    Avoids (λ b. slice_index_or stops b false) legs
 
 -- a path leads from the entry to a block
 abbrev pub IsOnPath : List BlockEdges → ℕ → Type 0

@@ -12,7 +12,8 @@ use Rattle.program.specs.declared.instruction.Step.{Step}
 abbrev pub cost_over : Budget → ℕ → ℕ
 cost_over budget below = budget.instructions + budget.self_calls * below
 
--- what a call costs whose measure is below this number: cost(f, m - 1), where cost(f, -1) = 0 and cost(f, m) = S + K * cost(f, m - 1)
+-- what a call costs whose measure is below this number: cost(f, m - 1), where cost(f, -1) = 0 and cost(f, m) = S + K *
+-- cost(f, m - 1)
 abbrev pub cost_below : Budget → ℕ → ℕ
 cost_below budget zero = 0
 cost_below budget (suc m) = cost_over budget (cost_below budget m)

@@ -1,5 +1,6 @@
 -- How many frames a call stands on one another, from its own on.
-use Rattle.std.specs.Prelude.{ℕ, zero, suc, ◌+◌, ◌==◌, if◌then◌else◌, max, List, [], ◌∷◌, ◌++◌, length, Option, Some, None, slice_get, slice_index_or}
+use Rattle.std.specs.Prelude.{ℕ, zero, suc, ◌+◌, ◌==◌, if◌then◌else◌, max, List, [], ◌∷◌, ◌++◌, length, Option, Some}
+use Rattle.std.specs.Prelude.{None, slice_get, slice_index_or}
 use Rattle.program.specs.declared.function.Block.{Block}
 use Rattle.program.specs.declared.function.Function.{Function}
 use Rattle.program.specs.declared.function.Program.{Program}
@@ -36,7 +37,9 @@ callee_depth before self (Some callee) = if callee == self then 0 else slice_ind
 
 -- t + 1 within t detaches, and at a call of another function that one's depth more
 abbrev pub block_depth : List ℕ → ℕ → List Task → ℕ → Block → ℕ
-block_depth before self tasks b block = suc (detaches_around tasks b) + greatest (λ (s : Step). callee_depth before self (callee_of s.instruction)) block.steps
+block_depth before self tasks b block =
+    suc (detaches_around tasks b) + greatest (λ (s : Step). callee_depth before self (callee_of s.instruction))
+    block.steps
 
 abbrev pub self_depth : ℕ → ℕ → Option ℕ → ℕ
 self_depth self depth None = 0
@@ -45,7 +48,8 @@ self_depth self depth (Some callee) = if callee == self then depth else 0
 -- t + 1 + depth(f, m - 1) at a self call within t detaches
 abbrev pub self_call_depth : ℕ → List Task → ℕ → ℕ → Block → ℕ
 self_call_depth self tasks below b block =
-    greatest (λ (s : Step). self_depth self (suc (detaches_around tasks b) + below) (callee_of s.instruction)) block.steps
+    greatest (λ (s : Step). self_depth self (suc (detaches_around tasks b) + below) (callee_of s.instruction))
+    block.steps
 
 -- the greatest of all blocks, from this number on
 abbrev pub greatest_block : (ℕ → Block → ℕ) → ℕ → List Block → ℕ
@@ -60,12 +64,13 @@ flat_depth before self tasks blocks = greatest_block (block_depth before self ta
 abbrev pub self_calls_depth : ℕ → List Task → List Block → ℕ → ℕ
 self_calls_depth self tasks blocks below = greatest_block (self_call_depth self tasks below) 0 blocks
 
--- depth(f, m): the greatest of t + 1 at a block within t detaches, t + 1 and the depth of another function that is called there, and, from m = 1 on,
--- t + 1 + depth(f, m - 1) at a self call
+-- depth(f, m): the greatest of t + 1 at a block within t detaches, t + 1 and the depth of another function that is
+-- called there, and, from m = 1 on, t + 1 + depth(f, m - 1) at a self call
 abbrev pub depth_from : List ℕ → ℕ → List Task → List Block → ℕ → ℕ
 depth_from before self tasks blocks zero = flat_depth before self tasks blocks
 depth_from before self tasks blocks (suc m) =
-    max (flat_depth before self tasks blocks) (self_calls_depth self tasks blocks (depth_from before self tasks blocks m))
+    max (flat_depth before self tasks blocks)
+    (self_calls_depth self tasks blocks (depth_from before self tasks blocks m))
 
 -- ---- all functions: each calls itself or those before it
 
@@ -80,8 +85,10 @@ whole_depth_of before self tasks (Some function) = depth_from before self tasks 
 abbrev pub first_depths : Program → Regions → ℕ → List ℕ
 first_depths program regions zero = []
 first_depths program regions (suc f) =
-    first_depths program regions f ++ whole_depth_of (first_depths program regions f) f (tasks_of regions f) (slice_get program.functions f) ∷ []
+    first_depths program regions f ++ whole_depth_of (first_depths program regions f) f (tasks_of regions f)
+    (slice_get program.functions f) ∷ []
 
 -- depth(f, m) of the function of this number
 abbrev pub depth : Program → Regions → ℕ → Function → ℕ → ℕ
-depth program regions f function m = depth_from (first_depths program regions f) f (tasks_of regions f) function.blocks m
+depth program regions f function m =
+    depth_from (first_depths program regions f) f (tasks_of regions f) function.blocks m

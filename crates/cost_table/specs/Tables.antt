@@ -1,5 +1,6 @@
 -- The table of all functions' costs and depths.
-use Rattle.std.specs.Prelude.{◌≡◌, ℕ, zero, suc, ◌+◌, ◌-◌, ◌^◌, min, max, nat_le, List, length, Option, Some, None, slice_get, if◌then◌else◌}
+use Rattle.std.specs.Prelude.{◌≡◌, ℕ, zero, suc, ◌+◌, ◌-◌, ◌^◌, min, max, nat_le, List, length, Option, Some, None}
+use Rattle.std.specs.Prelude.{slice_get, if◌then◌else◌}
 use Rattle.program.specs.declared.function.Function.{Function}
 use Rattle.program.specs.declared.function.Program.{Program}
 use Rattle.ranges.specs.region_match.declared.task.Task.{Task}
@@ -31,18 +32,21 @@ climbed entry (suc m) = max entry.flat (as_u64 (above_self_call entry.rise (clim
 -- ---- the table
 
 -- the row of a function of this number, over the depths of those before it
-pub record IsEntryOver (before : List ℕ) (f : ℕ) (tasks : List Task) (function : Function) (entry : FunctionCost) : Type 0 where
+pub record IsEntryOver (before : List ℕ) (f : ℕ) (tasks : List Task) (function : Function)
+    (entry : FunctionCost) : Type 0 where
   pub bound : entry.bound ≡ function.measure.bound
   pub budget : entry.budget ≡ function.budget
   pub flat : entry.flat ≡ as_u64 (flat_depth before f tasks function.blocks)
   pub rise : entry.rise ≡ as_u64 (self_calls_depth f tasks function.blocks 0)
 
 abbrev pub IsEntry : Program → Regions → ℕ → Function → FunctionCost → Type 0
-IsEntry program regions f function entry = IsEntryOver (first_depths program regions f) f (tasks_of regions f) function entry
+IsEntry program regions f function entry =
+    IsEntryOver (first_depths program regions f) f (tasks_of regions f) function entry
 
 pub record IsTable (program : Program) (regions : Regions) (table : Table) : Type 0 where
   pub functions : length table.functions ≡ length program.functions
-  pub each : (f : ℕ) (function : Function) (entry : FunctionCost) → slice_get program.functions f ≡ Some function → slice_get table.functions f ≡ Some entry
+  pub each : (f : ℕ) (function : Function) (entry : FunctionCost) → slice_get program.functions f ≡ Some function →
+      slice_get table.functions f ≡ Some entry
       → IsEntry program regions f function entry
 
 abbrev pub bounded : ℕ → ℕ → ℕ → Option ℕ

@@ -1,5 +1,5 @@
--- What a block does with allocas: a load or an atomic addition and the passing of an alloca need its cells to have values; an array
--- store gives them values, and a `store i64` through its own name does where it has one cell.
+-- What a block does with allocas: a load or an atomic addition and the passing of an alloca need its cells to have
+-- values; an array store gives them values, and a `store i64` through its own name does where it has one cell.
 use Rattle.std.specs.Prelude.{ℕ, ◌==◌, if◌then◌else◌, List, [], ◌∷◌, Option, Some, None, slice_get}
 use Rattle.std.specs.List.{flat_map}
 use Rattle.linear.specs.declared.form.RegisterId.{RegisterId}
@@ -12,7 +12,8 @@ use Rattle.program.specs.declared.instruction.Address.TheVariants.{First, Elemen
 use Rattle.program.specs.declared.instruction.Argument.{Argument}
 use Rattle.program.specs.declared.instruction.Argument.TheVariants as argument
 use Rattle.program.specs.declared.instruction.Instruction.{Instruction}
-use Rattle.program.specs.declared.instruction.Instruction.TheVariants.{Binary, Compare, Convert, Alloca, ElementPointer, Load, Store, StoreZeros}
+use Rattle.program.specs.declared.instruction.Instruction.TheVariants.{Binary, Compare, Convert, Alloca, ElementPointer}
+use Rattle.program.specs.declared.instruction.Instruction.TheVariants.{Load, Store, StoreZeros}
 use Rattle.program.specs.declared.instruction.Instruction.TheVariants.{AtomicAdd, Call, StartRegion}
 use Rattle.program.specs.declared.instruction.Step.{Step}
 use Rattle.program.specs.Steps.{first_said}

@@ -1,4 +1,5 @@
--- For the functions of this crate and their loops alone: what the terminator of a block does to children, as the table has it.
+-- For the functions of this crate and their loops alone: what the terminator of a block does to children, as the table
+-- has it.
 use Rattle.std.specs.Prelude.{◌≡◌, ◌↔◌, ℕ, List, Some}
 use Rattle.linear.specs.declared.form.RegisterId.{RegisterId}
 use Rattle.program.specs.declared.function.Block.{Block}

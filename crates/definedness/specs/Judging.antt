@@ -9,7 +9,8 @@ use Rattle.definedness.specs.Needs.{mark_at}
 -- the act needs what is marked as lacking and not as defined here
 abbrev pub IsNeedBrokenBy : List Row → List Bool → ℕ → ℕ → Act → Broken → Type 0
 IsNeedBrokenBy rows here block rule (Needs n line) broken =
-    (broken.number ≡ rule) × (broken.line ≡ line) × (n < length here) × (slice_index_or here n false ≡ false) × (mark_at rows n block ≡ true)
+    (broken.number ≡ rule) × (broken.line ≡ line) × (n < length here) × (slice_index_or here n false ≡ false) ×
+    (mark_at rows n block ≡ true)
 IsNeedBrokenBy rows here block rule (Gives n) broken = ⊥
 
 abbrev pub IsGivenBy : Act → ℕ → Type 0

@@ -1,6 +1,8 @@
--- What the blocks of a function do with registers, in the order in which they run: a block's phis come first, its annotations
--- speak of its start, a `shows` line uses its registers where it stands, and a phi's value is used at the end of its predecessor.
-use Rattle.std.specs.Prelude.{ℕ, zero, suc, ◌==◌, if◌then◌else◌, List, [], ◌∷◌, ◌++◌, Option, Some, None, length, slice_get}
+-- What the blocks of a function do with registers, in the order in which they run: a block's phis come first, its
+-- annotations speak of its start, a `shows` line uses its registers where it stands, and a phi's value is used at the
+-- end of its predecessor.
+use Rattle.std.specs.Prelude.{ℕ, zero, suc, ◌==◌, if◌then◌else◌, List, [], ◌∷◌, ◌++◌, Option, Some, None, length}
+use Rattle.std.specs.Prelude.{slice_get}
 use Rattle.std.specs.List.{flat_map}
 use Rattle.linear.specs.declared.form.RegisterId.{RegisterId}
 use Rattle.linear.specs.declared.form.Term.{Term}
@@ -20,7 +22,8 @@ use Rattle.program.specs.declared.instruction.Argument.{Argument}
 use Rattle.program.specs.declared.instruction.Argument.TheVariants as argument
 use Rattle.program.specs.declared.instruction.Ending.{Ending}
 use Rattle.program.specs.declared.instruction.Instruction.{Instruction}
-use Rattle.program.specs.declared.instruction.Instruction.TheVariants.{Binary, Compare, Convert, Alloca, ElementPointer, Load, Store, StoreZeros}
+use Rattle.program.specs.declared.instruction.Instruction.TheVariants.{Binary, Compare, Convert, Alloca, ElementPointer}
+use Rattle.program.specs.declared.instruction.Instruction.TheVariants.{Load, Store, StoreZeros}
 use Rattle.program.specs.declared.instruction.Instruction.TheVariants.{AtomicAdd, Call, StartRegion}
 use Rattle.program.specs.declared.instruction.Operand.{Operand}
 use Rattle.program.specs.declared.instruction.Operand.TheVariants.{Number, Register}
@@ -28,7 +31,8 @@ use Rattle.program.specs.declared.instruction.Phi.{Phi}
 use Rattle.program.specs.declared.instruction.PhiEntry.{PhiEntry}
 use Rattle.program.specs.declared.instruction.Step.{Step}
 use Rattle.program.specs.declared.instruction.Terminator.{Terminator}
-use Rattle.program.specs.declared.instruction.Terminator.TheVariants.{Jump, Branch, Switch, Return, Detach, Reattach, Sync}
+use Rattle.program.specs.declared.instruction.Terminator.TheVariants.{Jump, Branch, Switch, Return, Detach, Reattach}
+use Rattle.program.specs.declared.instruction.Terminator.TheVariants.{Sync}
 use Rattle.definedness.specs.declared.act.Act.{Act}
 use Rattle.definedness.specs.declared.act.Act.TheVariants.{Needs, Gives}
 
@@ -73,15 +77,19 @@ argument_needs allocas line (argument.Number value) = operand_needs line value
 argument_needs allocas line (argument.Object name) = object_needs allocas line name
 
 abbrev pub instruction_needs : List AllocaOf → ℕ → Instruction → List Act
-instruction_needs allocas line (Binary register operator width left right) = operand_needs line left ++ operand_needs line right
-instruction_needs allocas line (Compare register predicate width left right) = operand_needs line left ++ operand_needs line right
+instruction_needs allocas line (Binary register operator width left right) = operand_needs line left ++
+    operand_needs line right
+instruction_needs allocas line (Compare register predicate width left right) = operand_needs line left ++
+    operand_needs line right
 instruction_needs allocas line (Convert register conversion value) = operand_needs line value
 instruction_needs allocas line (Alloca register alloca) = []
-instruction_needs allocas line (ElementPointer register name index) = object_needs allocas line name ++ operand_needs line index
+instruction_needs allocas line (ElementPointer register name index) = object_needs allocas line name ++
+    operand_needs line index
 instruction_needs allocas line (Load register address) = address_needs allocas line address
 instruction_needs allocas line (Store value address) = operand_needs line value ++ address_needs allocas line address
 instruction_needs allocas line (StoreZeros cells name) = object_needs allocas line name
-instruction_needs allocas line (AtomicAdd address value) = address_needs allocas line address ++ operand_needs line value
+instruction_needs allocas line (AtomicAdd address value) = address_needs allocas line address ++
+    operand_needs line value
 instruction_needs allocas line (Call register callee arguments) = flat_map (argument_needs allocas line) arguments
 instruction_needs allocas line (StartRegion register) = []
 
@@ -104,7 +112,8 @@ definition_gives None = []
 definition_gives (Some register) = Gives register.0 ∷ []
 
 abbrev pub step_acts : List AllocaOf → Step → List Act
-step_acts allocas s = flat_map inequality_needs s.shows ++ (instruction_needs allocas s.line s.instruction ++ definition_gives (definition_of s.instruction))
+step_acts allocas s = flat_map inequality_needs s.shows ++ (instruction_needs allocas s.line s.instruction ++
+    definition_gives (definition_of s.instruction))
 
 abbrev pub result_needs : ℕ → Option Operand → List Act
 result_needs line None = []
@@ -140,7 +149,8 @@ phi_gives phi = Gives phi.register.0 ∷ []
 abbrev pub note_needs : List AllocaOf → Block → List Act
 note_needs allocas block =
     flat_map inequality_needs block.keeps
-    ++ (flat_map (pending_needs allocas) block.pending ++ (left_needs block.left ++ flat_map (zone_needs allocas) block.foot))
+    ++ (flat_map (pending_needs allocas) block.pending ++
+    (left_needs block.left ++ flat_map (zone_needs allocas) block.foot))
 
 -- the registers below this number are defined
 abbrev pub gives_below : ℕ → List Act
@@ -153,8 +163,10 @@ start_gives zero parameters = gives_below parameters
 start_gives (suc b) parameters = []
 
 abbrev pub body_acts : List AllocaOf → Block → List Act
-body_acts allocas block = flat_map phi_gives block.phis ++ (note_needs allocas block ++ (flat_map (step_acts allocas) block.steps ++ ending_needs block.ending))
+body_acts allocas block = flat_map phi_gives block.phis ++
+    (note_needs allocas block ++ (flat_map (step_acts allocas) block.steps ++ ending_needs block.ending))
 
 -- what the block of this number does
 abbrev pub register_acts : Function → ℕ → Block → List Act
-register_acts function b block = start_gives b (length function.parameters) ++ (body_acts function.allocas block ++ flat_map (value_needs b) function.blocks)
+register_acts function b block = start_gives b (length function.parameters) ++ (body_acts function.allocas block ++
+    flat_map (value_needs b) function.blocks)

@@ -21,7 +21,8 @@ abbrev pub IsFork : List Block → ℕ → RegisterId → Type 0
 IsFork bodies b region = (continuation : BlockId) × IsDetach (ending_at bodies b) region continuation
 
 abbrev pub IsReattach : Option Terminator → Type 0
-IsReattach terminator = (region : RegisterId) × (continuation : BlockId) × (terminator ≡ Some (Reattach region continuation))
+IsReattach terminator = (region : RegisterId) × (continuation : BlockId) ×
+    (terminator ≡ Some (Reattach region continuation))
 
 -- the block ends the child of a detach
 abbrev pub IsEndOf : List Block → List BlockEdges → ℕ → ℕ → Type 0

@@ -1,5 +1,6 @@
 -- The labels of an alloca as they are kept, which make a labelling, and what an edge gives out of them.
-use Rattle.std.specs.Prelude.{◌≡◌, ◌⊎◌, ◌==◌, ℕ, ◌+◌, ◌<◌, ◌≤◌, Bool, true, false, List, [], Option, Some, None, length, count_by, slice_get, slice_index_or}
+use Rattle.std.specs.Prelude.{◌≡◌, ◌⊎◌, ◌==◌, ℕ, ◌+◌, ◌<◌, ◌≤◌, Bool, true, false, List, [], Option, Some, None, length}
+use Rattle.std.specs.Prelude.{count_by, slice_get, slice_index_or}
 use Rattle.std.specs.List.{list_any}
 use Rattle.linear.specs.declared.form.RegisterId.{RegisterId}
 use Rattle.cfg.specs.declared.structure.Way.{Way}
@@ -61,7 +62,8 @@ IsHeldBy stops l k b = IsHeld (Stores stops) l k b
 
 -- an edge gives the label
 abbrev pub EdgeGives : List Bool → List Fork → Labels → Option RegisterId → ℕ → Way → Type 0
-EdgeGives stops forks l k from way = IsHeld (Stores stops) l k from ⊎ IsAdded (Stores stops) (Forks forks) (Ends forks) l k from way
+EdgeGives stops forks l k from way = IsHeld (Stores stops) l k from ⊎
+    IsAdded (Stores stops) (Forks forks) (Ends forks) l k from way
 
 -- behind a sync all is sure, where it was due
 abbrev pub IsOver : List Bool → Labels → ℕ → Way → Type 0
@@ -74,7 +76,8 @@ IsOver stops l from (Synced its) = IsHeldBy stops l (Some its) from
 abbrev pub IsJoined : List Bool → List Fork → Labels → ℕ → Way → RegisterId → Type 0
 IsJoined stops forks l from Branch region = ⊥
 IsJoined stops forks l from Detached region = ⊥
-IsJoined stops forks l from Continued region = Forks forks from region × ((end : ℕ) → Ends forks from end → IsHeldBy stops l None end)
+IsJoined stops forks l from Continued region = Forks forks from region ×
+    ((end : ℕ) → Ends forks from end → IsHeldBy stops l None end)
 IsJoined stops forks l from (Synced its) region = ⊥
 
 -- ---- what is kept beside the labels
@@ -89,4 +92,5 @@ pub record IsFit (stops : List Bool) (forks : List Fork) (n : ℕ) (sets : Sets)
   pub short : (b : ℕ) → count_sure sets + length (due_in (label_at sets b)) ≤ n
   pub lost : (d : ℕ) → slice_index_or sets.lacking.items d false ≡ true
       → (end : ℕ) × (end < n) × Ends forks d end × (IsHeldBy stops (label_of sets) None end → ⊥)
-  pub whole : (d end : ℕ) → d < n → slice_index_or sets.lacking.items d false ≡ false → Ends forks d end → IsHeldBy stops (label_of sets) None end
+  pub whole : (d end : ℕ) → d < n → slice_index_or sets.lacking.items d false ≡ false → Ends forks d end →
+      IsHeldBy stops (label_of sets) None end

@@ -1,5 +1,6 @@
 -- The rules on zones, over the places and edges of a function.
-use Rattle.std.specs.Prelude.{ℕ, ◌==◌, pos, ◌+ℤ◌, ℤ, Bool, true, false, not, ◌&&◌, ◌||◌, if◌then◌else◌, List, [], ◌∷◌, Option, Some, None, slice_get}
+use Rattle.std.specs.Prelude.{ℕ, ◌==◌, pos, ◌+ℤ◌, ℤ, Bool, true, false, not, ◌&&◌, ◌||◌, if◌then◌else◌, List, [], ◌∷◌}
+use Rattle.std.specs.Prelude.{Option, Some, None, slice_get}
 use Rattle.std.specs.List.{list_any, list_all}
 use Rattle.std.specs.Option.{option_map}
 use Rattle.syntax.specs.declared.operator.Mode.{Mode}
@@ -72,14 +73,25 @@ form_at x offset = record { terms = operand_terms x; constant = operand_constant
 
 -- so many cells of an object from an index on
 abbrev pub cells_zone : ℕ → Mode → Cell → ℕ → Zone
-cells_zone line mode cell count = record { line = line; mode = mode; object = cell.object; low = form_at cell.index 0; high = form_at cell.index count }
+cells_zone line mode cell count = record {
+  line = line;
+  mode = mode;
+  object = cell.object;
+  low = form_at cell.index 0;
+  high = form_at cell.index count;
+}
 
 -- ---- what a step or a terminator touches
 
 -- 601: an access; one through a pointer of another block is not covered
 abbrev pub access_use : Place → Option Zone → Use
 access_use p None = record { number = 601; covered = false; clear = true }
-access_use p (Some z) = record { number = 601; covered = is_allowed p (as_written z); clear = is_clear p (as_written z) }
+access_use p (Some z) = record {
+  number = 601;
+  covered = is_allowed p (as_written z);
+  clear =
+      is_clear p (as_written z);
+}
 
 abbrev pub cell_use : Place → ℕ → Mode → Option Cell → Use
 cell_use p line mode cell = access_use p (option_map (λ c. cells_zone line mode c 1) cell)
@@ -131,9 +143,11 @@ step_use p functions steps line (instruction.Alloca d alloca) = no_use
 step_use p functions steps line (instruction.ElementPointer d object index) = no_use
 step_use p functions steps line (instruction.Load d address) = cell_use p line Reads (address_cell steps address)
 step_use p functions steps line (instruction.Store x address) = cell_use p line Writes (address_cell steps address)
-step_use p functions steps line (instruction.StoreZeros cells object) = access_use p (Some (cells_zone line Writes (first_cell object) cells))
+step_use p functions steps line (instruction.StoreZeros cells object) =
+    access_use p (Some (cells_zone line Writes (first_cell object) cells))
 step_use p functions steps line (instruction.AtomicAdd address x) = cell_use p line Adds (address_cell steps address)
-step_use p functions steps line (instruction.Call d callee arguments) = call_use p (slice_get functions callee.0) arguments
+step_use p functions steps line (instruction.Call d callee arguments) =
+    call_use p (slice_get functions callee.0) arguments
 step_use p functions steps line (instruction.StartRegion d) = no_use
 
 abbrev pub foot_of : Option Block → List Zone
@@ -171,10 +185,12 @@ with_facts facts e = record { to = e.to; way = e.way; moves = e.moves; facts = f
 unfoldable pub is_passed : EdgeFacts → List Pending → RegisterId → Zone → Bool
 is_passed e waiting region z =
     is_empty e.facts (as_written z)
-    || list_any (λ (q : Pending). (q.region.0 == region.0) && covers e.facts (span q.zone.object e.moves q.zone) (as_written z)) waiting
+    || list_any (λ (q : Pending). (q.region.0 == region.0) && covers e.facts (span q.zone.object e.moves q.zone)
+    (as_written z)) waiting
 
 abbrev pub are_passed : EdgeFacts → List Pending → List Pending → Bool
-are_passed e waiting pending = list_all (λ (q : Pending). not (hands_on e.way q.region) || is_passed e waiting q.region q.zone) pending
+are_passed e waiting pending =
+    list_all (λ (q : Pending). not (hands_on e.way q.region) || is_passed e waiting q.region q.zone) pending
 
 abbrev pub foot_passed : EdgeFacts → List Pending → RegisterId → List Zone → Bool
 foot_passed e waiting region foot = list_all (λ (z : Zone). is_passed e waiting region z) foot
@@ -188,7 +204,8 @@ child_passed_on blocks e waiting Continued (terminator.Jump target) = true
 child_passed_on blocks e waiting Continued (terminator.Branch condition when_true when_false) = true
 child_passed_on blocks e waiting Continued (terminator.Switch width value default cases) = true
 child_passed_on blocks e waiting Continued (terminator.Return value) = true
-child_passed_on blocks e waiting Continued (terminator.Detach region body continuation) = foot_passed e waiting region (foot_of (slice_get blocks body.0))
+child_passed_on blocks e waiting Continued (terminator.Detach region body continuation) =
+    foot_passed e waiting region (foot_of (slice_get blocks body.0))
 child_passed_on blocks e waiting Continued (terminator.Reattach region continuation) = true
 child_passed_on blocks e waiting Continued (terminator.Sync region target) = true
 
@@ -199,4 +216,5 @@ pending_of (Some block) = block.pending
 -- 603: each pending zone of the source, and a new child's foot
 abbrev pub passes_on : List Block → List Pending → Terminator → EdgeFacts → Bool
 passes_on blocks pending t e =
-    are_passed e (pending_of (slice_get blocks e.to.0)) pending && child_passed_on blocks e (pending_of (slice_get blocks e.to.0)) e.way t
+    are_passed e (pending_of (slice_get blocks e.to.0)) pending && child_passed_on blocks e
+    (pending_of (slice_get blocks e.to.0)) e.way t

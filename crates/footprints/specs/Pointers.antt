@@ -13,7 +13,8 @@ defined_pointer (instruction.Binary d operator width x y) = None
 defined_pointer (instruction.Compare d predicate width x y) = None
 defined_pointer (instruction.Convert d conversion x) = None
 defined_pointer (instruction.Alloca d alloca) = None
-defined_pointer (instruction.ElementPointer d object index) = Some (record { register = d; cell = record { object = object; index = index } })
+defined_pointer (instruction.ElementPointer d object index) =
+    Some (record { register = d; cell = record { object = object; index = index } })
 defined_pointer (instruction.Load d address) = None
 defined_pointer (instruction.Store x address) = None
 defined_pointer (instruction.StoreZeros cells object) = None

@@ -34,7 +34,8 @@ IsUseBroken line used broken = IsUncovered line used broken ⊎ IsUnclear line u
 
 -- 603: what is pending, or a new child's foot, is not passed on along an edge of the block
 abbrev pub IsEdgeBroken : List Block → Block → Ending → EdgeFacts → Broken → Type 0
-IsEdgeBroken blocks block ending e broken = (broken.number ≡ 603) × (broken.line ≡ ending.line) × (passes_on blocks block.pending ending.terminator e ≡ false)
+IsEdgeBroken blocks block ending e broken = (broken.number ≡ 603) × (broken.line ≡ ending.line) ×
+    (passes_on blocks block.pending ending.terminator e ≡ false)
 
 -- ---- what must cover what a block touches
 
@@ -60,11 +61,13 @@ place_in function task block facts = place_of facts (covering_of function task) 
 
 abbrev pub IsStepBroken : List Function → Function → Task → Block → List Fact → Step → Broken → Type 0
 IsStepBroken functions function task block facts step broken =
-    IsUseBroken step.line (step_use (place_in function task block facts) functions block.steps step.line step.instruction) broken
+    IsUseBroken step.line
+    (step_use (place_in function task block facts) functions block.steps step.line step.instruction) broken
 
 abbrev pub AreStepsBroken : List Function → Function → Task → Block → (ℕ → List Fact) → Broken → Type 0
 AreStepsBroken functions function task block facts_at broken =
-    (i : ℕ) × (step : Step) × (slice_get block.steps i ≡ Some step) × IsStepBroken functions function task block (facts_at i) step broken
+    (i : ℕ) × (step : Step) × (slice_get block.steps i ≡ Some step) ×
+    IsStepBroken functions function task block (facts_at i) step broken
 
 abbrev pub IsEndBroken : Function → Task → Block → List Fact → List EdgeFacts → Option Ending → Broken → Type 0
 IsEndBroken function task block facts edges None broken = ⊥
@@ -73,18 +76,22 @@ IsEndBroken function task block facts edges (Some ending) broken =
     ⊎ Any (λ e. IsEdgeBroken function.blocks block ending e broken) edges
 
 -- with these facts at the steps, at the terminator and on the edges
-abbrev pub IsBlockBrokenBy : List Function → Function → Task → Block → (ℕ → List Fact) → List Fact → List EdgeFacts → Broken → Type 0
+abbrev pub IsBlockBrokenBy : List Function → Function → Task → Block → (ℕ → List Fact) → List Fact → List EdgeFacts →
+    Broken → Type 0
 IsBlockBrokenBy functions function task block facts_at facts edges broken =
-    AreStepsBroken functions function task block facts_at broken ⊎ IsEndBroken function task block facts edges block.ending broken
+    AreStepsBroken functions function task block facts_at broken ⊎
+    IsEndBroken function task block facts edges block.ending broken
 
 abbrev pub IsBlockBroken : List Function → Function → Task → ℕ → Block → Broken → Type 0
 IsBlockBroken functions function task b block broken =
-    IsBlockBrokenBy functions function task block (facts_at_step functions function b block) (facts_at_end functions function b block)
+    IsBlockBrokenBy functions function task block (facts_at_step functions function b block)
+    (facts_at_end functions function b block)
     (edges_known functions function b block block.ending) broken
 
 abbrev pub IsFunctionBroken : List Function → Function → List Task → Broken → Type 0
 IsFunctionBroken functions function tasks broken =
-    (b : ℕ) × (block : Block) × (slice_get function.blocks b ≡ Some block) × IsBlockBroken functions function (task_at tasks b) b block broken
+    (b : ℕ) × (block : Block) × (slice_get function.blocks b ≡ Some block) ×
+    IsBlockBroken functions function (task_at tasks b) b block broken
 
 -- 601 to 604
 abbrev pub IsZoneBroken : Program → Regions → Broken → Type 0

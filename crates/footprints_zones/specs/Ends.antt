@@ -1,5 +1,7 @@
--- Ends of zones that come to a number and a multiple of one register, and what facts about one register alone say of these.
-use Rattle.std.specs.Prelude.{◌≡◌, ℕ, ◌<◌, ◌^◌, ◌⊎◌, ℤ, pos, negsuc, ◌+ℤ◌, ◌-ℤ◌, ◌*ℤ◌, List, [], ◌∷◌, map, Contains, IfSome, unsigned_abs}
+-- Ends of zones that come to a number and a multiple of one register, and what facts about one register alone say of
+-- these.
+use Rattle.std.specs.Prelude.{◌≡◌, ℕ, ◌<◌, ◌^◌, ◌⊎◌, ℤ, pos, negsuc, ◌+ℤ◌, ◌-ℤ◌, ◌*ℤ◌, List, [], ◌∷◌, map, Contains}
+use Rattle.std.specs.Prelude.{IfSome, unsigned_abs}
 use Rattle.linear.specs.declared.form.Fact.{Fact}
 use Rattle.linear.specs.declared.form.RegisterId.{RegisterId}
 use Rattle.linear.specs.declared.form.Term.{Term}
@@ -19,14 +21,16 @@ use Rattle.footprints_zones.specs.Zones.{Span, as_written}
 -- a fact says that the register times a sign, and a number, are at least 0
 abbrev pub Says : List Fact → RegisterId → ℤ → ℤ → Type 0
 Says facts register sign number =
-    (f : Fact) × Contains facts f × (f.form ≡ record { terms = record { register = register; coefficient = sign } ∷ []; constant = number })
+    (f : Fact) × Contains facts f ×
+    (f.form ≡ record { terms = record { register = register; coefficient = sign } ∷ []; constant = number })
 
 -- what facts say of one register
 pub record AreBounds (facts : List Fact) (bounds : RegisterBounds) : Type 0 where
   pub least : IfSome bounds.least (λ least. Says facts bounds.register (pos 1) (pos 0 -ℤ least))
   pub most : IfSome bounds.most (λ most. Says facts bounds.register (negsuc 0) most)
 
--- so many times the register is at least a number: a fact says so, taken that often with either sign, or an absent one where it is no times
+-- so many times the register is at least a number: a fact says so, taken that often with either sign, or an absent one
+-- where it is no times
 pub record IsLeast (facts : List Fact) (register : RegisterId) (times least : ℤ) : Type 0 where
   pub fact : Combination
   pub factor : ℕ
@@ -65,7 +69,8 @@ ComesTo moves form register k c = HasNoTerm form k c ⊎ (HasNumber moves form k
 pub record IsBetween (facts : List Fact) (end : End) : Type 0 where
   pub bounds : AreBounds facts end.bounds
   pub least : IfSome end.least (λ least. IsLeast facts end.bounds.register end.coefficient (least -ℤ end.constant))
-  pub most : IfSome end.most (λ most. IsLeast facts end.bounds.register (pos 0 -ℤ end.coefficient) (end.constant -ℤ most))
+  pub most : IfSome end.most (λ most. IsLeast facts end.bounds.register (pos 0 -ℤ end.coefficient)
+      (end.constant -ℤ most))
 
 pub record IsEnd (facts : List Fact) (moves : List Move) (form : Combination) (end : End) : Type 0 where
   pub value : ComesTo moves form end.bounds.register end.coefficient end.constant
@@ -76,7 +81,8 @@ pub record IsEnd (facts : List Fact) (moves : List Move) (form : Combination) (e
 
 -- multiples of two registers, or of one at most
 abbrev pub AreOther : End → End → Type 0
-AreOther high low = (high.coefficient ≡ pos 0) ⊎ ((low.coefficient ≡ pos 0) ⊎ (high.bounds.register.0 ≡ low.bounds.register.0 → ⊥))
+AreOther high low = (high.coefficient ≡ pos 0) ⊎
+    ((low.coefficient ≡ pos 0) ⊎ (high.bounds.register.0 ≡ low.bounds.register.0 → ⊥))
 
 -- ---- zones
 

@@ -19,4 +19,9 @@ pub record IsSameTerm (for_high : List Move) (high : Term) (for_low : List Move)
 
 -- a number with the terms of the high end, less those of the low end, is shown where the number itself is
 pub record IsLevel (for_high : List Move) (high : List Term) (for_low : List Move) (low : List Term) : Type 0 where
-  pub same : (facts : List Fact) (number : ℤ) → unsigned_abs number < 2 ^ 100 → shows facts (record { constant = number; parts = parts_of for_high (pos 1) high ++ parts_of for_low (negsuc 0) low }) ≡ is_shown facts (constant_form number)
+  pub same : (facts : List Fact) (number : ℤ) → unsigned_abs number < 2 ^ 100 →
+      shows facts (record {
+        constant = number;
+        parts = parts_of for_high (pos 1) high ++
+            parts_of for_low (negsuc 0) low;
+      }) ≡ is_shown facts (constant_form number)

@@ -8,7 +8,8 @@ use Rattle.program.specs.declared.identifier.ObjectName.{ObjectName}
 use Rattle.program.specs.declared.identifier.ObjectName.TheVariants.{Global, Alloca, Parameter}
 use Rattle.footprints_zones.specs.Zones.{Span, as_written, conflict, is_covered}
 
--- what is known at a place, the zones that must cover what is touched there, whether it is one of the function's own blocks, and what is pending
+-- what is known at a place, the zones that must cover what is touched there, whether it is one of the function's own
+-- blocks, and what is pending
 pub record Place : Type 0 where
   pub facts : List Fact
   pub covering : List Zone

@@ -64,7 +64,11 @@ modes_agree Adds Adds = true
 -- high - low, each with the operands of its own zone put in
 abbrev pub between : List Move → Combination → List Move → Combination → Sum
 between for_high high for_low low =
-    record { constant = high.constant -ℤ low.constant; parts = parts_of for_high (pos 1) high.terms ++ parts_of for_low (negsuc 0) low.terms }
+    record {
+      constant = high.constant -ℤ low.constant;
+      parts = parts_of for_high (pos 1) high.terms ++
+          parts_of for_low (negsuc 0) low.terms;
+    }
 
 -- high >= low is shown
 unfoldable pub shows_order : List Fact → List Move → Combination → List Move → Combination → Bool

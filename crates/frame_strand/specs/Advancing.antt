@@ -26,12 +26,13 @@ pub record WentOn (prog : Program) (l : Layout) (s : FrameStrand) (n : ℕ) (g :
   pub reads : strand.footprint.reads ≡ s.footprint.reads
   pub shown : ShowsFootprint l strand.footprint b
 
--- A strand whose footprint is shown, and whose frame does plain steps with a memory that holds what the strand read: with what the steps did
--- to the buffers it goes on as a strand.
+-- A strand whose footprint is shown, and whose frame does plain steps with a memory that holds what the strand read:
+-- with what the steps did to the buffers it goes on as a strand.
 abbrev pub AccessesAreFrameStrands : Type 0
 AccessesAreFrameStrands =
     (prog : Program) (l : Layout) (s : FrameStrand) (b : Buffers) (m : Memory) →
     IsFrameStrand prog s → AreApart l → ShowsFootprint l s.footprint b → All (λ r. m r.0 ≡ Some r.1) s.footprint.reads →
-    (n : ℕ) (after : Buffers) (g : Frame) (k : Memory) → Touched BuffersDo prog l s.path s.present (with_writes m s.footprint) b n after →
+    (n : ℕ) (after : Buffers) (g : Frame) (k : Memory) →
+    Touched BuffersDo prog l s.path s.present (with_writes m s.footprint) b n after →
     PlainSteps prog s.path s.present (with_writes m s.footprint) n g k → n + s.done ≤ 65536 →
     WentOn prog l s n g after

@@ -19,15 +19,18 @@ IsFull l m = (c : Cell) → IsIn l c → IsSome (m c)
 -- n plain steps, none of which traps, lead the frame at p from f to g; at each of them the cells may hold other numbers
 pub data AloneSteps (prog : Program) (l : Layout) (p : Path) (f : Frame) : ℕ → Frame → Type 0 where
   here : AloneSteps prog l p f 0 f
-  more : {n : ℕ} {g : Frame} (m : Memory) (e : Effect) → AloneSteps prog l p f n g → IsFull l m → action_of prog p g m ≡ Plain e → e.trap ≡ None →
+  more : {n : ℕ} {g : Frame} (m : Memory) (e : Effect) → AloneSteps prog l p f n g → IsFull l m →
+      action_of prog p g m ≡ Plain e → e.trap ≡ None →
       AloneSteps prog l p f (suc n) (went g e)
 
 -- wherever such steps lead, the next one is safe
 abbrev pub StaysSafeAlone : Program → Layout → Path → Frame → Type 0
-StaysSafeAlone prog l p f = (n : ℕ) (g : Frame) → AloneSteps prog l p f n g → (m : Memory) → IsFull l m → Safe prog l p g m
+StaysSafeAlone prog l p f = (n : ℕ) (g : Frame) → AloneSteps prog l p f n g → (m : Memory) → IsFull l m →
+    Safe prog l p g m
 
 -- the machine's frame shows one that may go on alone
-pub record GoesAlone (prog : Program) (places : Places) (l : Layout) (p : Path) (g : Frame) (f : machine.Frame) : Type 0 where
+pub record GoesAlone (prog : Program) (places : Places) (l : Layout) (p : Path) (g : Frame)
+    (f : machine.Frame) : Type 0 where
   pub shown : ShowsFrame l places p g f
   pub apart : AreApart l
   pub stays : StaysSafeAlone prog l p g

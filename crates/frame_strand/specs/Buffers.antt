@@ -1,5 +1,6 @@
 -- The buffers of a strand, by address.
-use Rattle.std.specs.Prelude.{◌≡◌, ◌<◌, ◌≤◌, ℤ, Bool, true, nat_le, length, IsSome, List, [], ◌∷◌, cond, find, Option, Some, None}
+use Rattle.std.specs.Prelude.{◌≡◌, ◌<◌, ◌≤◌, ℤ, Bool, true, nat_le, length, IsSome, List, [], ◌∷◌, cond, find, Option}
+use Rattle.std.specs.Prelude.{Some, None}
 use Rattle.std.specs.Ordering.{int_eq}
 use Rattle.std.specs.Option.{option_map}
 use Rattle.semantics.specs.Arithmetic.{cell_sum}

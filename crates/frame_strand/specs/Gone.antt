@@ -23,5 +23,6 @@ named (engine_pause.Stopped (stop.Need at)) = Need at
 
 pub record Gone (prog : Program) (places : Places) (x : Course) (stopped : engine.Pause Stop) (limit : ℕ) : Type 0 where
   pub way : IsUnderWay prog places x
-  pub pauses : x.done ≢ limit → (l : Layout) (g : Frame) (goes : GoesAlone prog places l (reverse x.path.items) g x.loaded) →
+  pub pauses : x.done ≢ limit →
+      (l : Layout) (g : Frame) (goes : GoesAlone prog places l (reverse x.path.items) g x.loaded) →
       PausesAt prog l (way.along l g goes).strand (Some (named stopped))

@@ -32,10 +32,12 @@ pub record ShowsFootprint (l : Layout) (f : Footprint) (b : Buffers) : Type 0 wh
   pub reads_in : All (λ r. IsIn l r.0) f.reads
   pub writes_in : All (λ w. IsIn l w.0) f.writes
 
--- wherever the buffers show a footprint before, they show one afterwards to which this was done at the cell at the address
+-- wherever the buffers show a footprint before, they show one afterwards to which this was done at the cell at the
+-- address
 abbrev pub Becomes : (Footprint → Cell → Footprint) → Buffers → ℤ → Buffers → Type 0
 Becomes change b a after =
-    (l : Layout) (f : Footprint) (c : Cell) → AreApart l → IsIn l c → a ≡ address l c → ShowsFootprint l f b → ShowsFootprint l (change f c) after
+    (l : Layout) (f : Footprint) (c : Cell) → AreApart l → IsIn l c → a ≡ address l c → ShowsFootprint l f b →
+    ShowsFootprint l (change f c) after
 
 -- a store of the definitions, and an addition
 abbrev pub with_store : ℤ → Footprint → Cell → Footprint

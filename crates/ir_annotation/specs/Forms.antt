@@ -1,5 +1,6 @@
 -- A form as its word spells it: terms with signs, added up.
-use Rattle.std.specs.Prelude.{◌==◌, ℕ, ℤ, pos, neg_ℤ, ◌+ℤ◌, Bool, true, false, not, ◌&&◌, List, [], ◌∷◌, take, drop, insert, slice_get, slice_set}
+use Rattle.std.specs.Prelude.{◌==◌, ℕ, ℤ, pos, neg_ℤ, ◌+ℤ◌, Bool, true, false, not, ◌&&◌, List, [], ◌∷◌, take, drop}
+use Rattle.std.specs.Prelude.{insert, slice_get, slice_set}
 use Rattle.std.specs.Prelude.{slice_index_or, Option, Some, None, Result, Ok, Err, if◌then◌else◌}
 use Rattle.std.specs.declared.cmp.Ordering.{Ordering}
 use Rattle.std.specs.declared.cmp.Ordering.TheVariants.{Less, Equal, Greater}
@@ -113,7 +114,8 @@ abbrev pub added : List SumTerm → List ℕ → ℤ → List SumTerm
 added ts name amount =
     let place : ℕ = prefix_len (is_before name) ts in
     let new : SumTerm = record { register = name; coefficient = amount } in
-    if is_at ts place name then slice_set ts place (with_more amount (slice_index_or ts place new)) else insert ts place new
+    if is_at ts place name then slice_set ts place (with_more amount (slice_index_or ts place new)) else insert ts place
+    new
 
 abbrev pub with_amount : Total → Bool → Option (List ℕ) → ℤ → Total
 with_amount total is_within None amount = record {
@@ -141,7 +143,11 @@ nothing = record { terms = []; constant = pos 0; is_within_limits = true }
 
 -- no term where the coefficient is 0
 abbrev pub kept : SumTerm → Option Term
-kept t = if int_eq t.coefficient (pos 0) then None else Some (record { register = t.register; coefficient = (narrowed t.coefficient).value })
+kept t = if int_eq t.coefficient (pos 0) then None else Some (record {
+  register = t.register;
+  coefficient =
+      (narrowed t.coefficient).value;
+})
 
 abbrev pub is_narrow : SumTerm → Bool
 is_narrow t = (narrowed t.coefficient).is_within_limits
@@ -149,7 +155,8 @@ is_narrow t = (narrowed t.coefficient).is_within_limits
 unfoldable pub form_from : Total → Limited Form
 form_from total = record {
   value = record { terms = filter_map kept total.terms; constant = (narrowed total.constant).value };
-  is_within_limits = total.is_within_limits && (narrowed total.constant).is_within_limits && list_all is_narrow total.terms;
+  is_within_limits = total.is_within_limits && (narrowed total.constant).is_within_limits && list_all is_narrow
+      total.terms;
 }
 
 unfoldable pub form_of : List ℕ → Result (Limited Form) ℕ

@@ -2,7 +2,8 @@
 use Rattle.std.specs.Prelude.{ℕ, List, codes, Option, Some, None, if◌then◌else◌}
 use Rattle.std.specs.Str.{bytes_eq}
 use Rattle.ir_annotation.specs.declared.keywords.Keyword.{Keyword}
-use Rattle.ir_annotation.specs.declared.keywords.Keyword.TheVariants.{Requires, Ensures, Reads, Writes, Adds, Measure, Budget, Keeps, Pending, Left}
+use Rattle.ir_annotation.specs.declared.keywords.Keyword.TheVariants.{Requires, Ensures, Reads, Writes, Adds, Measure}
+use Rattle.ir_annotation.specs.declared.keywords.Keyword.TheVariants.{Budget, Keeps, Pending, Left}
 use Rattle.ir_annotation.specs.declared.keywords.Keyword.TheVariants.{Foot, Shows}
 
 -- at a block or before an instruction

@@ -1,5 +1,6 @@
 -- The limits of names and numbers.
-use Rattle.std.specs.Prelude.{ℕ, ℤ, pos, negsuc, nat_le, int_le, Bool, true, false, ◌&&◌, Option, Some, None, if◌then◌else◌}
+use Rattle.std.specs.Prelude.{ℕ, ℤ, pos, negsuc, nat_le, int_le, Bool, true, false, ◌&&◌, Option, Some, None}
+use Rattle.std.specs.Prelude.{if◌then◌else◌}
 use Rattle.ir_annotation.specs.declared.limits.Limited.{Limited}
 
 -- a value that is within its limits, and 0 in the place of a number that is not

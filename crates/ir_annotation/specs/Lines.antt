@@ -1,5 +1,5 @@
--- The words of a line behind ;! and what they say: a row for each shape. 103 where the words are of another shape, 107 where the
--- first word begins no annotation.
+-- The words of a line behind ;! and what they say: a row for each shape. 103 where the words are of another shape, 107
+-- where the first word begins no annotation.
 use Rattle.std.specs.Prelude.{ℕ, ◌&&◌, List, [], ◌∷◌, codes, Option, Some, None, Result, Ok, Err, if◌then◌else◌}
 use Rattle.std.specs.Str.{bytes_eq}
 use Rattle.syntax.specs.declared.annotation.Inequality.{Inequality}
@@ -25,7 +25,11 @@ use Rattle.ir_annotation.specs.Keywords.{keyword_of}
 unfoldable pub inequality_of : ℕ → List (List ℕ) → Result (Limited Inequality) ℕ
 inequality_of line (left ∷ relation ∷ right ∷ []) =
     form_of left >>= λ l. relation_of relation >>= λ r. form_of right >>= λ h.
-    Ok (record { value = record { line = line; left = l.value; relation = r; right = h.value }; is_within_limits = l.is_within_limits && h.is_within_limits })
+    Ok (record {
+      value = record { line = line; left = l.value; relation = r; right = h.value };
+      is_within_limits =
+          l.is_within_limits && h.is_within_limits;
+    })
 inequality_of line _ = Err 103
 
 -- O F F
@@ -46,21 +50,33 @@ bound_of max bound = if bytes_eq max (codes "max") then number_of 4096 bound els
 unfoldable pub measure_of : ℕ → List (List ℕ) → Result (Limited Measure) ℕ
 measure_of line (form ∷ max ∷ bound ∷ []) =
     form_of form >>= λ f. bound_of max bound >>= λ n.
-    Ok (record { value = record { line = line; form = f.value; bound = n.value }; is_within_limits = f.is_within_limits && n.is_within_limits })
+    Ok (record {
+      value = record { line = line; form = f.value; bound = n.value };
+      is_within_limits =
+          f.is_within_limits && n.is_within_limits;
+    })
 measure_of line _ = Err 103
 
 -- K S, each up to 10^12
 unfoldable pub budget_from_words : ℕ → List (List ℕ) → Result (Limited Budget) ℕ
 budget_from_words line (calls ∷ instructions ∷ []) =
     number_of 1000000000000 calls >>= λ k. number_of 1000000000000 instructions >>= λ s.
-    Ok (record { value = record { line = line; self_calls = k.value; instructions = s.value }; is_within_limits = k.is_within_limits && s.is_within_limits })
+    Ok (record {
+      value = record { line = line; self_calls = k.value; instructions = s.value };
+      is_within_limits =
+          k.is_within_limits && s.is_within_limits;
+    })
 budget_from_words line _ = Err 103
 
 -- F F
 unfoldable pub left_of : ℕ → List (List ℕ) → Result (Limited Left) ℕ
 left_of line (calls ∷ instructions ∷ []) =
     form_of calls >>= λ k. form_of instructions >>= λ s.
-    Ok (record { value = record { line = line; self_calls = k.value; instructions = s.value }; is_within_limits = k.is_within_limits && s.is_within_limits })
+    Ok (record {
+      value = record { line = line; self_calls = k.value; instructions = s.value };
+      is_within_limits =
+          k.is_within_limits && s.is_within_limits;
+    })
 left_of line _ = Err 103
 
 -- MODE O F F
@@ -73,7 +89,11 @@ unfoldable pub pending_of : ℕ → List (List ℕ) → Result (Limited Pending)
 pending_of line [] = Err 103
 pending_of line (region ∷ words) =
     register_of region >>= λ s. moded_zone_of line words >>= λ z.
-    Ok (record { value = record { region = s.value; zone = z.value }; is_within_limits = s.is_within_limits && z.is_within_limits })
+    Ok (record {
+      value = record { region = s.value; zone = z.value };
+      is_within_limits =
+          s.is_within_limits && z.is_within_limits;
+    })
 
 abbrev pub as_line : {A : Type 0} → (A → Annotation) → Limited A → AnnotationLine
 as_line kind found = record { annotation = kind found.value; is_within_limits = found.is_within_limits }

@@ -1,5 +1,6 @@
 -- The canonical spelling of annotations' words, parted by one space.
-use Rattle.std.specs.Prelude.{ℕ, ℤ, ◌==◌, Bool, true, false, List, [], ◌∷◌, ◌++◌, codes, flat_map, unsigned_abs, int_lt, pos, if◌then◌else◌}
+use Rattle.std.specs.Prelude.{ℕ, ℤ, ◌==◌, Bool, true, false, List, [], ◌∷◌, ◌++◌, codes, flat_map, unsigned_abs, int_lt}
+use Rattle.std.specs.Prelude.{pos, if◌then◌else◌}
 use Rattle.std.specs.Fmt.{signed_decimal, decimal}
 use Rattle.syntax.specs.declared.annotation.Term.{Term}
 use Rattle.syntax.specs.declared.annotation.Form.{Form}
@@ -26,7 +27,8 @@ abbrev pub factor_text : ℕ → List ℕ
 factor_text n = if n == 1 then [] else decimal n ++ codes "*"
 
 abbrev pub term_text : Bool → Term → List ℕ
-term_text is_first t = sign_text is_first t.coefficient ++ factor_text (unsigned_abs t.coefficient) ++ codes "%" ++ t.register
+term_text is_first t = sign_text is_first t.coefficient ++ factor_text (unsigned_abs t.coefficient) ++ codes "%" ++
+    t.register
 
 -- the constant behind a register
 abbrev pub constant_text : ℤ → List ℕ
@@ -55,11 +57,13 @@ object_text (address.Global name) = global_text name
 
 -- WORD F R F
 unfoldable pub inequality_text : List ℕ → Inequality → List ℕ
-inequality_text word i = word ++ codes " " ++ form_text i.left ++ codes " " ++ relation_text i.relation ++ codes " " ++ form_text i.right
+inequality_text word i = word ++ codes " " ++ form_text i.left ++ codes " " ++ relation_text i.relation ++ codes " " ++
+    form_text i.right
 
 -- MODE O F F
 unfoldable pub zone_text : Zone → List ℕ
-zone_text z = mode_text z.mode ++ codes " " ++ object_text z.object ++ codes " " ++ form_text z.low ++ codes " " ++ form_text z.high
+zone_text z = mode_text z.mode ++ codes " " ++ object_text z.object ++ codes " " ++ form_text z.low ++ codes " " ++
+    form_text z.high
 
 unfoldable pub measure_text : Measure → List ℕ
 measure_text m = codes "measure " ++ form_text m.form ++ codes " max " ++ decimal m.bound

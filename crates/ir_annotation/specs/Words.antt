@@ -1,5 +1,6 @@
 -- The words of an annotation but forms.
-use Rattle.std.specs.Prelude.{ℕ, Bool, false, ◌&&◌, ◌||◌, ◌==◌, nat_le, nat_lt, ◌^◌, List, [], ◌∷◌, length, codes, Option, Some, None, Result, Ok}
+use Rattle.std.specs.Prelude.{ℕ, Bool, false, ◌&&◌, ◌||◌, ◌==◌, nat_le, nat_lt, ◌^◌, List, [], ◌∷◌, length, codes}
+use Rattle.std.specs.Prelude.{Option, Some, None, Result, Ok}
 use Rattle.std.specs.Prelude.{Err, if◌then◌else◌}
 use Rattle.std.specs.Str.{bytes_eq}
 use Rattle.std.specs.Str.Parse.{digits_value}
@@ -29,7 +30,8 @@ number_of most word = if is_numeral word then Ok (up_to most (small_value word))
 
 -- a name of at most 64 bytes
 unfoldable pub name_of : List ℕ → Result (Limited (List ℕ)) ℕ
-name_of name = if is_name name then Ok (record { value = name; is_within_limits = nat_le (length name) 64 }) else Err 103
+name_of name = if is_name name then Ok (record { value = name; is_within_limits = nat_le (length name) 64 }) else Err
+    103
 
 -- % and a name
 abbrev pub register_of : List ℕ → Result (Limited (List ℕ)) ℕ
@@ -40,12 +42,21 @@ register_of (sigil ∷ name) = if sigil == 37 then name_of name else Err 103
 abbrev pub object_of : List ℕ → Result (Limited Address) ℕ
 object_of [] = Err 103
 object_of (sigil ∷ name) =
-    if sigil == 37 then (name_of name >>= λ n. Ok (record { value = address.Register n.value; is_within_limits = n.is_within_limits }))
-    else if sigil == 64 then (name_of name >>= λ n. Ok (record { value = address.Global n.value; is_within_limits = n.is_within_limits }))
+    if sigil == 37 then (name_of name >>= λ n. Ok (record {
+      value = address.Register n.value;
+      is_within_limits =
+          n.is_within_limits;
+    }))
+    else if sigil == 64 then (name_of name >>= λ n. Ok (record {
+      value = address.Global n.value;
+      is_within_limits =
+          n.is_within_limits;
+    }))
     else Err 103
 
 abbrev pub relation_of : List ℕ → Result Relation ℕ
-relation_of word = if bytes_eq word (codes "<=") then Ok AtMost else if bytes_eq word (codes ">=") then Ok AtLeast else Err 103
+relation_of word = if bytes_eq word (codes "<=") then Ok AtMost else if bytes_eq word
+    (codes ">=") then Ok AtLeast else Err 103
 
 abbrev pub mode_of : List ℕ → Result Mode ℕ
 mode_of word =

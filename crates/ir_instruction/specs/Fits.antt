@@ -11,7 +11,8 @@ use Rattle.ir_instruction.specs.Spelling.{spelled_cases}
 use Rattle.std.specs.List.{list_all}
 use Rattle.syntax.specs.declared.module.Parameter.{Parameter}
 use Rattle.syntax.specs.declared.module.Parameter.TheVariants as parameter
-use Rattle.ir_instruction.specs.Shape.{Gap, register, function, label, operand, pointer, array, width, result_type, predicate, parameters, arguments}
+use Rattle.ir_instruction.specs.Shape.{Gap, register, function, label, operand, pointer, array, width, result_type}
+use Rattle.ir_instruction.specs.Shape.{predicate, parameters, arguments}
 use Rattle.ir_instruction.specs.Shape.{cases, entries, Piece, word, mark, named, gap, space, Held, Gaps}
 
 -- a pointer has a cell at least
@@ -71,5 +72,6 @@ instruction_fits _ = true
 abbrev pub terminator_fits : Terminator → Bool
 terminator_fits (terminator.Branch c t f) = not (bytes_eq t f)
 terminator_fits (terminator.Detach s d c) = not (bytes_eq d c)
-terminator_fits (terminator.Switch w v d cs) = is_some_list (spelled_cases w cs) && are_cases_of w d (spelled_cases w cs)
+terminator_fits (terminator.Switch w v d cs) = is_some_list (spelled_cases w cs) && are_cases_of w d
+    (spelled_cases w cs)
 terminator_fits _ = true

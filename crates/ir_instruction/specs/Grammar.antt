@@ -15,7 +15,8 @@ use Rattle.ir_instruction.specs.Outcome.{◌>>=◌}
 use Rattle.ir_instruction.specs.Fronts.{is_word, behind}
 use Rattle.ir_instruction.specs.Operators.{operator_of, without_wrap}
 use Rattle.ir_instruction.specs.Cases.{are_cases_of, cases_from}
-use Rattle.ir_instruction.specs.Shape.{Piece, word, mark, named, gap, register, function, label, operand, pointer, array, width, result_type}
+use Rattle.ir_instruction.specs.Shape.{Piece, word, mark, named, gap, register, function, label, operand, pointer}
+use Rattle.ir_instruction.specs.Shape.{array, width, result_type}
 use Rattle.ir_instruction.specs.Shape.{predicate, parameters, arguments, cases, entries, space, Gaps, gaps_of}
 
 -- Instructions that define a register, behind '%d = WORD'
@@ -117,7 +118,8 @@ store_zeros_from g = instruction.StoreZeros g.0 g.1.0
 
 -- atomicrmw add ptr P, i64 V seq_cst
 abbrev pub atomic_shape : List Piece
-atomic_shape = word (codes "add") ∷ space ∷ gap pointer ∷ mark 44 ∷ space ∷ word (codes "i64") ∷ space ∷ gap operand ∷ space ∷ word (codes "seq_cst") ∷ []
+atomic_shape = word (codes "add") ∷ space ∷ gap pointer ∷ mark 44 ∷ space ∷ word (codes "i64") ∷ space ∷ gap operand ∷
+    space ∷ word (codes "seq_cst") ∷ []
 
 abbrev pub atomic_from : Gaps atomic_shape → Instruction
 atomic_from g = instruction.AtomicAdd g.0 g.1.0
@@ -150,7 +152,8 @@ abbrev pub switch_shape : List Piece
 switch_shape = gap width ∷ space ∷ gap operand ∷ mark 44 ∷ space ∷ gap label ∷ space ∷ mark 91 ∷ space ∷ gap cases ∷ []
 
 abbrev pub switch_from : Gaps switch_shape → Option Terminator
-switch_from g = if are_cases_of g.0 g.1.1.0 g.1.1.1.0 then Some (terminator.Switch g.0 g.1.0 g.1.1.0 (cases_from g.1.1.1.0)) else None
+switch_from g = if are_cases_of g.0 g.1.1.0 g.1.1.1.0 then Some
+    (terminator.Switch g.0 g.1.0 g.1.1.0 (cases_from g.1.1.1.0)) else None
 
 -- ret void
 abbrev pub return_void_shape : List Piece
@@ -168,7 +171,8 @@ return_from g = terminator.Return (Some g.0)
 
 -- detach within %s, label %d, label %c: the labels differ
 abbrev pub detach_shape : List Piece
-detach_shape = word (codes "within") ∷ space ∷ gap register ∷ mark 44 ∷ space ∷ gap label ∷ mark 44 ∷ space ∷ gap label ∷ []
+detach_shape = word (codes "within") ∷ space ∷ gap register ∷ mark 44 ∷ space ∷ gap label ∷ mark 44 ∷ space ∷
+    gap label ∷ []
 
 abbrev pub detach_from : Gaps detach_shape → Option Terminator
 detach_from g = if bytes_eq g.1.0 g.1.1.0 then None else Some (terminator.Detach g.0 g.1.0 g.1.1.0)
@@ -198,7 +202,8 @@ define_shape = gap result_type ∷ space ∷ gap function ∷ mark 40 ∷ gap pa
 -- behind '%d = OP'
 abbrev pub binary : List ℕ → BinaryOperator → List Symbol → Option Instruction
 binary d operator rest =
-    if is_word (codes "nsw") rest then (without_wrap operator >>= λ operator. option_map (binary_from d operator) (gaps_of binary_shape (behind rest)))
+    if is_word (codes "nsw") rest then (without_wrap operator >>= λ operator. option_map (binary_from d operator)
+    (gaps_of binary_shape (behind rest)))
     else option_map (binary_from d operator) (gaps_of binary_shape rest)
 
 -- behind '%d = alloca'
@@ -221,7 +226,8 @@ fixed d text rest =
     else if bytes_eq text (codes "sext") then option_map (extend_from d SignExtend) (gaps_of extend_shape rest)
     else if bytes_eq text (codes "zext") then option_map (extend_from d ZeroExtend) (gaps_of extend_shape rest)
     else if bytes_eq text (codes "alloca") then alloca d rest
-    else if bytes_eq text (codes "getelementptr") then option_map (element_pointer_from d) (gaps_of element_pointer_shape rest)
+    else if bytes_eq text (codes "getelementptr") then option_map (element_pointer_from d)
+    (gaps_of element_pointer_shape rest)
     else if bytes_eq text (codes "load") then option_map (load_from d) (gaps_of load_shape rest)
     else (operator_of text >>= λ operator. binary d operator rest)
 

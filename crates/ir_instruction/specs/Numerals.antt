@@ -1,5 +1,6 @@
 -- Numbers as lines spell them.
-use Rattle.std.specs.Prelude.{ℕ, ◌+◌, ◌-◌, ◌*◌, ◌/◌, ◌%◌, ℤ, pos, negsuc, nat_lt, nat_le, slice_index, Bool, false, not, ◌&&◌, ◌==◌, List, [], ◌∷◌}
+use Rattle.std.specs.Prelude.{ℕ, ◌+◌, ◌-◌, ◌*◌, ◌/◌, ◌%◌, ℤ, pos, negsuc, nat_lt, nat_le, slice_index, Bool, false, not}
+use Rattle.std.specs.Prelude.{◌&&◌, ◌==◌, List, [], ◌∷◌}
 use Rattle.std.specs.Prelude.{length, Option, Some, None, if◌then◌else◌}
 use Rattle.std.specs.Ordering.{int_eq}
 use Rattle.std.specs.Str.{bytes_eq}
@@ -21,7 +22,9 @@ digit_from_end k digits = slice_index digits (length digits - k) - 48
 
 -- A number of three digits or more is a multiple of 8 where its last three digits are, as 1000 is.
 abbrev pub is_multiple_of_eight : List ℕ → Bool
-is_multiple_of_eight digits = nat_le 3 (length digits) && (digit_from_end 3 digits * 100 + digit_from_end 2 digits * 10 + digit_from_end 1 digits) % 8 == 0
+is_multiple_of_eight digits =
+    nat_le 3 (length digits) && (digit_from_end 3 digits * 100 + digit_from_end 2 digits * 10 + digit_from_end 1 digits)
+    % 8 == 0
 
 -- a number from 1 on; one that is too large counts as 1
 abbrev pub count_of : Numeral → Option ℕ

@@ -11,7 +11,8 @@ use Rattle.syntax.specs.declared.operator.Predicate.{Predicate}
 use Rattle.ir_instruction.specs.declared.symbol.Symbol.{Symbol}
 use Rattle.ir_instruction.specs.declared.switch.SpelledCase.{SpelledCase}
 use Rattle.ir_instruction.specs.Outcome.{◌>>=◌}
-use Rattle.ir_instruction.specs.Fronts.{mark_at, word_at, named_at, end_at, register_at, global_at, label_at, operand_at, pointer_at, array_at, width_at}
+use Rattle.ir_instruction.specs.Fronts.{mark_at, word_at, named_at, end_at, register_at, global_at, label_at}
+use Rattle.ir_instruction.specs.Fronts.{operand_at, pointer_at, array_at, width_at}
 use Rattle.ir_instruction.specs.Fronts.{result_type_at}
 use Rattle.ir_instruction.specs.Operators.{predicate_at}
 use Rattle.ir_instruction.specs.Lists.{parameter_at, argument_at, all_at, all_cases_at, all_entries_at}

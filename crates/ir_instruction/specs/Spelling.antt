@@ -18,12 +18,16 @@ use Rattle.syntax.specs.declared.module.Parameter.TheVariants as parameter
 use Rattle.syntax.specs.declared.module.ResultType.{ResultType}
 use Rattle.syntax.specs.declared.module.ResultType.TheVariants as results
 use Rattle.syntax.specs.declared.operator.BinaryOperator.{BinaryOperator}
-use Rattle.syntax.specs.declared.operator.BinaryOperator.TheVariants.{Add, Subtract, Multiply, AddNoWrap, SubtractNoWrap, MultiplyNoWrap}
-use Rattle.syntax.specs.declared.operator.BinaryOperator.TheVariants.{SignedDivide, UnsignedDivide, SignedRemainder, UnsignedRemainder, ShiftLeft}
-use Rattle.syntax.specs.declared.operator.BinaryOperator.TheVariants.{LogicalShiftRight, ArithmeticShiftRight, And, Or, ExclusiveOr}
+use Rattle.syntax.specs.declared.operator.BinaryOperator.TheVariants.{Add, Subtract, Multiply, AddNoWrap}
+use Rattle.syntax.specs.declared.operator.BinaryOperator.TheVariants.{SubtractNoWrap, MultiplyNoWrap}
+use Rattle.syntax.specs.declared.operator.BinaryOperator.TheVariants.{SignedDivide, UnsignedDivide, SignedRemainder}
+use Rattle.syntax.specs.declared.operator.BinaryOperator.TheVariants.{UnsignedRemainder, ShiftLeft}
+use Rattle.syntax.specs.declared.operator.BinaryOperator.TheVariants.{LogicalShiftRight, ArithmeticShiftRight, And, Or}
+use Rattle.syntax.specs.declared.operator.BinaryOperator.TheVariants.{ExclusiveOr}
 use Rattle.syntax.specs.declared.operator.Conversion.TheVariants.{Truncate, SignExtend, ZeroExtend}
 use Rattle.syntax.specs.declared.operator.Predicate.{Predicate}
-use Rattle.syntax.specs.declared.operator.Predicate.TheVariants.{Equal, NotEqual, UnsignedGreater, UnsignedAtLeast, UnsignedLess, UnsignedAtMost}
+use Rattle.syntax.specs.declared.operator.Predicate.TheVariants.{Equal, NotEqual, UnsignedGreater, UnsignedAtLeast}
+use Rattle.syntax.specs.declared.operator.Predicate.TheVariants.{UnsignedLess, UnsignedAtMost}
 use Rattle.syntax.specs.declared.operator.Predicate.TheVariants.{SignedGreater, SignedAtLeast, SignedLess, SignedAtMost}
 use Rattle.syntax.specs.declared.operator.Width.{Width}
 use Rattle.syntax.specs.declared.operator.Width.TheVariants.{Bits64, Bits32}
@@ -36,11 +40,15 @@ use Rattle.ir_instruction.specs.declared.symbol.Numeral.TheVariants.{Small, Larg
 use Rattle.ir_instruction.specs.declared.symbol.Symbol.{Symbol}
 use Rattle.ir_instruction.specs.declared.symbol.Symbol.TheVariants as symbols
 use Rattle.ir_instruction.specs.declared.switch.SpelledCase.{SpelledCase}
-use Rattle.ir_instruction.specs.Shape.{Gap, register, function, label, operand, pointer, array, width, result_type, predicate, parameters, arguments}
+use Rattle.ir_instruction.specs.Shape.{Gap, register, function, label, operand, pointer, array, width, result_type}
+use Rattle.ir_instruction.specs.Shape.{predicate, parameters, arguments}
 use Rattle.ir_instruction.specs.Shape.{cases, entries, Piece, word, mark, named, gap, space, Held, Gaps}
-use Rattle.ir_instruction.specs.Grammar.{binary_shape, compare_shape, truncate_shape, extend_shape, alloca_shape, alloca_array_shape}
-use Rattle.ir_instruction.specs.Grammar.{element_pointer_shape, load_shape, start_region_shape, call_shape, phi_shape, store_shape, store_zeros_shape}
-use Rattle.ir_instruction.specs.Grammar.{atomic_shape, call_void_shape, jump_shape, branch_shape, switch_shape, return_void_shape, return_shape}
+use Rattle.ir_instruction.specs.Grammar.{binary_shape, compare_shape, truncate_shape, extend_shape, alloca_shape}
+use Rattle.ir_instruction.specs.Grammar.{alloca_array_shape}
+use Rattle.ir_instruction.specs.Grammar.{element_pointer_shape, load_shape, start_region_shape, call_shape, phi_shape}
+use Rattle.ir_instruction.specs.Grammar.{store_shape, store_zeros_shape}
+use Rattle.ir_instruction.specs.Grammar.{atomic_shape, call_void_shape, jump_shape, branch_shape, switch_shape}
+use Rattle.ir_instruction.specs.Grammar.{return_void_shape, return_shape}
 use Rattle.ir_instruction.specs.Grammar.{detach_shape, region_shape, global_shape, define_shape}
 
 -- a symbol, or a space between two
@@ -143,7 +151,8 @@ pointer_atoms address = a_word (codes "ptr") ∷ Blank ∷ address_atom address 
 
 -- [N x i64]
 abbrev pub array_atoms : ℕ → List Atom
-array_atoms n = a_mark 91 ∷ a_number (pos n) ∷ Blank ∷ a_word (codes "x") ∷ Blank ∷ a_word (codes "i64") ∷ a_mark 93 ∷ []
+array_atoms n = a_mark 91 ∷ a_number (pos n) ∷ Blank ∷ a_word (codes "x") ∷ Blank ∷ a_word (codes "i64") ∷ a_mark 93 ∷
+    []
 
 abbrev pub parameter_atoms : Parameter → List Atom
 parameter_atoms (parameter.Number name) = a_word (codes "i64") ∷ Blank ∷ a_register name ∷ []
@@ -157,11 +166,13 @@ argument_atoms (argument.Pointer address) = pointer_atoms address
 
 -- [ V, %l ]
 abbrev pub entry_atoms : PhiEntry → List Atom
-entry_atoms e = a_mark 91 ∷ Blank ∷ operand_atom e.value ∷ a_mark 44 ∷ Blank ∷ a_register e.predecessor ∷ Blank ∷ a_mark 93 ∷ []
+entry_atoms e = a_mark 91 ∷ Blank ∷ operand_atom e.value ∷ a_mark 44 ∷ Blank ∷ a_register e.predecessor ∷ Blank ∷
+    a_mark 93 ∷ []
 
 -- T N, label %l
 abbrev pub case_atoms : SpelledCase → List Atom
-case_atoms c = a_word (width_word c.width) ∷ Blank ∷ Token (symbols.Number c.number) ∷ a_mark 44 ∷ Blank ∷ label_atoms c.target
+case_atoms c = a_word (width_word c.width) ∷ Blank ∷ Token (symbols.Number c.number) ∷ a_mark 44 ∷ Blank ∷
+    label_atoms c.target
 
 -- behind a comma and a space
 abbrev pub other_atoms : {A : Type 0} → (A → List Atom) → A → List Atom
@@ -215,14 +226,17 @@ call_atoms None f xs = beginning (codes "call") (atoms_of call_void_shape (f, (x
 
 abbrev pub instruction_atoms : Instruction → List Atom
 instruction_atoms (instruction.Binary d operator w a b) =
-    a_register d ∷ Blank ∷ a_mark 61 ∷ Blank ∷ (operator_atoms operator ++ Blank ∷ atoms_of binary_shape (w, (a, (b, tt))))
-instruction_atoms (instruction.Compare d p w a b) = defining d (codes "icmp") (atoms_of compare_shape (p, (w, (a, (b, tt)))))
+    a_register d ∷ Blank ∷ a_mark 61 ∷ Blank ∷ (operator_atoms operator ++ Blank ∷
+    atoms_of binary_shape (w, (a, (b, tt))))
+instruction_atoms (instruction.Compare d p w a b) =
+    defining d (codes "icmp") (atoms_of compare_shape (p, (w, (a, (b, tt)))))
 instruction_atoms (instruction.Convert d Truncate v) = defining d (codes "trunc") (atoms_of truncate_shape (v, tt))
 instruction_atoms (instruction.Convert d SignExtend v) = defining d (codes "sext") (atoms_of extend_shape (v, tt))
 instruction_atoms (instruction.Convert d ZeroExtend v) = defining d (codes "zext") (atoms_of extend_shape (v, tt))
 instruction_atoms (instruction.Alloca d One) = defining d (codes "alloca") (atoms_of alloca_shape tt)
 instruction_atoms (instruction.Alloca d (Array n)) = defining d (codes "alloca") (atoms_of alloca_array_shape (n, tt))
-instruction_atoms (instruction.ElementPointer d p v) = defining d (codes "getelementptr") (atoms_of element_pointer_shape (p, (v, tt)))
+instruction_atoms (instruction.ElementPointer d p v) =
+    defining d (codes "getelementptr") (atoms_of element_pointer_shape (p, (v, tt)))
 instruction_atoms (instruction.Load d p) = defining d (codes "load") (atoms_of load_shape (p, tt))
 instruction_atoms (instruction.Store v p) = beginning (codes "store") (atoms_of store_shape (v, (p, tt)))
 instruction_atoms (instruction.StoreZeros n p) = beginning (codes "store") (atoms_of store_zeros_shape (n, (p, tt)))
@@ -243,7 +257,8 @@ spelled_cases w (c ∷ cs) = spelled_case w c ∷ spelled_cases w cs
 abbrev pub terminator_atoms : Terminator → List Atom
 terminator_atoms (terminator.Jump l) = beginning (codes "br") (atoms_of jump_shape (l, tt))
 terminator_atoms (terminator.Branch c t f) = beginning (codes "br") (atoms_of branch_shape (c, (t, (f, tt))))
-terminator_atoms (terminator.Switch w v d cs) = beginning (codes "switch") (atoms_of switch_shape (w, (v, (d, (spelled_cases w cs, tt)))))
+terminator_atoms (terminator.Switch w v d cs) =
+    beginning (codes "switch") (atoms_of switch_shape (w, (v, (d, (spelled_cases w cs, tt)))))
 terminator_atoms (terminator.Return None) = beginning (codes "ret") (atoms_of return_void_shape tt)
 terminator_atoms (terminator.Return (Some v)) = beginning (codes "ret") (atoms_of return_shape (v, tt))
 terminator_atoms (terminator.Detach s d c) = beginning (codes "detach") (atoms_of detach_shape (s, (d, (c, tt))))

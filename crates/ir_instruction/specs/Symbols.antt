@@ -1,5 +1,6 @@
 -- What the tokens of a line stand for.
-use Rattle.std.specs.Prelude.{ℕ, ◌^◌, ℤ, pos, negsuc, nat_lt, nat_le, ◌==◌, Bool, true, false, List, drop, length, slice_index, Option, Some, None}
+use Rattle.std.specs.Prelude.{ℕ, ◌^◌, ℤ, pos, negsuc, nat_lt, nat_le, ◌==◌, Bool, true, false, List, drop, length}
+use Rattle.std.specs.Prelude.{slice_index, Option, Some, None}
 use Rattle.std.specs.Prelude.{if◌then◌else◌}
 use Rattle.std.specs.Str.Parse.{signed_digits_value}
 use Rattle.ir_lex.specs.declared.token.Kind.{Kind}

@@ -1,5 +1,6 @@
 -- The tokens of one line.
-use Rattle.std.specs.Prelude.{ℕ, zero, suc, ◌+◌, ◌-◌, Bool, true, false, ◌==◌, List, [], ◌∷◌, take, drop, Option, Some, None, if◌then◌else◌, option_map}
+use Rattle.std.specs.Prelude.{ℕ, zero, suc, ◌+◌, ◌-◌, Bool, true, false, ◌==◌, List, [], ◌∷◌, take, drop, Option, Some}
+use Rattle.std.specs.Prelude.{None, if◌then◌else◌, option_map}
 use Rattle.std.specs.List.{list_all, prefix_len}
 use Rattle.ir_lex.specs.declared.token.Kind.{Kind}
 use Rattle.ir_lex.specs.declared.token.Kind.TheVariants.{Word, Mark, Note}
@@ -57,5 +58,6 @@ abbrev pub tokens_of : List ℕ → Option (List Token)
 tokens_of line =
     let start = prefix_len is_space line in
     if is_note_mark (drop start line) then
-    option_map (λ ts. record { kind = Note; from = start; to = start + 2 } ∷ ts) (tokens_from true 0 (start + 2) (drop (start + 2) line))
+    option_map (λ ts. record { kind = Note; from = start; to = start + 2 } ∷
+    ts) (tokens_from true 0 (start + 2) (drop (start + 2) line))
     else tokens_from false 0 start (drop start line)

@@ -13,7 +13,8 @@ use Rattle.ir_reader.specs.declared.annotating.BlockHead.{BlockHead}
 use Rattle.ir_reader.specs.declared.draft.Draft.{Draft}
 use Rattle.ir_reader.specs.declared.draft.LineContext.{LineContext}
 use Rattle.ir_reader.specs.declared.draft.LineContext.TheVariants as place
-use Rattle.ir_reader.specs.Opening.{new_function, new_block, with_global, with_function, with_block, with_phi, with_step, with_ending}
+use Rattle.ir_reader.specs.Opening.{new_function, new_block, with_global, with_function, with_block, with_phi}
+use Rattle.ir_reader.specs.Opening.{with_step, with_ending}
 use Rattle.ir_reader.specs.Annotating.{annotated_function, annotated_block}
 
 abbrev pub drafted : Module → LineContext → Draft
@@ -24,9 +25,14 @@ abbrev pub new_place : Function → ℕ → List ℕ → LineContext
 new_place f line label = place.BlockHead f (record { block = new_block line label; has_left = false })
 
 abbrev pub placed_outside : Module → ℕ → Item → Option Draft
-placed_outside m line (item.Global g) = if length m.functions == 0 then Some (drafted (with_global m g) place.Outside) else None
+placed_outside m line (item.Global g) =
+    if length m.functions == 0 then Some (drafted (with_global m g) place.Outside) else None
 placed_outside m line (item.Define name result_type parameters) =
-    Some (drafted m (place.FunctionHead (record { function = new_function line name result_type parameters; has_measure = false; has_budget = false })))
+    Some (drafted m (place.FunctionHead (record {
+      function = new_function line name result_type parameters;
+      has_measure = false;
+      has_budget = false;
+    })))
 placed_outside m line _ = None
 
 abbrev pub placed_at_function : Module → Option FunctionHead → Option Draft

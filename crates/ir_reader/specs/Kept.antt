@@ -107,7 +107,8 @@ pub record IsFunctionWithin (f : Function) : Type 0 where
 
 -- ---- all of it
 
--- labels, registers and parameters are names of at most 64 bytes, defined once, and none has the reserved name; there is a block
+-- labels, registers and parameters are names of at most 64 bytes, defined once, and none has the reserved name; there
+-- is a block
 pub record IsKeptFunction (f : Function) : Type 0 where
   pub distinct : is_repeated [] (reserved_inside ∷ function_names f) ≡ false
   pub names : All IsShortName (function_names f)

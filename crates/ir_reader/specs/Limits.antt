@@ -47,7 +47,8 @@ abbrev pub are_block_notes_within : BlockNotes → Bool
 are_block_notes_within n = nat_le (length n.keeps) 32 && nat_le (length n.pending) 32 && nat_le (length n.foot) 32
 
 abbrev pub is_function_head_within : Module → Function → Bool
-is_function_head_within m f = nat_lt (length m.functions) 256 && nat_le (length f.parameters) 16 && are_function_notes_within f.notes
+is_function_head_within m f =
+    nat_lt (length m.functions) 256 && nat_le (length f.parameters) 16 && are_function_notes_within f.notes
 
 abbrev pub is_block_head_within : Function → Block → Bool
 is_block_head_within f b = nat_lt (length f.blocks) 1024 && are_block_notes_within b.notes

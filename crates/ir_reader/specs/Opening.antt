@@ -41,10 +41,27 @@ new_function line name result_type parameters = record {
 
 -- nothing is written of what is left: it is 0, on the label's line
 abbrev pub no_block_notes : ℕ → BlockNotes
-no_block_notes line = record { keeps = []; pending = []; left = record { line = line; self_calls = zero_form; instructions = zero_form }; foot = [] }
+no_block_notes line = record {
+  keeps = [];
+  pending = [];
+  left = record {
+    line = line;
+    self_calls = zero_form;
+    instructions = zero_form;
+  };
+  foot = [];
+}
 
 abbrev pub new_block : ℕ → List ℕ → Block
-new_block line label = record { line = line; label = label; notes = no_block_notes line; phis = []; steps = []; ending = None }
+new_block line label = record {
+  line = line;
+  label = label;
+  notes = no_block_notes line;
+  phis = [];
+  steps = [];
+  ending =
+      None;
+}
 
 abbrev pub with_global : Module → Global → Module
 with_global m g = record m { globals = m.globals ++ g ∷ [] }

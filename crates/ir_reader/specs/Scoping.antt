@@ -8,10 +8,15 @@ use Rattle.ir_reader.specs.Defined.{parameter_name, reserved_inside, inside_befo
 
 -- a function begins
 abbrev pub enters_again : Scope → List ℕ → List Parameter → Bool
-enters_again s name parameters = is_repeated s.outside (name ∷ []) || is_repeated (reserved_inside ∷ []) (map parameter_name parameters)
+enters_again s name parameters = is_repeated s.outside (name ∷ []) || is_repeated (reserved_inside ∷
+    []) (map parameter_name parameters)
 
 abbrev pub entered : Scope → List ℕ → List Parameter → Scope
-entered s name parameters = record { outside = s.outside ++ name ∷ []; inside = (reserved_inside ∷ []) ++ map parameter_name parameters }
+entered s name parameters = record {
+  outside = s.outside ++ name ∷ [];
+  inside = (reserved_inside ∷ []) ++
+      map parameter_name parameters;
+}
 
 -- the item defines a name that stands already
 abbrev pub repeats : Scope → Item → Bool
@@ -19,4 +24,8 @@ repeats s i = is_repeated s.outside (defined_outside i) || is_repeated (inside_b
 
 -- with the names of one more item
 abbrev pub scope_with : Scope → Item → Scope
-scope_with s i = record { outside = s.outside ++ defined_outside i; inside = inside_before s.inside i ++ defined_inside i }
+scope_with s i = record {
+  outside = s.outside ++ defined_outside i;
+  inside = inside_before s.inside i ++
+      defined_inside i;
+}

@@ -1,5 +1,6 @@
 -- Only the reader's own functions and its loop need these: what it keeps beside the draft, and what its steps answer.
-use Rattle.std.specs.Prelude.{◌≡◌, ℕ, min, Bool, ◌&&◌, is_some, if◌then◌else◌, List, [], Option, Some, None, Result, Ok, Err}
+use Rattle.std.specs.Prelude.{◌≡◌, ℕ, min, Bool, ◌&&◌, is_some, if◌then◌else◌, List, [], Option, Some, None, Result, Ok}
+use Rattle.std.specs.Prelude.{Err}
 use Rattle.refusal.specs.declared.refused.Refused.{Refused}
 use Rattle.refusal.specs.declared.refused.Refused.TheVariants as faults
 use Rattle.refusal.specs.Refusals.{IfBroken}
@@ -38,7 +39,8 @@ judged_reader at is_within is_new r =
 -- 103 comes first
 abbrev pub judged_place : ℕ → Option Draft → Bool → Bool → Counts → Scope → Result Reader Refused
 judged_place at None is_within is_new c s = Err (faults.Fault 103 at)
-judged_place at (Some e) is_within is_new c s = judged_reader at is_within is_new (record { draft = e; counts = c; scope = s })
+judged_place at (Some e) is_within is_new c s =
+    judged_reader at is_within is_new (record { draft = e; counts = c; scope = s })
 
 -- this result; if a fault, then this one
 abbrev pub Answered : Result Reader Refused → Result Reader Refused → Type 0
@@ -60,7 +62,8 @@ FaultOverlong d at line fault = IfBroken (λ broken. (broken.line ≡ at) × Ove
 -- and with its item
 abbrev pub FaultTooLate : Draft → ℕ → Line → Refused → Type 0
 FaultTooLate d at line fault =
-    IfBroken (λ broken. (broken.line ≡ at) × (broken.number ≡ (if is_some (placed d at line.item) then 104 else 103))) fault
+    IfBroken (λ broken. (broken.line ≡ at) ×
+    (broken.number ≡ (if is_some (placed d at line.item) then 104 else 103))) fault
 
 -- the lower of a line's own fault and 104
 abbrev pub or_too_late : Refused → Refused

@@ -16,7 +16,8 @@ use Rattle.syntax.specs.declared.instruction.Instruction.{Instruction}
 use Rattle.syntax.specs.declared.instruction.Instruction.TheVariants as instruction
 use Rattle.ir_lex.specs.Spelling.{register_text}
 use Rattle.ir_instruction.specs.Spelling.{width_word, predicate_word}
-use Rattle.ir_spelling.specs.Spelling.{operator_text, operand_text, address_text, array_text, arguments_text, behind_comma}
+use Rattle.ir_spelling.specs.Spelling.{operator_text, operand_text, address_text, array_text, arguments_text}
+use Rattle.ir_spelling.specs.Spelling.{behind_comma}
 
 abbrev pub binary_text : List ℕ → BinaryOperator → Width → Operand → Operand → List ℕ
 binary_text d operator width left right =
@@ -35,7 +36,8 @@ conversion_texts SignExtend = (codes " = sext i32 ", codes " to i64")
 conversion_texts ZeroExtend = (codes " = zext i32 ", codes " to i64")
 
 abbrev pub convert_text : List ℕ → Conversion → Operand → List ℕ
-convert_text d conversion value = register_text d ++ (conversion_texts conversion).0 ++ operand_text value ++ (conversion_texts conversion).1
+convert_text d conversion value = register_text d ++ (conversion_texts conversion).0 ++ operand_text value ++
+    (conversion_texts conversion).1
 
 abbrev pub size_text : AllocaSize → List ℕ
 size_text One = codes "i64"
@@ -46,7 +48,8 @@ alloca_text d size = register_text d ++ codes " = alloca " ++ size_text size
 
 abbrev pub element_pointer_text : List ℕ → Address → Operand → List ℕ
 element_pointer_text d base index =
-    register_text d ++ codes " = getelementptr inbounds i64, " ++ address_text base ++ codes ", i64 " ++ operand_text index
+    register_text d ++ codes " = getelementptr inbounds i64, " ++ address_text base ++ codes ", i64 " ++
+    operand_text index
 
 abbrev pub load_text : List ℕ → Address → List ℕ
 load_text d address = register_text d ++ codes " = load i64, " ++ address_text address
@@ -55,13 +58,16 @@ abbrev pub store_text : Operand → Address → List ℕ
 store_text value address = codes "store i64 " ++ operand_text value ++ codes ", " ++ address_text address
 
 abbrev pub store_zeros_text : ℕ → Address → List ℕ
-store_zeros_text cells address = codes "store " ++ array_text cells ++ codes " zeroinitializer, " ++ address_text address
+store_zeros_text cells address = codes "store " ++ array_text cells ++ codes " zeroinitializer, " ++
+    address_text address
 
 abbrev pub atomic_add_text : Address → Operand → List ℕ
-atomic_add_text address value = codes "atomicrmw add " ++ address_text address ++ codes ", i64 " ++ operand_text value ++ codes " seq_cst"
+atomic_add_text address value = codes "atomicrmw add " ++ address_text address ++ codes ", i64 " ++
+    operand_text value ++ codes " seq_cst"
 
 unfoldable pub call_text : List ℕ → List ℕ → List Argument → List ℕ
-call_text d callee arguments = register_text d ++ codes " = call i64 @" ++ callee ++ codes "(" ++ arguments_text arguments ++ codes ")"
+call_text d callee arguments = register_text d ++ codes " = call i64 @" ++ callee ++
+    codes "(" ++ arguments_text arguments ++ codes ")"
 
 unfoldable pub call_void_text : List ℕ → List Argument → List ℕ
 call_void_text callee arguments = codes "call void @" ++ callee ++ codes "(" ++ arguments_text arguments ++ codes ")"

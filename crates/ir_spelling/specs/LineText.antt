@@ -1,4 +1,5 @@
--- Only the printer's own functions need these: the lines of annotations, globals, heads of functions and steps, as text.
+-- Only the printer's own functions need these: the lines of annotations, globals, heads of functions and steps, as
+-- text.
 use Rattle.std.specs.Prelude.{ℕ, List, [], ◌++◌, codes, flat_map, Option, Some, None}
 use Rattle.syntax.specs.declared.annotation.Inequality.{Inequality}
 use Rattle.syntax.specs.declared.annotation.Zone.{Zone}
@@ -12,7 +13,8 @@ use Rattle.syntax.specs.declared.instruction.Step.{Step}
 use Rattle.syntax.specs.declared.terminator.Ending.{Ending}
 use Rattle.syntax.specs.declared.module.Global.{Global}
 use Rattle.syntax.specs.declared.module.Function.{Function}
-use Rattle.ir_annotation.specs.Spelling.{inequality_text, zone_text, measure_text, budget_text, pending_text, left_text, foot_text}
+use Rattle.ir_annotation.specs.Spelling.{inequality_text, zone_text, measure_text, budget_text, pending_text, left_text}
+use Rattle.ir_annotation.specs.Spelling.{foot_text}
 use Rattle.ir_lex.specs.Spelling.{global_text}
 use Rattle.ir_instruction.specs.Spelling.{result_word}
 use Rattle.ir_spelling.specs.Spelling.{array_text, parameters_text}
@@ -62,11 +64,14 @@ label_line label = label ++ codes ":\n"
 
 unfoldable pub function_notes_lines : FunctionNotes → List ℕ
 function_notes_lines n =
-    flat_map (inequality_line (codes "requires")) n.requirements ++ flat_map (inequality_line (codes "ensures")) n.guarantees
-    ++ flat_map zone_line n.reads ++ flat_map zone_line n.writes ++ flat_map zone_line n.adds ++ measure_line n.measure ++ budget_line n.budget
+    flat_map (inequality_line (codes "requires")) n.requirements ++
+    flat_map (inequality_line (codes "ensures")) n.guarantees
+    ++ flat_map zone_line n.reads ++ flat_map zone_line n.writes ++ flat_map zone_line n.adds ++
+    measure_line n.measure ++ budget_line n.budget
 
 unfoldable pub define_line : Function → List ℕ
-define_line f = codes "define " ++ result_word f.result_type ++ codes " @" ++ f.name ++ codes "(" ++ parameters_text f.parameters ++ codes ") {\n"
+define_line f = codes "define " ++ result_word f.result_type ++ codes " @" ++ f.name ++
+    codes "(" ++ parameters_text f.parameters ++ codes ") {\n"
 
 abbrev pub global_line : Global → List ℕ
 global_line g = global_text g.name ++ codes " = global " ++ array_text g.cells ++ codes " zeroinitializer\n"

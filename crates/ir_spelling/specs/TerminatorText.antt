@@ -15,10 +15,12 @@ jump_text target = codes "br " ++ label_text target
 
 abbrev pub branch_text : List ℕ → List ℕ → List ℕ → List ℕ
 branch_text condition when_true when_false =
-    codes "br i1 " ++ register_text condition ++ codes ", " ++ label_text when_true ++ codes ", " ++ label_text when_false
+    codes "br i1 " ++ register_text condition ++ codes ", " ++ label_text when_true ++ codes ", " ++
+    label_text when_false
 
 abbrev pub case_text : Width → Case → List ℕ
-case_text width c = codes " " ++ width_word width ++ codes " " ++ signed_decimal c.number ++ codes ", " ++ label_text c.target
+case_text width c = codes " " ++ width_word width ++ codes " " ++ signed_decimal c.number ++ codes ", " ++
+    label_text c.target
 
 abbrev pub switch_text : Width → Operand → List ℕ → List Case → List ℕ
 switch_text width value default cases =
@@ -31,10 +33,12 @@ return_text (Some value) = codes "ret i64 " ++ operand_text value
 
 abbrev pub detach_text : List ℕ → List ℕ → List ℕ → List ℕ
 detach_text region body continuation =
-    codes "detach within " ++ register_text region ++ codes ", " ++ label_text body ++ codes ", " ++ label_text continuation
+    codes "detach within " ++ register_text region ++ codes ", " ++ label_text body ++ codes ", " ++
+    label_text continuation
 
 unfoldable pub reattach_text : List ℕ → List ℕ → List ℕ
-reattach_text region continuation = codes "reattach within " ++ register_text region ++ codes ", " ++ label_text continuation
+reattach_text region continuation = codes "reattach within " ++ register_text region ++ codes ", " ++
+    label_text continuation
 
 abbrev pub sync_text : List ℕ → List ℕ → List ℕ
 sync_text region target = codes "sync within " ++ register_text region ++ codes ", " ++ label_text target

@@ -30,7 +30,8 @@ function_note_items n =
 unfoldable pub block_note_items : BlockNotes → List Item
 block_note_items n =
     note_items annotation.Keeps n.keeps
-    ++ (note_items annotation.Pending n.pending ++ item.Annotation (annotation.Left n.left) ∷ note_items annotation.Foot n.foot)
+    ++ (note_items annotation.Pending n.pending ++ item.Annotation (annotation.Left n.left) ∷
+    note_items annotation.Foot n.foot)
 
 abbrev pub step_items : Step → List Item
 step_items s = note_items annotation.Shows s.shows ++ item.Instruction s.instruction ∷ []
@@ -47,7 +48,8 @@ unfoldable pub block_items : Block → List Item
 block_items b = item.Label b.label ∷ (block_note_items b.notes ++ body_items b)
 
 unfoldable pub function_items : Function → List Item
-function_items f = item.Define f.name f.result_type f.parameters ∷ (function_note_items f.notes ++ (flat_map block_items f.blocks ++ item.Close ∷ []))
+function_items f = item.Define f.name f.result_type f.parameters ∷
+    (function_note_items f.notes ++ (flat_map block_items f.blocks ++ item.Close ∷ []))
 
 unfoldable pub module_items : Module → List Item
 module_items m = map item.Global m.globals ++ flat_map function_items m.functions

@@ -1,27 +1,6 @@
 -- What a host is told of a run on threads of its own.
-use Rattle.std.specs.Prelude.{
-  ◌≡◌,
-  ◌≢◌,
-  ◌⊎◌,
-  ◌+◌,
-  ◌-◌,
-  ◌^◌,
-  ◌<◌,
-  ◌≤◌,
-  ℕ,
-  ℤ,
-  List,
-  [],
-  length,
-  min,
-  sum,
-  is_some,
-  true,
-  false,
-  Option,
-  Some,
-  None,
-}
+use Rattle.std.specs.Prelude.{◌≡◌, ◌≢◌, ◌⊎◌, ◌+◌, ◌-◌, ◌^◌, ◌<◌, ◌≤◌, ℕ, ℤ, List, [], length, min, sum, is_some, true}
+use Rattle.std.specs.Prelude.{false, Option, Some, None}
 use Rattle.program.specs.declared.function.Program.{Program}
 use Rattle.shared_run.specs.Answer.{IsSerialAnswer, LeadTo}
 use Rattle.shared_run.specs.Story.{Origin, origin}
@@ -29,17 +8,8 @@ use Rattle.store.specs.declared.outcome.Finished.{Finished}
 use Rattle.kernel_calls.specs.Held.{OfHeld, closed}
 use Rattle.kernel_calls.specs.Replayed.{StandsIn, bad_workers, long_schedule, not_ended}
 use Rattle.kernel_calls.specs.Runs.{Run, machine_of}
-use Rattle.kernel_calls.specs.Told.{
-  Shows,
-  bad_arguments,
-  done,
-  memory_from,
-  other_cells,
-  out_of_fuel,
-  out_of_memory,
-  sizes_in,
-  stopped,
-}
+use Rattle.kernel_calls.specs.Told.{Shows, bad_arguments, done, memory_from, other_cells, out_of_fuel, out_of_memory}
+use Rattle.kernel_calls.specs.Told.{sizes_in, stopped}
 use Rattle.schedule_text.specs.ScheduleText.{IsSchedule}
 use Rattle.kernel_calls.specs.Words as words
 use Rattle.kernel_calls.specs.declared.told.Outcome.{Outcome}

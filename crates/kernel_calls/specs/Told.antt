@@ -1,24 +1,6 @@
 -- What a host in C is told, by the statuses of its header.
-use Rattle.std.specs.Prelude.{
-  ◌≡◌,
-  ◌≢◌,
-  ◌⊎◌,
-  ◌==◌,
-  if◌then◌else◌,
-  ℕ,
-  ◌^◌,
-  ◌-◌,
-  ◌≤◌,
-  List,
-  length,
-  map,
-  min,
-  sum,
-  Option,
-  Some,
-  None,
-  ℤ,
-}
+use Rattle.std.specs.Prelude.{◌≡◌, ◌≢◌, ◌⊎◌, ◌==◌, if◌then◌else◌, ℕ, ◌^◌, ◌-◌, ◌≤◌, List, length, map, min, sum, Option}
+use Rattle.std.specs.Prelude.{Some, None, ℤ}
 use Rattle.program.specs.declared.function.Global.{Global}
 use Rattle.program.specs.declared.function.Program.{Program}
 use Rattle.verifier.specs.Accepted.{IsProgramOf, IsRefused}

@@ -37,8 +37,9 @@ pub record KeepsItsPromise (program : Program) (arguments : List ℤ) (memory : 
   -- within the budget and the depth that the verifier answers
   pub within_budget : serial.count ≤ budget_of program
   pub within_depth : (depth : ℕ) → IsDepthOf program depth → serial.depth ≤ depth
-  -- on any number of workers, whatever the events, enabled or not: no step traps, no more instructions are done than serially, living
-  -- frames are at most the workers times the serial depth, and a run that has ended has the serial memory, result and count
+  -- on any number of workers, whatever the events, enabled or not: no step traps, no more instructions are done than
+  -- serially, living frames are at most the workers times the serial depth, and a run that has ended has the serial
+  -- memory, result and count
   pub every_schedule : (workers : ℕ) → 1 ≤ workers → (events : List Event) →
       KeepsSchedule program workers serial (replay program workers events (start program arguments memory))
 

@@ -36,7 +36,8 @@ known None read = read
 abbrev pub held : Footprint → Cell → Option ℤ
 held f x = known (write_at f x) (read_at f x)
 
--- A cell that is not held counts as 0 here: a load of it is not done, and an add asks no more than whether there is a value.
+-- A cell that is not held counts as 0 here: a load of it is not done, and an add asks no more than whether there is a
+-- value.
 abbrev pub memory_of : Footprint → Memory
 memory_of f x = Some (or_zero (held f x))
 

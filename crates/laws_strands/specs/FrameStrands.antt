@@ -1,11 +1,13 @@
 -- Frame strands: what one frame does outside of the machine, and how far it may go.
-use Rattle.std.specs.Prelude.{◌≡◌, ℕ, suc, List, length, Option, Some, None, Bool, true, false, cond, ◌&&◌, nat_le, is_none, is_some, ℤ}
+use Rattle.std.specs.Prelude.{◌≡◌, ℕ, suc, List, length, Option, Some, None, Bool, true, false, cond, ◌&&◌, nat_le}
+use Rattle.std.specs.Prelude.{is_none, is_some, ℤ}
 use Rattle.semantics.specs.Paths.{Path}
 use Rattle.semantics.specs.Cells.{Cell}
 use Rattle.semantics.specs.Frames.{Frame, Item, Does, Ends, item_at, cell_at}
 use Rattle.semantics.specs.Effect.{Effect, Action, Plain, action_of}
 use Rattle.semantics.specs.State.{went}
-use Rattle.laws_strands.specs.Footprint.{Write, Footprint, untouched, write_at, held, memory_of, stored, added_to, with_read}
+use Rattle.laws_strands.specs.Footprint.{Write, Footprint, untouched, write_at, held, memory_of, stored, added_to}
+use Rattle.laws_strands.specs.Footprint.{with_read}
 use Rattle.semantics.specs.program.declared.function.Program.{Program}
 use Rattle.semantics.specs.program.declared.instruction.Instruction.{Instruction}
 use Rattle.semantics.specs.program.declared.instruction.Instruction.TheVariants as instruction
@@ -100,7 +102,8 @@ need f (Adds c) = None
 -- None where it can go on
 abbrev pub pause_at : Footprint → ℕ → Option Item → Access → Option Pause
 pause_at f done next access =
-    cond (is_border next) (Some Border) (cond (nat_le most_done done) (Some Limit) (cond (is_full f access) (Some Full) (need f access)))
+    cond (is_border next) (Some Border)
+    (cond (nat_le most_done done) (Some Limit) (cond (is_full f access) (Some Full) (need f access)))
 
 abbrev pub pause_of : Program → FrameStrand → Option Pause
 pause_of prog s = pause_at s.footprint s.done (next_of prog s.present) (access_of prog s.present)
@@ -128,15 +131,23 @@ abbrev pub footprint_after : Footprint → Access → Effect → Footprint
 footprint_after f a e = record f { writes = writes_after f a e }
 
 abbrev pub advanced : Program → FrameStrand → Effect → FrameStrand
-advanced prog s e = record s { present = went s.present e; done = suc s.done; footprint = footprint_after s.footprint (access_of prog s.present) e }
+advanced prog s e = record s {
+  present = went s.present e;
+  done = suc s.done;
+  footprint =
+      footprint_after s.footprint (access_of prog s.present) e;
+}
 
 -- what the definitions of running have it do next, with what it holds
 abbrev pub next_action : Program → FrameStrand → Action
 next_action prog s = action_of prog s.path s.present (memory_of s.footprint)
 
--- It begins with a loaded frame, is filled with the cells that it needs, and goes on by the definitions' effects on its frame.
+-- It begins with a loaded frame, is filled with the cells that it needs, and goes on by the definitions' effects on its
+-- frame.
 pub data IsFrameStrand (prog : Program) : FrameStrand → Type 0 where
   is_loaded : (p : Path) (f : Frame) → IsFrameStrand prog (loaded p f)
-  is_filled : (s : FrameStrand) (c : Cell) (v : ℤ) → IsFrameStrand prog s → pause_of prog s ≡ Some (Need c) → IsFrameStrand prog (filled s c v)
-  is_advanced : (s : FrameStrand) (e : Effect) → IsFrameStrand prog s → pause_of prog s ≡ None → next_action prog s ≡ Plain e → e.trap ≡ None →
+  is_filled : (s : FrameStrand) (c : Cell) (v : ℤ) → IsFrameStrand prog s → pause_of prog s ≡ Some (Need c) →
+      IsFrameStrand prog (filled s c v)
+  is_advanced : (s : FrameStrand) (e : Effect) → IsFrameStrand prog s → pause_of prog s ≡ None →
+      next_action prog s ≡ Plain e → e.trap ≡ None →
       IsFrameStrand prog (advanced prog s e)

@@ -16,7 +16,8 @@ steps_by w (suc n) = Step w ∷ steps_by w n
 -- the events are enabled, one after another, and lead from m to the machine
 abbrev pub Happen : Program → ℕ → List Event → Machine → Machine → Type 0
 Happen prog workers [] m after = m ≡ after
-Happen prog workers (e ∷ events) m after = (next : Machine) × (event prog workers e m ≡ Some next) × Happen prog workers events next after
+Happen prog workers (e ∷ events) m after = (next : Machine) × (event prog workers e m ≡ Some next) ×
+    Happen prog workers events next after
 
 -- the worker runs the loaded frame at its path, and each cell that was read holds what was read
 pub record Fits (m : Machine) (w : ℕ) (s : FrameStrand) : Type 0 where
@@ -35,7 +36,8 @@ absorbed m s =
       };
     }
 
--- ---- of a machine that never traps, as the schedule theorem says of each machine that a schedule of a checked program leads to
+-- ---- of a machine that never traps, as the schedule theorem says of each machine that a schedule of a checked program
+-- leads to
 
 pub record IsSteps (prog : Program) (workers : ℕ) (m : Machine) (w : ℕ) (s : FrameStrand) : Type 0 where
   pub steps : Happen prog workers (steps_by w s.done) m (absorbed m s)
@@ -44,7 +46,8 @@ pub record IsSteps (prog : Program) (workers : ℕ) (m : Machine) (w : ℕ) (s :
 
 abbrev pub FrameStrandsAreSteps : Type 0
 FrameStrandsAreSteps =
-    (prog : Program) (workers : ℕ) (m : Machine) (w : ℕ) (s : FrameStrand) → IsFrameStrand prog s → Fits m w s → NeverTraps prog workers m →
+    (prog : Program) (workers : ℕ) (m : Machine) (w : ℕ) (s : FrameStrand) → IsFrameStrand prog s → Fits m w s →
+    NeverTraps prog workers m →
     IsSteps prog workers m w s
 
 -- ---- reads that the machine need not hold yet
@@ -56,7 +59,8 @@ ReadsAgree m s = All (λ r. (z : ℤ) → m.core.memory r.0 ≡ Some z → z ≡
 -- then it does hold a number: a machine that never traps loads it
 abbrev pub FrameReadsAreThere : Type 0
 FrameReadsAreThere =
-    (prog : Program) (workers : ℕ) (m : Machine) (w : ℕ) (s : FrameStrand) → IsFrameStrand prog s → m.hands w ≡ Some s.path →
+    (prog : Program) (workers : ℕ) (m : Machine) (w : ℕ) (s : FrameStrand) → IsFrameStrand prog s →
+    m.hands w ≡ Some s.path →
     m.core.frames s.path ≡ Some s.loaded → NeverTraps prog workers m → ReadsAgree m s → Fits m w s
 
 -- ---- of any machine
@@ -69,7 +73,8 @@ pub record HasValues (m : Machine) (s : FrameStrand) : Type 0 where
 
 abbrev pub FrameStrandsAreStepsWhereDefined : Type 0
 FrameStrandsAreStepsWhereDefined =
-    (prog : Program) (workers : ℕ) (m : Machine) (w : ℕ) (s : FrameStrand) → IsFrameStrand prog s → Fits m w s → HasValues m s →
+    (prog : Program) (workers : ℕ) (m : Machine) (w : ℕ) (s : FrameStrand) → IsFrameStrand prog s → Fits m w s →
+    HasValues m s →
     Happen prog workers (steps_by w s.done) m (absorbed m s)
 
 -- ---- with the border's instruction
@@ -83,7 +88,8 @@ pub record IsStepsWithBorder (prog : Program) (workers : ℕ) (m : Machine) (w :
 
 abbrev pub FrameStrandsGoOverBorders : Type 0
 FrameStrandsGoOverBorders =
-    (prog : Program) (workers : ℕ) (m : Machine) (w : ℕ) (s : FrameStrand) → IsFrameStrand prog s → Fits m w s → NeverTraps prog workers m →
+    (prog : Program) (workers : ℕ) (m : Machine) (w : ℕ) (s : FrameStrand) → IsFrameStrand prog s → Fits m w s →
+    NeverTraps prog workers m →
     IsStepsWithBorder prog workers m w s
 
 -- ---- where a schedule leads

@@ -1,6 +1,7 @@
--- The law: no sum that the rules on numbers and zones ask of a program that a text means passes the bounds of a form, whether the rules are kept or broken, and
--- facts show such a sum just where they show it as it stands, over the integers without bounds. So no text is refused for these bounds. Of the rules on costs
--- `Limited` says the same where less than 2^98 is done.
+-- The law: no sum that the rules on numbers and zones ask of a program that a text means passes the bounds of a form,
+-- whether the rules are kept or broken, and facts show such a sum just where they show it as it stands, over the
+-- integers without bounds. So no text is refused for these bounds. Of the rules on costs `Limited` says the same where
+-- less than 2^98 is done.
 use Rattle.std.specs.Prelude.{◌≡◌, ◌↔◌, ℕ, ◌≤◌, ◌^◌, List, [], Some, All, Contains, IsSome, IsTrue, slice_get}
 use Rattle.syntax.specs.declared.operator.Mode.{Mode}
 use Rattle.linear_shown.specs.Shown.{IsShown}
@@ -57,7 +58,8 @@ pub record IsBlockFormed (program : Program) (function : Function) (b : ℕ) (bl
 
 -- ---- zones
 
--- one end of a zone against one of another, by which it is told whether one is empty, covers the other or is apart from it
+-- one end of a zone against one of another, by which it is told whether one is empty, covers the other or is apart from
+-- it
 pub record AreCompared (z y : Span) : Type 0 where
   pub lows : HasForm (between z.moves z.zone.low y.moves y.zone.low)
   pub highs : HasForm (between z.moves z.zone.high y.moves y.zone.high)
@@ -67,14 +69,17 @@ pub record AreCompared (z y : Span) : Type 0 where
 -- ---- all of it
 
 pub record HasFormedSums (program : Program) : Type 0 where
-  pub requirements : (f : ℕ) (function : Function) → slice_get program.functions f ≡ Some function → HaveForms (differences_of [] function.requirements)
+  pub requirements : (f : ℕ) (function : Function) → slice_get program.functions f ≡ Some function →
+      HaveForms (differences_of [] function.requirements)
   pub blocks : (f b : ℕ) (function : Function) (block : Block) → slice_get program.functions f ≡ Some function
       → slice_get function.blocks b ≡ Some block → IsBlockFormed program function b block
 
 pub record SumsHaveForms : Type 0 where
   pub numbers : (program : Program) → IsRead program → HasFormedSums program
   -- the cells that an access touches are a zone of the same kind
-  pub accesses : (line : ℕ) (mode : Mode) (cell : Cell) (count : ℕ) → IsWord cell.index → count ≤ 2 ^ 63 → AreEndsLimited (cells_zone line mode cell count)
+  pub accesses : (line : ℕ) (mode : Mode) (cell : Cell) (count : ℕ) → IsWord cell.index → count ≤ 2 ^ 63 →
+      AreEndsLimited (cells_zone line mode cell count)
   -- one that has a form is shown just where it is shown as it stands
   pub plain : (facts : List Fact) (sum : Sum) → HasForm sum → IsTrue (shows facts sum) ↔ IsShown facts (plain_form sum)
-  pub zones : (z y : Span) → AreEndsLimited z.zone → AreEndsLimited y.zone → AreWords z.moves → AreWords y.moves → AreCompared z y
+  pub zones : (z y : Span) → AreEndsLimited z.zone → AreEndsLimited y.zone → AreWords z.moves → AreWords y.moves →
+      AreCompared z y

@@ -11,8 +11,8 @@ abbrev pub IsWord : Operand → Type 0
 IsWord (Number z) = unsigned_abs z ≤ 2 ^ 63
 IsWord (Register r) = Unit {0}
 
--- Sixteen registers, each a million times, stay below 2^24. A sum of a rule on numbers or zones has the terms of two forms, one of a rule on costs
--- of three, and a form has four terms, each at most a million times a register.
+-- Sixteen registers, each a million times, stay below 2^24. A sum of a rule on numbers or zones has the terms of two
+-- forms, one of a rule on costs of three, and a form has four terms, each at most a million times a register.
 pub record IsModest (sum : Sum) : Type 0 where
   pub factors : sum_by (λ (p : Part). unsigned_abs p.factor) sum.parts < 2 ^ 24
   pub numbers : All (λ (p : Part). IsWord p.operand) sum.parts

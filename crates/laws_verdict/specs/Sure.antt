@@ -14,9 +14,12 @@ use Rattle.verifier.specs.Accepted.{IsAccepted}
 pub record AreReadsSure (function : Function) : Type 0 where
   pub sets : ℕ → Labels
   -- nothing is in a set at the entry, and a set never holds more than each edge gives
-  pub respects : (alloca : ℕ) → AreSets function.blocks (graph_of function).blocks (map given_of (alloca_table function)) alloca (sets alloca)
-  -- where a load, an atomic addition or a call needs an alloca, the block has stored it before, or it is sure when the block begins
-  pub reads : (b k alloca line : ℕ) (block : BlockActs) → slice_get (alloca_table function) b ≡ Some block → slice_get block.acts k ≡ Some (Needs alloca line)
+  pub respects : (alloca : ℕ) →
+      AreSets function.blocks (graph_of function).blocks (map given_of (alloca_table function)) alloca (sets alloca)
+  -- where a load, an atomic addition or a call needs an alloca, the block has stored it before, or it is sure when the
+  -- block begins
+  pub reads : (b k alloca line : ℕ) (block : BlockActs) → slice_get (alloca_table function) b ≡ Some block →
+      slice_get block.acts k ≡ Some (Needs alloca line)
       → Contains (gives (take k block.acts)) alloca ⊎ (sets alloca None b ≡ true)
 
 abbrev pub ReadsAreSure : Type 0

@@ -1,4 +1,5 @@
--- The law: in a program that a text means each form of an annotation is limited, and each number that stands in a form's place is one of 64 bits.
+-- The law: in a program that a text means each form of an annotation is limited, and each number that stands in a
+-- form's place is one of 64 bits.
 use Rattle.std.specs.Prelude.{ℕ, ◌≤◌, ◌^◌, List, Option, Some, None, Ok, All, unsigned_abs}
 use Rattle.syntax.specs.declared.module.Module.{Module}
 use Rattle.ir_reader.specs.Reading.{Answers}

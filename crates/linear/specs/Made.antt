@@ -1,5 +1,6 @@
 -- How forms are made.
-use Rattle.std.specs.Prelude.{◌≡◌, ℕ, ◌<◌, ◌^◌, ℤ, pos, ◌+ℤ◌, ◌==◌, Bool, nat_lt, List, [], ◌∷◌, unsigned_abs, Option, Some, None, slice_get}
+use Rattle.std.specs.Prelude.{◌≡◌, ℕ, ◌<◌, ◌^◌, ℤ, pos, ◌+ℤ◌, ◌==◌, Bool, nat_lt, List, [], ◌∷◌, unsigned_abs, Option}
+use Rattle.std.specs.Prelude.{Some, None, slice_get}
 use Rattle.std.specs.Prelude.{slice_set, insert, if◌then◌else◌}
 use Rattle.std.specs.List.{prefix_len}
 use Rattle.linear.specs.declared.form.RegisterId.{RegisterId}
@@ -8,7 +9,10 @@ use Rattle.linear.specs.Forms.{Combination, coefficient_of, IsRising, AreSmall}
 
 -- a register times a number
 abbrev pub term_form : RegisterId → ℤ → Combination
-term_form register coefficient = record { terms = record { register = register; coefficient = coefficient } ∷ []; constant = pos 0 }
+term_form register coefficient = record {
+  terms = record { register = register; coefficient = coefficient } ∷ [];
+  constant = pos 0;
+}
 
 -- each coefficient and the constant are within the bounds of a form
 pub record IsBounded (f : Combination) : Type 0 where
@@ -40,14 +44,23 @@ is_bounded z = nat_lt (unsigned_abs z) 16777216
 -- the term of a register at its place, in front of the terms of greater registers
 abbrev pub placed_at : List Term → ℕ → RegisterId → ℤ → Option ℤ → Option (List Term)
 placed_at ts place register amount None =
-    if is_bounded (pos 0 +ℤ amount) then Some (insert ts place (record { register = register; coefficient = pos 0 +ℤ amount })) else None
+    if is_bounded (pos 0 +ℤ amount) then Some (insert ts place (record {
+      register = register;
+      coefficient =
+          pos 0 +ℤ amount;
+    })) else None
 placed_at ts place register amount (Some c) =
-    if is_bounded (c +ℤ amount) then Some (slice_set ts place (record { register = register; coefficient = c +ℤ amount })) else None
+    if is_bounded (c +ℤ amount) then Some (slice_set ts place (record {
+      register = register;
+      coefficient =
+          c +ℤ amount;
+    })) else None
 
 -- the terms with a register times a number, unless its coefficient would pass the bounds
 unfoldable pub placed : List Term → RegisterId → ℤ → Option (List Term)
 placed ts register amount =
-    placed_at ts (prefix_len (is_below register.0) ts) register amount (coefficient_at ts (prefix_len (is_below register.0) ts) register.0)
+    placed_at ts (prefix_len (is_below register.0) ts) register amount
+    (coefficient_at ts (prefix_len (is_below register.0) ts) register.0)
 
 abbrev pub with_terms : ℤ → Option (List Term) → Option Combination
 with_terms constant None = None

@@ -1,5 +1,6 @@
 -- Facts by the values of their terms: of those with the same coefficients the strongest alone is kept.
-use Rattle.std.specs.Prelude.{◌≡◌, ℕ, suc, ◌<◌, ◌≤◌, ◌+◌, ◌*◌, ◌%◌, ◌^◌, ℤ, pos, negsuc, ◌+ℤ◌, ◌*ℤ◌, ◌≤ℤ◌, ◌⊎◌, Bool, true, List, [], ◌++◌, length, take, All, Contains, slice_index_or, unsigned_abs}
+use Rattle.std.specs.Prelude.{◌≡◌, ℕ, suc, ◌<◌, ◌≤◌, ◌+◌, ◌*◌, ◌%◌, ◌^◌, ℤ, pos, negsuc, ◌+ℤ◌, ◌*ℤ◌, ◌≤ℤ◌, ◌⊎◌, Bool}
+use Rattle.std.specs.Prelude.{true, List, [], ◌++◌, length, take, All, Contains, slice_index_or, unsigned_abs}
 use Rattle.std.specs.List.Sorted.{IsNonDecreasingBy}
 use Rattle.linear.specs.declared.form.Term.{Term}
 use Rattle.linear.specs.declared.form.Fact.{Fact}
@@ -47,7 +48,8 @@ pub record IsAsStrong (f g : Combination) : Type 0 where
 
 -- some entry is as strong as what stands at the place
 abbrev pub IsIndexed : List Fact → List Entry → ℕ → Type 0
-IsIndexed facts entries place = (entry : Entry) × Contains entries entry × IsAsStrong (place_at facts entry.place) (place_at facts place)
+IsIndexed facts entries place = (entry : Entry) × Contains entries entry ×
+    IsAsStrong (place_at facts entry.place) (place_at facts place)
 
 -- entries by rising keys
 pub record AreEntries (facts : List Fact) (entries : List Entry) : Type 0 where
@@ -66,7 +68,8 @@ pub record HasPlaces (facts : List Fact) (from upto : ℕ) (entries : List Entry
   pub own : All (IsEntry facts) entries
   pub each : (place : ℕ) → from ≤ place → place < upto → (e : Entry) × Contains entries e × (e.place ≡ place)
 
--- entries that are merged with fresh ones: these are in, and so is each of the others that is not among the rest, which all come after
+-- entries that are merged with fresh ones: these are in, and so is each of the others that is not among the rest, which
+-- all come after
 pub record IsMerging (facts : List Fact) (entries fresh rest merged : List Entry) : Type 0 where
   pub waiting : AreEntries facts rest
   pub in_order : AreEntries facts merged
@@ -91,7 +94,8 @@ IsContradiction f g = IsSum (constant_form (negsuc 0)) 1 f 1 g
 
 -- no two of the first places contradict each other
 abbrev pub AreConsistent : List Fact → ℕ → Type 0
-AreConsistent facts count = (p q : ℕ) → p < count → q < count → IsContradiction (place_at facts p) (place_at facts q) → ⊥
+AreConsistent facts count = (p q : ℕ) → p < count → q < count → IsContradiction (place_at facts p) (place_at facts q) →
+    ⊥
 
 -- an index of the first places, which more may join, and whether these are known to be consistent
 pub record IsBegun (facts : List Fact) (count : ℕ) (settled recent : List Entry) (is_consistent : Bool) : Type 0 where
@@ -110,11 +114,13 @@ abbrev pub IsMadeUp : List Fact → Combination → Combination → ℕ → ℕ 
 IsMadeUp facts e f a b = (g : Combination) × Contains (sides facts) g × IsSum e a f b g
 
 abbrev pub IsMadeUpWith : List Fact → Combination → List Entry → ℕ → ℕ → Type 0
-IsMadeUpWith facts e entries a b = (first : Entry) × Contains entries first × IsMadeUp facts e (place_at facts first.place) a b
+IsMadeUpWith facts e entries a b = (first : Entry) × Contains entries first ×
+    IsMadeUp facts e (place_at facts first.place) a b
 
 -- the same with the second fact among entries, too
 abbrev pub IsMadeUpBetween : List Fact → Combination → List Entry → List Entry → ℕ → ℕ → Type 0
-IsMadeUpBetween facts e firsts seconds a b = (first : Entry) × Contains firsts first × (second : Entry) × Contains seconds second
+IsMadeUpBetween facts e firsts seconds a b = (first : Entry) × Contains firsts first × (second : Entry) ×
+    Contains seconds second
     × IsSum e a (place_at facts first.place) b (place_at facts second.place)
 
 abbrev pub IsMadeUpByB : List Fact → Combination → List Entry → ℕ → Type 0
@@ -137,7 +143,8 @@ pub record AreInOrder (entries : List Entry) : Type 0 where
 
 -- the keys of two, the first one a times and the second one b times, come to a total
 abbrev pub Meet : List Entry → List Entry → ℕ → ℕ → ℕ → ℕ → ℕ → Type 0
-Meet firsts seconds a b total i k = (d : Entry) → a * (slice_index_or firsts i d).key + b * (slice_index_or seconds k d).key ≡ total
+Meet firsts seconds a b total i k = (d : Entry) →
+    a * (slice_index_or firsts i d).key + b * (slice_index_or seconds k d).key ≡ total
 
 -- constants, a times the first one and b times the second one, come to no more than a bound
 abbrev pub Serve : List Entry → List Entry → ℕ → ℕ → ℤ → ℕ → ℕ → Type 0

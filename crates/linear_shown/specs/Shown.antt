@@ -1,11 +1,12 @@
--- What facts show: e = a * f + b * g + c for two facts f and g, of which either may be absent, a constant c that is not below 0, and
--- factors a and b that are 1 or the size of one of e's coefficients.
+-- What facts show: e = a * f + b * g + c for two facts f and g, of which either may be absent, a constant c that is not
+-- below 0, and factors a and b that are 1 or the size of one of e's coefficients.
 use Rattle.std.specs.Prelude.{◌≡◌, ℕ, ◌⊎◌, ℤ, pos, ◌+ℤ◌, ◌*ℤ◌, ◌≤ℤ◌, List, ◌∷◌, map, All, Contains, unsigned_abs}
 use Rattle.linear.specs.declared.form.Fact.{Fact}
 use Rattle.linear.specs.Forms.{Combination, coefficient_of, constant_form, Same, Holds}
 
 pub record IsSum (e : Combination) (a : ℕ) (f : Combination) (b : ℕ) (g : Combination) : Type 0 where
-  pub terms : (r : ℕ) → coefficient_of e.terms r ≡ (pos a *ℤ coefficient_of f.terms r) +ℤ (pos b *ℤ coefficient_of g.terms r)
+  pub terms : (r : ℕ) →
+      coefficient_of e.terms r ≡ (pos a *ℤ coefficient_of f.terms r) +ℤ (pos b *ℤ coefficient_of g.terms r)
   pub constant : ((pos a *ℤ f.constant) +ℤ (pos b *ℤ g.constant)) ≤ℤ e.constant
 
 abbrev pub IsFactor : Combination → ℕ → Type 0

@@ -9,7 +9,8 @@ use Rattle.linear_shown.specs.Shown.{sides}
 
 -- e and a * f + b * g have one coefficient at the register
 abbrev pub agrees : Combination → ℕ → Combination → ℕ → Combination → ℕ → Bool
-agrees e a f b g r = int_eq (coefficient_of e.terms r) ((pos a *ℤ coefficient_of f.terms r) +ℤ (pos b *ℤ coefficient_of g.terms r))
+agrees e a f b g r = int_eq (coefficient_of e.terms r)
+    ((pos a *ℤ coefficient_of f.terms r) +ℤ (pos b *ℤ coefficient_of g.terms r))
 
 -- at each register that some of the terms name
 abbrev pub agree_along : List Term → Combination → ℕ → Combination → ℕ → Combination → Bool

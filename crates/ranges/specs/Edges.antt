@@ -1,10 +1,13 @@
 -- Edges with what is known on them, and what they owe their targets.
-use Rattle.std.specs.Prelude.{ℕ, ◌==◌, if◌then◌else◌, ℤ, pos, negsuc, ◌*ℤ◌, Bool, true, false, List, [], ◌∷◌, ◌++◌, map, Option, Some, None, slice_get}
+use Rattle.std.specs.Prelude.{ℕ, ◌==◌, if◌then◌else◌, ℤ, pos, negsuc, ◌*ℤ◌, Bool, true, false, List, [], ◌∷◌, ◌++◌, map}
+use Rattle.std.specs.Prelude.{Option, Some, None, slice_get}
 use Rattle.linear.specs.declared.form.RegisterId.{RegisterId}
 use Rattle.linear.specs.declared.form.Fact.{Fact}
 use Rattle.program.specs.syntax.declared.operator.Predicate.{Predicate}
-use Rattle.program.specs.syntax.declared.operator.Predicate.TheVariants.{Equal, NotEqual, UnsignedGreater, UnsignedAtLeast, UnsignedLess, UnsignedAtMost}
-use Rattle.program.specs.syntax.declared.operator.Predicate.TheVariants.{SignedGreater, SignedAtLeast, SignedLess, SignedAtMost}
+use Rattle.program.specs.syntax.declared.operator.Predicate.TheVariants.{Equal, NotEqual, UnsignedGreater}
+use Rattle.program.specs.syntax.declared.operator.Predicate.TheVariants.{UnsignedAtLeast, UnsignedLess, UnsignedAtMost}
+use Rattle.program.specs.syntax.declared.operator.Predicate.TheVariants.{SignedGreater, SignedAtLeast, SignedLess}
+use Rattle.program.specs.syntax.declared.operator.Predicate.TheVariants.{SignedAtMost}
 use Rattle.program.specs.Blocks.{block_phis}
 use Rattle.program.specs.declared.annotation.Inequality.{Inequality}
 use Rattle.program.specs.declared.identifier.BlockId.{BlockId}
@@ -33,7 +36,8 @@ use Rattle.ranges_owed.specs.Owed.{inequalities_owed}
 
 abbrev pub compare_of : RegisterId → Instruction → Option Comparison
 compare_of r (instruction.Binary d operator width x y) = None
-compare_of r (instruction.Compare d predicate width x y) = if d.0 == r.0 then Some (record { predicate = predicate; left = x; right = y }) else None
+compare_of r (instruction.Compare d predicate width x y) =
+    if d.0 == r.0 then Some (record { predicate = predicate; left = x; right = y }) else None
 compare_of r (instruction.Convert d conversion x) = None
 compare_of r (instruction.Alloca d alloca) = None
 compare_of r (instruction.ElementPointer d object index) = None
@@ -83,7 +87,8 @@ branch_sums (Some c) holds = compare_sums c.predicate holds c.left c.right
 -- the register equals the case's number
 abbrev pub case_sums : Operand → ℤ → List Sum
 case_sums (Number z) number = []
-case_sums (Register r) number = one (negsuc 0 *ℤ number) (pos 1) (Register r) ∷ (one number (negsuc 0) (Register r) ∷ [])
+case_sums (Register r) number = one (negsuc 0 *ℤ number) (pos 1) (Register r) ∷ (one number (negsuc 0) (Register r) ∷
+    [])
 
 abbrev pub edge_to : BlockId → Way → List Sum → EdgeSums
 edge_to to way sums = record { to = to; way = way; sums = sums }
@@ -92,10 +97,13 @@ edge_to to way sums = record { to = to; way = way; sums = sums }
 abbrev pub edges_out : List Step → Terminator → List EdgeSums
 edges_out steps (terminator.Jump target) = edge_to target Branch [] ∷ []
 edges_out steps (terminator.Branch condition when_true when_false) =
-    edge_to when_true Branch (branch_sums (compared condition steps) true) ∷ (edge_to when_false Branch (branch_sums (compared condition steps) false) ∷ [])
-edges_out steps (terminator.Switch width value default cases) = edge_to default Branch [] ∷ map (λ c. edge_to c.target Branch (case_sums value c.number)) cases
+    edge_to when_true Branch (branch_sums (compared condition steps) true) ∷
+    (edge_to when_false Branch (branch_sums (compared condition steps) false) ∷ [])
+edges_out steps (terminator.Switch width value default cases) = edge_to default Branch [] ∷
+    map (λ c. edge_to c.target Branch (case_sums value c.number)) cases
 edges_out steps (terminator.Return value) = []
-edges_out steps (terminator.Detach region body continuation) = edge_to body Detached [] ∷ (edge_to continuation Continued [] ∷ [])
+edges_out steps (terminator.Detach region body continuation) = edge_to body Detached [] ∷
+    (edge_to continuation Continued [] ∷ [])
 edges_out steps (terminator.Reattach region continuation) = []
 edges_out steps (terminator.Sync region target) = edge_to target (Synced region) [] ∷ []
 
@@ -108,12 +116,19 @@ keeps_of (Some block) = block.keeps
 -- an edge from a block where this is known at its end: what its target's phis take, and what is known on it
 abbrev pub edge_facts : List Block → ℕ → List Fact → EdgeSums → EdgeFacts
 edge_facts blocks from known e =
-    record { to = e.to; way = e.way; moves = moves_from from (block_phis (slice_get blocks e.to.0)); facts = known ++ facts_of e.sums }
+    record {
+      to = e.to;
+      way = e.way;
+      moves = moves_from from (block_phis (slice_get blocks e.to.0));
+      facts = known ++
+          facts_of e.sums;
+    }
 
 abbrev pub all_edge_facts : List Block → ℕ → List Fact → List EdgeSums → List EdgeFacts
 all_edge_facts blocks from known edges = map (edge_facts blocks from known) edges
 
--- an edge that has only what its being taken says, with all that is known on it, where this is known at the end of its block
+-- an edge that has only what its being taken says, with all that is known on it, where this is known at the end of its
+-- block
 abbrev pub with_known : List Fact → EdgeFacts → EdgeFacts
 with_known known e = record { to = e.to; way = e.way; moves = e.moves; facts = known ++ e.facts }
 

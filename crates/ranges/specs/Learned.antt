@@ -1,11 +1,16 @@
 -- What an instruction makes known: sums that are at least 0 once it is done.
-use Rattle.std.specs.Prelude.{ℤ, pos, negsuc, ◌-ℤ◌, ◌*ℤ◌, int_le, Bool, ◌&&◌, List, [], ◌∷◌, ◌++◌, Option, Some, None, slice_get, if◌then◌else◌}
+use Rattle.std.specs.Prelude.{ℤ, pos, negsuc, ◌-ℤ◌, ◌*ℤ◌, int_le, Bool, ◌&&◌, List, [], ◌∷◌, ◌++◌, Option, Some, None}
+use Rattle.std.specs.Prelude.{slice_get, if◌then◌else◌}
 use Rattle.linear.specs.declared.form.RegisterId.{RegisterId}
 use Rattle.linear.specs.declared.form.Fact.{Fact}
 use Rattle.program.specs.syntax.declared.operator.BinaryOperator.{BinaryOperator}
-use Rattle.program.specs.syntax.declared.operator.BinaryOperator.TheVariants.{Add, Subtract, Multiply, AddNoWrap, SubtractNoWrap, MultiplyNoWrap}
-use Rattle.program.specs.syntax.declared.operator.BinaryOperator.TheVariants.{SignedDivide, UnsignedDivide, SignedRemainder, UnsignedRemainder, ShiftLeft}
-use Rattle.program.specs.syntax.declared.operator.BinaryOperator.TheVariants.{LogicalShiftRight, ArithmeticShiftRight, And, Or, ExclusiveOr}
+use Rattle.program.specs.syntax.declared.operator.BinaryOperator.TheVariants.{Add, Subtract, Multiply, AddNoWrap}
+use Rattle.program.specs.syntax.declared.operator.BinaryOperator.TheVariants.{SubtractNoWrap, MultiplyNoWrap}
+use Rattle.program.specs.syntax.declared.operator.BinaryOperator.TheVariants.{SignedDivide, UnsignedDivide}
+use Rattle.program.specs.syntax.declared.operator.BinaryOperator.TheVariants.{SignedRemainder, UnsignedRemainder}
+use Rattle.program.specs.syntax.declared.operator.BinaryOperator.TheVariants.{ShiftLeft}
+use Rattle.program.specs.syntax.declared.operator.BinaryOperator.TheVariants.{LogicalShiftRight, ArithmeticShiftRight}
+use Rattle.program.specs.syntax.declared.operator.BinaryOperator.TheVariants.{And, Or, ExclusiveOr}
 use Rattle.program.specs.syntax.declared.operator.Conversion.{Conversion}
 use Rattle.program.specs.syntax.declared.operator.Conversion.TheVariants.{Truncate, SignExtend, ZeroExtend}
 use Rattle.program.specs.declared.instruction.Argument.{Argument}
@@ -35,7 +40,8 @@ is_between least greatest d = one (negsuc 0 *ℤ least) (pos 1) d ∷ (one great
 
 -- c * d <= x, x <= c * d + c - 1, d >= 0
 abbrev pub is_quotient : Operand → Operand → ℤ → List Sum
-is_quotient d x c = two (pos 0) (pos 1) x (negsuc 0 *ℤ c) d ∷ (two (c -ℤ pos 1) c d (negsuc 0) x ∷ (one (pos 0) (pos 1) d ∷ []))
+is_quotient d x c = two (pos 0) (pos 1) x (negsuc 0 *ℤ c) d ∷ (two (c -ℤ pos 1) c d (negsuc 0) x ∷
+    (one (pos 0) (pos 1) d ∷ []))
 
 -- a number to divide by, of an operand that is not below 0
 abbrev pub is_divisor : List Fact → Operand → ℤ → Bool
@@ -57,8 +63,10 @@ abbrev pub binary_sums : List Fact → BinaryOperator → Operand → Operand �
 binary_sums known Add d x y = []
 binary_sums known Subtract d x y = []
 binary_sums known Multiply d x y = []
-binary_sums known AddNoWrap d x y = three (pos 0) (pos 1) d (negsuc 0) x (negsuc 0) y ∷ (three (pos 0) (negsuc 0) d (pos 1) x (pos 1) y ∷ [])
-binary_sums known SubtractNoWrap d x y = three (pos 0) (pos 1) d (negsuc 0) x (pos 1) y ∷ (three (pos 0) (negsuc 0) d (pos 1) x (negsuc 0) y ∷ [])
+binary_sums known AddNoWrap d x y = three (pos 0) (pos 1) d (negsuc 0) x (negsuc 0) y ∷
+    (three (pos 0) (negsuc 0) d (pos 1) x (pos 1) y ∷ [])
+binary_sums known SubtractNoWrap d x y = three (pos 0) (pos 1) d (negsuc 0) x (pos 1) y ∷
+    (three (pos 0) (negsuc 0) d (pos 1) x (negsuc 0) y ∷ [])
 binary_sums known MultiplyNoWrap d x y = is_product d (scale_of x y)
 binary_sums known SignedDivide d x y = quotient_by known d x y
 binary_sums known UnsignedDivide d x y = []
@@ -77,8 +85,10 @@ is_32_bits known x = shows known (one (pos 2147483648) (pos 1) x) && shows known
 
 abbrev pub conversion_sums : List Fact → Conversion → Operand → Operand → List Sum
 conversion_sums known SignExtend d x = is_between (negsuc 2147483647) (pos 2147483647) d ++ is_multiple d (pos 1) x
-conversion_sums known Truncate d x = is_between (negsuc 2147483647) (pos 2147483647) d ++ (if is_32_bits known x then is_multiple d (pos 1) x else [])
-conversion_sums known ZeroExtend d x = is_between (pos 0) (pos 4294967295) d ++ (if shows known (one (pos 0) (pos 1) x) then is_multiple d (pos 1) x else [])
+conversion_sums known Truncate d x = is_between (negsuc 2147483647) (pos 2147483647) d ++
+    (if is_32_bits known x then is_multiple d (pos 1) x else [])
+conversion_sums known ZeroExtend d x = is_between (pos 0) (pos 4294967295) d ++
+    (if shows known (one (pos 0) (pos 1) x) then is_multiple d (pos 1) x else [])
 
 -- the callee's `ensures`, with the arguments and the result's register put in
 abbrev pub call_sums : Option Function → List Argument → Option RegisterId → List Sum

@@ -1,5 +1,6 @@
 -- What is known at each place: one fold over the steps of a block.
-use Rattle.std.specs.Prelude.{◌≡◌, ℕ, zero, suc, List, [], ◌∷◌, ◌++◌, length, take, Option, Some, None, slice_get, slice_index_or}
+use Rattle.std.specs.Prelude.{◌≡◌, ℕ, zero, suc, List, [], ◌∷◌, ◌++◌, length, take, Option, Some, None, slice_get}
+use Rattle.std.specs.Prelude.{slice_index_or}
 use Rattle.linear.specs.declared.form.Fact.{Fact}
 use Rattle.program.specs.declared.annotation.Inequality.{Inequality}
 use Rattle.program.specs.declared.instruction.Ending.{Ending}
@@ -31,7 +32,8 @@ with_shows known shows = known ++ stated shows
 
 -- behind a step
 abbrev pub after_step : List Function → List Fact → Step → List Fact
-after_step functions known step = with_shows known step.shows ++ facts_of (learned functions (with_shows known step.shows) step.instruction)
+after_step functions known step = with_shows known step.shows ++
+    facts_of (learned functions (with_shows known step.shows) step.instruction)
 
 -- before the `shows` lines of the step of this number; behind all steps where there are fewer
 abbrev pub facts_before : List Function → List Fact → List Step → ℕ → List Fact
@@ -50,12 +52,14 @@ ending_shows (Some ending) = ending.shows
 -- at the step of this number of a block of this number
 abbrev pub facts_at_step : List Function → Function → ℕ → Block → ℕ → List Fact
 facts_at_step functions function b block i =
-    with_shows (facts_before functions (start_facts function b block) block.steps i) (step_shows (slice_get block.steps i))
+    with_shows (facts_before functions (start_facts function b block) block.steps i)
+    (step_shows (slice_get block.steps i))
 
 -- at the terminator
 abbrev pub facts_at_end : List Function → Function → ℕ → Block → List Fact
 facts_at_end functions function b block =
-    with_shows (facts_before functions (start_facts function b block) block.steps (length block.steps)) (ending_shows block.ending)
+    with_shows (facts_before functions (start_facts function b block) block.steps (length block.steps))
+    (ending_shows block.ending)
 
 -- the facts of each edge at the end of a block, in the order of its terminator
 abbrev pub edges_known : List Function → Function → ℕ → Block → Option Ending → List EdgeFacts
@@ -74,15 +78,18 @@ abbrev pub edges_in_table : BlockFacts → List EdgeFacts
 edges_in_table table = all_with_known table.facts table.edges
 
 -- the facts of a block's places and edges
-pub record IsBlockTable (functions : List Function) (function : Function) (b : ℕ) (block : Block) (table : BlockFacts) : Type 0 where
+pub record IsBlockTable (functions : List Function) (function : Function) (b : ℕ) (block : Block)
+    (table : BlockFacts) : Type 0 where
   pub steps : length table.counts ≡ length block.steps
-  pub at_step : (i : ℕ) (step : Step) → slice_get block.steps i ≡ Some step → facts_in_table table i ≡ facts_at_step functions function b block i
+  pub at_step : (i : ℕ) (step : Step) → slice_get block.steps i ≡ Some step →
+      facts_in_table table i ≡ facts_at_step functions function b block i
   pub at_end : table.facts ≡ facts_at_end functions function b block
   pub edges : edges_in_table table ≡ edges_known functions function b block block.ending
 
 pub record IsFunctionTable (functions : List Function) (function : Function) (table : FunctionFacts) : Type 0 where
   pub blocks : length table.blocks ≡ length function.blocks
-  pub each : (b : ℕ) (block : Block) (facts : BlockFacts) → slice_get function.blocks b ≡ Some block → slice_get table.blocks b ≡ Some facts
+  pub each : (b : ℕ) (block : Block) (facts : BlockFacts) → slice_get function.blocks b ≡ Some block →
+      slice_get table.blocks b ≡ Some facts
       → IsBlockTable functions function b block facts
 
 -- the facts of a program's places and edges

@@ -1,5 +1,6 @@
 -- The forms that sums make, and what facts show of them.
-use Rattle.std.specs.Prelude.{ℤ, ◌*ℤ◌, Bool, false, nat_lt, List, [], ◌∷◌, Option, Some, None, unsigned_abs, if◌then◌else◌}
+use Rattle.std.specs.Prelude.{ℤ, ◌*ℤ◌, Bool, false, nat_lt, List, [], ◌∷◌, Option, Some, None, unsigned_abs}
+use Rattle.std.specs.Prelude.{if◌then◌else◌}
 use Rattle.std.specs.List.{flat_map, list_any}
 use Rattle.std.specs.Option.{option_map, option_to_list}
 use Rattle.linear.specs.declared.form.Fact.{Fact}
@@ -25,7 +26,8 @@ with_parts (p ∷ ps) None = None
 with_parts (p ∷ ps) (Some f) = with_parts ps (with_operand f p.factor p.operand)
 
 abbrev pub start_of : ℤ → Option Combination
-start_of constant = if nat_lt (unsigned_abs constant) 1267650600228229401496703205376 then Some (constant_form constant) else None
+start_of constant = if nat_lt (unsigned_abs constant) 1267650600228229401496703205376 then Some
+    (constant_form constant) else None
 
 -- the form of a sum, its parts added one by one, unless a number of it would pass the bounds of a form
 unfoldable pub sum_form : Sum → Option Combination

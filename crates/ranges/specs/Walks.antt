@@ -1,5 +1,6 @@
 -- For the functions of this crate and their loops alone: a walk over a block.
-use Rattle.std.specs.Prelude.{◌≡◌, ◌⊎◌, ℕ, ◌≤◌, List, [], ◌<◌, length, take, Option, Some, None, Any, slice_get, slice_index_or}
+use Rattle.std.specs.Prelude.{◌≡◌, ◌⊎◌, ℕ, ◌≤◌, List, [], ◌<◌, length, take, Option, Some, None, Any, slice_get}
+use Rattle.std.specs.Prelude.{slice_index_or}
 use Rattle.linear.specs.declared.form.Fact.{Fact}
 use Rattle.program.specs.declared.instruction.Ending.{Ending}
 use Rattle.program.specs.declared.instruction.Step.{Step}
@@ -13,7 +14,8 @@ use Rattle.ranges.specs.Places.{with_shows, facts_before}
 use Rattle.ranges.specs.Rules.{AreUnmet, AreUnshown}
 
 -- the facts behind the first steps, and how many of them are known at each
-pub record IsWalkedTo (functions : List Function) (before : List Fact) (steps : List Step) (n : ℕ) (counts : List ℕ) (facts : List Fact) : Type 0 where
+pub record IsWalkedTo (functions : List Function) (before : List Fact) (steps : List Step) (n : ℕ) (counts : List ℕ)
+    (facts : List Fact) : Type 0 where
   pub size : length counts ≡ n
   pub facts_are : facts ≡ facts_before functions before steps n
   pub within : (i : ℕ) (step : Step) → i < n → slice_get steps i ≡ Some step → slice_index_or counts i 0 ≤ length facts
@@ -26,7 +28,8 @@ IsWalked functions before steps counts facts = IsWalkedTo functions before steps
 
 abbrev pub edges_behind : Function → ℕ → Block → List Fact → Option Ending → List EdgeFacts
 edges_behind function b block known None = []
-edges_behind function b block known (Some ending) = all_edge_facts function.blocks b known (edges_out block.steps ending.terminator)
+edges_behind function b block known (Some ending) =
+    all_edge_facts function.blocks b known (edges_out block.steps ending.terminator)
 
 abbrev pub IsEndUnmetAt : Function → List Fact → List EdgeFacts → Option Ending → Broken → Type 0
 IsEndUnmetAt function before edges None broken = ⊥

@@ -1,5 +1,6 @@
 -- Inequalities with operands put in for registers.
-use Rattle.std.specs.Prelude.{ℕ, suc, ◌==◌, if◌then◌else◌, ℤ, pos, negsuc, ◌-ℤ◌, ◌*ℤ◌, List, [], ◌∷◌, ◌++◌, length, map, Option, Some, None}
+use Rattle.std.specs.Prelude.{ℕ, suc, ◌==◌, if◌then◌else◌, ℤ, pos, negsuc, ◌-ℤ◌, ◌*ℤ◌, List, [], ◌∷◌, ◌++◌, length, map}
+use Rattle.std.specs.Prelude.{Option, Some, None}
 use Rattle.linear.specs.declared.form.RegisterId.{RegisterId}
 use Rattle.linear.specs.declared.form.Term.{Term}
 use Rattle.program.specs.declared.annotation.Inequality.{Inequality}
@@ -26,7 +27,11 @@ parts_of moves sign terms = map (part_of moves sign) terms
 -- high - low, with the moves' operands put in: it is at least 0 where the inequality holds
 abbrev pub difference_of : List Move → Inequality → Sum
 difference_of moves q =
-    record { constant = q.high.constant -ℤ q.low.constant; parts = parts_of moves (pos 1) q.high.terms ++ parts_of moves (negsuc 0) q.low.terms }
+    record {
+      constant = q.high.constant -ℤ q.low.constant;
+      parts = parts_of moves (pos 1) q.high.terms ++
+          parts_of moves (negsuc 0) q.low.terms;
+    }
 
 abbrev pub differences_of : List Move → List Inequality → List Sum
 differences_of moves qs = map (difference_of moves) qs
@@ -41,7 +46,8 @@ argument_operand (argument.Object name) = Number (pos 0)
 -- the arguments for the parameters from this one on
 abbrev pub argument_moves : ℕ → List Argument → List Move
 argument_moves n [] = []
-argument_moves n (a ∷ arguments) = record { register = record { 0 = n }; value = argument_operand a } ∷ argument_moves (suc n) arguments
+argument_moves n (a ∷ arguments) = record { register = record { 0 = n }; value = argument_operand a } ∷
+    argument_moves (suc n) arguments
 
 -- the register that stands for a function's result in its `ensures`
 abbrev pub result_of : Function → RegisterId

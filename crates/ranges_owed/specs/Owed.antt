@@ -1,9 +1,13 @@
 -- What the facts at an instruction must show, so that it does not trap and its callee's conditions hold.
 use Rattle.std.specs.Prelude.{ℕ, ℤ, pos, negsuc, ◌-ℤ◌, ◌*ℤ◌, List, [], ◌∷◌, map, Option, Some, None, slice_get}
 use Rattle.program.specs.syntax.declared.operator.BinaryOperator.{BinaryOperator}
-use Rattle.program.specs.syntax.declared.operator.BinaryOperator.TheVariants.{Add, Subtract, Multiply, AddNoWrap, SubtractNoWrap, MultiplyNoWrap}
-use Rattle.program.specs.syntax.declared.operator.BinaryOperator.TheVariants.{SignedDivide, UnsignedDivide, SignedRemainder, UnsignedRemainder, ShiftLeft}
-use Rattle.program.specs.syntax.declared.operator.BinaryOperator.TheVariants.{LogicalShiftRight, ArithmeticShiftRight, And, Or, ExclusiveOr}
+use Rattle.program.specs.syntax.declared.operator.BinaryOperator.TheVariants.{Add, Subtract, Multiply, AddNoWrap}
+use Rattle.program.specs.syntax.declared.operator.BinaryOperator.TheVariants.{SubtractNoWrap, MultiplyNoWrap}
+use Rattle.program.specs.syntax.declared.operator.BinaryOperator.TheVariants.{SignedDivide, UnsignedDivide}
+use Rattle.program.specs.syntax.declared.operator.BinaryOperator.TheVariants.{SignedRemainder, UnsignedRemainder}
+use Rattle.program.specs.syntax.declared.operator.BinaryOperator.TheVariants.{ShiftLeft}
+use Rattle.program.specs.syntax.declared.operator.BinaryOperator.TheVariants.{LogicalShiftRight, ArithmeticShiftRight}
+use Rattle.program.specs.syntax.declared.operator.BinaryOperator.TheVariants.{And, Or, ExclusiveOr}
 use Rattle.program.specs.syntax.declared.operator.Width.{Width}
 use Rattle.program.specs.syntax.declared.operator.Width.TheVariants.{Bits64, Bits32}
 use Rattle.program.specs.declared.annotation.Inequality.{Inequality}
@@ -52,12 +56,17 @@ is_not_zero y = record { number = 502; choices = one (negsuc 0) (pos 1) y ∷ (o
 
 -- 502: y >= 0, or y <= -2, or x is above the least value
 abbrev pub is_not_least_by_minus_one : Width → Operand → Operand → Obligation
-is_not_least_by_minus_one w x y = record { number = 502; choices = one (pos 0) (pos 1) y ∷ (one (negsuc 1) (negsuc 0) y ∷ (one (greatest w) (pos 1) x ∷ [])) }
+is_not_least_by_minus_one w x y = record {
+  number = 502;
+  choices = one (pos 0) (pos 1) y ∷
+      (one (negsuc 1) (negsuc 0) y ∷ (one (greatest w) (pos 1) x ∷ []));
+}
 
 -- 503: the product lies in the width
 abbrev pub product_owed : Width → Option Part → List Obligation
 product_owed w None = record { number = 503; choices = [] } ∷ []
-product_owed w (Some p) = must 503 (one (half w) p.factor p.operand) ∷ (must 503 (one (greatest w) (negsuc 0 *ℤ p.factor) p.operand) ∷ [])
+product_owed w (Some p) = must 503 (one (half w) p.factor p.operand) ∷
+    (must 503 (one (greatest w) (negsuc 0 *ℤ p.factor) p.operand) ∷ [])
 
 -- 504: 0 <= y <= 63, or 31
 abbrev pub is_amount : Width → Operand → List Obligation
@@ -67,8 +76,10 @@ abbrev pub binary_owed : BinaryOperator → Width → Operand → Operand → Li
 binary_owed Add w x y = []
 binary_owed Subtract w x y = []
 binary_owed Multiply w x y = []
-binary_owed AddNoWrap w x y = must 503 (two (half w) (pos 1) x (pos 1) y) ∷ (must 503 (two (greatest w) (negsuc 0) x (negsuc 0) y) ∷ [])
-binary_owed SubtractNoWrap w x y = must 503 (two (half w) (pos 1) x (negsuc 0) y) ∷ (must 503 (two (greatest w) (negsuc 0) x (pos 1) y) ∷ [])
+binary_owed AddNoWrap w x y = must 503 (two (half w) (pos 1) x (pos 1) y) ∷
+    (must 503 (two (greatest w) (negsuc 0) x (negsuc 0) y) ∷ [])
+binary_owed SubtractNoWrap w x y = must 503 (two (half w) (pos 1) x (negsuc 0) y) ∷
+    (must 503 (two (greatest w) (negsuc 0) x (pos 1) y) ∷ [])
 binary_owed MultiplyNoWrap w x y = product_owed w (scale_of x y)
 binary_owed SignedDivide w x y = is_not_zero y ∷ (is_not_least_by_minus_one w x y ∷ [])
 binary_owed UnsignedDivide w x y = is_not_zero y ∷ []
@@ -85,7 +96,8 @@ binary_owed ExclusiveOr w x y = []
 
 -- 501: 0 <= index <= cells - 1
 abbrev pub index_owed : ℕ → Operand → List Obligation
-index_owed cells index = must 501 (one (pos 0) (pos 1) index) ∷ (must 501 (one (pos cells -ℤ pos 1) (negsuc 0) index) ∷ [])
+index_owed cells index = must 501 (one (pos 0) (pos 1) index) ∷ (must 501 (one (pos cells -ℤ pos 1) (negsuc 0) index) ∷
+    [])
 
 -- ---- inequalities
 
@@ -104,7 +116,8 @@ owed program function (instruction.Binary d operator width x y) = binary_owed op
 owed program function (instruction.Compare d predicate width x y) = []
 owed program function (instruction.Convert d conversion x) = []
 owed program function (instruction.Alloca d alloca) = []
-owed program function (instruction.ElementPointer d object index) = index_owed (object_cells program function object) index
+owed program function (instruction.ElementPointer d object index) =
+    index_owed (object_cells program function object) index
 owed program function (instruction.Load d address) = []
 owed program function (instruction.Store x address) = []
 owed program function (instruction.StoreZeros cells object) = []

@@ -1,4 +1,5 @@
--- What a contract says of a refusal. Only contracts speak of memory: what a text means, and which rule it breaks, has none.
+-- What a contract says of a refusal. Only contracts speak of memory: what a text means, and which rule it breaks, has
+-- none.
 use Rattle.refusal.specs.declared.broken.Broken.{Broken}
 use Rattle.refusal.specs.declared.refused.Refused.{Refused}
 use Rattle.refusal.specs.declared.refused.Refused.TheVariants.{Fault, Memory}

@@ -5,7 +5,8 @@ use Rattle.program.specs.declared.identifier.BlockId.{BlockId}
 use Rattle.program.specs.declared.annotation.Pending.{Pending}
 use Rattle.program.specs.declared.instruction.Ending.{Ending}
 use Rattle.program.specs.declared.instruction.Terminator.{Terminator}
-use Rattle.program.specs.declared.instruction.Terminator.TheVariants.{Jump, Branch, Switch, Return, Detach, Reattach, Sync}
+use Rattle.program.specs.declared.instruction.Terminator.TheVariants.{Jump, Branch, Switch, Return, Detach, Reattach}
+use Rattle.program.specs.declared.instruction.Terminator.TheVariants.{Sync}
 use Rattle.program.specs.declared.function.Block.{Block}
 use Rattle.refusal.specs.declared.broken.Broken.{Broken}
 use Rattle.region_match.specs.declared.task.Task.{Task}
@@ -16,17 +17,20 @@ use Rattle.region_match.specs.Rules.{ending_at, IsDetach, Starts, IsOpen, is_lea
 use Rattle.cfg.specs.declared.structure.BlockEdges.{BlockEdges}
 
 abbrev pub IsStartedBy : List Block → List Task → RegisterId → Task → Type 0
-IsStartedBy bodies tasks region task = (b : ℕ) × (block : Block) × (slice_get bodies b ≡ Some block) × Starts region block.steps × (task_at tasks b ≡ task)
+IsStartedBy bodies tasks region task = (b : ℕ) × (block : Block) × (slice_get bodies b ≡ Some block) ×
+    Starts region block.steps × (task_at tasks b ≡ task)
 
 abbrev pub IsStrayBy : List Block → Task → RegisterId → Type 0
 IsStrayBy bodies Unreached region = ⊥
 IsStrayBy bodies Body region = Unit {0}
-IsStrayBy bodies (Child detach) region = (continuation : BlockId) → IsDetach (ending_at bodies detach.0) region continuation → ⊥
+IsStrayBy bodies (Child detach) region = (continuation : BlockId) →
+    IsDetach (ending_at bodies detach.0) region continuation → ⊥
 
 abbrev pub IsElsewhereBy : List Block → Task → BlockId → Type 0
 IsElsewhereBy bodies Unreached continuation = ⊥
 IsElsewhereBy bodies Body continuation = ⊥
-IsElsewhereBy bodies (Child detach) continuation = (region : RegisterId) → IsDetach (ending_at bodies detach.0) region continuation → ⊥
+IsElsewhereBy bodies (Child detach) continuation = (region : RegisterId) →
+    IsDetach (ending_at bodies detach.0) region continuation → ⊥
 
 abbrev pub IsForeignBy : List Block → List Task → Task → RegisterId → Type 0
 IsForeignBy bodies tasks task region = (is_seen task ≡ true) × (IsStartedBy bodies tasks region task → ⊥)
@@ -41,14 +45,16 @@ IsEndingWrongBy bodies tasks task (Jump target) number = ⊥
 IsEndingWrongBy bodies tasks task (Branch condition when_true when_false) number = ⊥
 IsEndingWrongBy bodies tasks task (Switch width value default cases) number = ⊥
 IsEndingWrongBy bodies tasks task (Return value) number = (number ≡ 305) × IsInsideBy task
-IsEndingWrongBy bodies tasks task (Detach region body continuation) number = (number ≡ 303) × IsForeignBy bodies tasks task region
+IsEndingWrongBy bodies tasks task (Detach region body continuation) number = (number ≡ 303) ×
+    IsForeignBy bodies tasks task region
 IsEndingWrongBy bodies tasks task (Reattach region continuation) number =
     ((number ≡ 301) × IsStrayBy bodies task region) ⊎ ((number ≡ 302) × IsElsewhereBy bodies task continuation)
 IsEndingWrongBy bodies tasks task (Sync region target) number = (number ≡ 303) × IsForeignBy bodies tasks task region
 
 abbrev pub IsEndingBrokenBy : List Block → List Task → Task → Option Ending → Broken → Type 0
 IsEndingBrokenBy bodies tasks task None broken = ⊥
-IsEndingBrokenBy bodies tasks task (Some ending) broken = (broken.line ≡ ending.line) × IsEndingWrongBy bodies tasks task ending.terminator broken.number
+IsEndingBrokenBy bodies tasks task (Some ending) broken = (broken.line ≡ ending.line) ×
+    IsEndingWrongBy bodies tasks task ending.terminator broken.number
 
 abbrev pub IsPendingBrokenBy : List Block → List Task → Task → List Pending → Broken → Type 0
 IsPendingBrokenBy bodies tasks task pending broken =
@@ -58,4 +64,5 @@ IsPendingBrokenBy bodies tasks task pending broken =
 abbrev pub IsOpenEndOf : List Block → List BlockEdges → ℕ → Broken → Type 0
 IsOpenEndOf bodies blocks detach broken =
     (to : ℕ) × (block : Block) × (ending : Ending) × (slice_get bodies to ≡ Some block) × (block.ending ≡ Some ending)
-    × (is_leave ending.terminator ≡ true) × (broken.number ≡ 304) × (broken.line ≡ ending.line) × IsOpen bodies blocks detach to
+    × (is_leave ending.terminator ≡ true) × (broken.number ≡ 304) × (broken.line ≡ ending.line) ×
+    IsOpen bodies blocks detach to

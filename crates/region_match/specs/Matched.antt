@@ -11,12 +11,14 @@ use Rattle.region_match.specs.Rules.{IsEndingBroken, IsPendingBroken, IsOpenEnd,
 
 abbrev pub IsBlockBroken : List Block → List BlockEdges → ℕ → Block → Broken → Type 0
 IsBlockBroken bodies blocks b block broken =
-    IsEndingBroken bodies blocks b block.ending broken ⊎ (IsPendingBroken bodies blocks b block.pending broken ⊎ IsPlaceBroken blocks b block broken)
+    IsEndingBroken bodies blocks b block.ending broken ⊎ (IsPendingBroken bodies blocks b block.pending broken ⊎
+    IsPlaceBroken blocks b block broken)
 
 abbrev pub IsFunctionBroken : Function → Broken → Type 0
 IsFunctionBroken function broken =
     IsOpenEnd function.blocks (graph_of function).blocks broken
-    ⊎ ((b : ℕ) × (block : Block) × (slice_get function.blocks b ≡ Some block) × IsBlockBroken function.blocks (graph_of function).blocks b block broken)
+    ⊎ ((b : ℕ) × (block : Block) × (slice_get function.blocks b ≡ Some block) ×
+    IsBlockBroken function.blocks (graph_of function).blocks b block broken)
 
 -- 301 to 305 and 307
 abbrev pub IsRegionBroken : Program → Broken → Type 0
@@ -29,4 +31,5 @@ pub record AreRegionsRight (program : Program) : Type 0 where
 
 -- what a refusal may name: 306; where no block has two tasks, the other rules
 abbrev pub IsTaskBroken : Program → Broken → Type 0
-IsTaskBroken program broken = IsMixed program broken ⊎ (((mixed : Broken) → IsMixed program mixed → ⊥) × IsRegionBroken program broken)
+IsTaskBroken program broken = IsMixed program broken ⊎ (((mixed : Broken) → IsMixed program mixed → ⊥) ×
+    IsRegionBroken program broken)

@@ -9,7 +9,8 @@ use Rattle.program.specs.declared.instruction.Step.{Step}
 use Rattle.program.specs.declared.instruction.Phi.{Phi}
 use Rattle.program.specs.declared.instruction.Ending.{Ending}
 use Rattle.program.specs.declared.instruction.Terminator.{Terminator}
-use Rattle.program.specs.declared.instruction.Terminator.TheVariants.{Jump, Branch, Switch, Return, Detach, Reattach, Sync}
+use Rattle.program.specs.declared.instruction.Terminator.TheVariants.{Jump, Branch, Switch, Return, Detach, Reattach}
+use Rattle.program.specs.declared.instruction.Terminator.TheVariants.{Sync}
 use Rattle.program.specs.declared.function.Block.{Block}
 use Rattle.cfg.specs.declared.structure.Way.{Way}
 use Rattle.cfg.specs.declared.structure.Way.TheVariants.{Detached, Continued}
@@ -41,7 +42,8 @@ Starts region steps = Any (λ step. step.instruction ≡ StartRegion region) ste
 
 -- a block of this task starts the region
 abbrev pub IsStarted : List Block → List BlockEdges → RegisterId → List ℕ → Type 0
-IsStarted bodies blocks region detaches = (b : ℕ) × (block : Block) × (slice_get bodies b ≡ Some block) × Starts region block.steps × HasTask blocks b detaches
+IsStarted bodies blocks region detaches = (b : ℕ) × (block : Block) × (slice_get bodies b ≡ Some block) ×
+    Starts region block.steps × HasTask blocks b detaches
 
 -- 301: a reattach in no task, or within another region than its detach's
 abbrev pub IsStray : List Block → List BlockEdges → ℕ → RegisterId → Type 0
@@ -53,11 +55,13 @@ IsStray bodies blocks b region =
 -- 302: a reattach to another continuation than its detach's
 abbrev pub IsElsewhere : List Block → List BlockEdges → ℕ → BlockId → Type 0
 IsElsewhere bodies blocks b continuation =
-    (detach : ℕ) × (outer : List ℕ) × HasTask blocks b (detach ∷ outer) × ((region : RegisterId) → IsDetach (ending_at bodies detach) region continuation → ⊥)
+    (detach : ℕ) × (outer : List ℕ) × HasTask blocks b (detach ∷ outer) ×
+    ((region : RegisterId) → IsDetach (ending_at bodies detach) region continuation → ⊥)
 
 -- 303: the task of a use did not start the region
 abbrev pub IsForeign : List Block → List BlockEdges → ℕ → RegisterId → Type 0
-IsForeign bodies blocks b region = (detaches : List ℕ) × HasTask blocks b detaches × (IsStarted bodies blocks region detaches → ⊥)
+IsForeign bodies blocks b region = (detaches : List ℕ) × HasTask blocks b detaches ×
+    (IsStarted bodies blocks region detaches → ⊥)
 
 -- 305: a ret inside a task
 abbrev pub IsInside : List BlockEdges → ℕ → Type 0
@@ -69,18 +73,21 @@ IsEndingWrong bodies blocks b (Jump target) number = ⊥
 IsEndingWrong bodies blocks b (Branch condition when_true when_false) number = ⊥
 IsEndingWrong bodies blocks b (Switch width value default cases) number = ⊥
 IsEndingWrong bodies blocks b (Return value) number = (number ≡ 305) × IsInside blocks b
-IsEndingWrong bodies blocks b (Detach region body continuation) number = (number ≡ 303) × IsForeign bodies blocks b region
+IsEndingWrong bodies blocks b (Detach region body continuation) number = (number ≡ 303) ×
+    IsForeign bodies blocks b region
 IsEndingWrong bodies blocks b (Reattach region continuation) number =
     ((number ≡ 301) × IsStray bodies blocks b region) ⊎ ((number ≡ 302) × IsElsewhere bodies blocks b continuation)
 IsEndingWrong bodies blocks b (Sync region target) number = (number ≡ 303) × IsForeign bodies blocks b region
 
 abbrev pub IsEndingBroken : List Block → List BlockEdges → ℕ → Option Ending → Broken → Type 0
 IsEndingBroken bodies blocks b None broken = ⊥
-IsEndingBroken bodies blocks b (Some ending) broken = (broken.line ≡ ending.line) × IsEndingWrong bodies blocks b ending.terminator broken.number
+IsEndingBroken bodies blocks b (Some ending) broken = (broken.line ≡ ending.line) ×
+    IsEndingWrong bodies blocks b ending.terminator broken.number
 
 -- 303, at a `pending` line
 abbrev pub IsPendingBroken : List Block → List BlockEdges → ℕ → List Pending → Broken → Type 0
-IsPendingBroken bodies blocks b pending broken = Any (λ p. (broken.number ≡ 303) × (broken.line ≡ p.zone.line) × IsForeign bodies blocks b p.region) pending
+IsPendingBroken bodies blocks b pending broken = Any (λ p. (broken.number ≡ 303) × (broken.line ≡ p.zone.line) ×
+    IsForeign bodies blocks b p.region) pending
 
 -- a `ret` or a reattach
 abbrev pub is_leave : Terminator → Bool
@@ -127,20 +134,24 @@ IsEntered blocks b way = (a : ℕ) × Any (λ e. (e.to.0 ≡ b) × (e.way ≡ wa
 abbrev pub IsStartBroken : List BlockEdges → ℕ → List Step → Broken → Type 0
 IsStartBroken blocks b steps broken =
     (b ≢ 0) × (IsEntered blocks b Detached → ⊥)
-    × Any (λ step. (broken.number ≡ 307) × (broken.line ≡ step.line) × (region : RegisterId) × (step.instruction ≡ StartRegion region)) steps
+    × Any (λ step. (broken.number ≡ 307) × (broken.line ≡ step.line) × (region : RegisterId) ×
+    (step.instruction ≡ StartRegion region)) steps
 
 -- 307, at a phi: detached and continuation blocks have none
 abbrev pub IsPhiBroken : List BlockEdges → ℕ → List Phi → Broken → Type 0
 IsPhiBroken blocks b phis broken =
-    (IsEntered blocks b Detached ⊎ IsEntered blocks b Continued) × Any (λ phi. (broken.number ≡ 307) × (broken.line ≡ phi.line)) phis
+    (IsEntered blocks b Detached ⊎ IsEntered blocks b Continued) ×
+    Any (λ phi. (broken.number ≡ 307) × (broken.line ≡ phi.line)) phis
 
 -- 307, at a `foot` line: it stands on detached blocks
 abbrev pub IsFootBroken : List BlockEdges → ℕ → List Zone → Broken → Type 0
-IsFootBroken blocks b foot broken = (IsEntered blocks b Detached → ⊥) × Any (λ zone. (broken.number ≡ 307) × (broken.line ≡ zone.line)) foot
+IsFootBroken blocks b foot broken = (IsEntered blocks b Detached → ⊥) × Any (λ zone. (broken.number ≡ 307) ×
+    (broken.line ≡ zone.line)) foot
 
 -- 307, at the label: a detached block has its detach as only predecessor
 abbrev pub IsShared : List BlockEdges → ℕ → Type 0
-IsShared blocks b = (a : ℕ) × Any (λ e. (e.to.0 ≡ b) × (e.way ≡ Detached)) (edges_of blocks a) × (other : ℕ) × (other ≢ a) × IsPredecessor blocks other b
+IsShared blocks b = (a : ℕ) × Any (λ e. (e.to.0 ≡ b) × (e.way ≡ Detached)) (edges_of blocks a) × (other : ℕ) ×
+    (other ≢ a) × IsPredecessor blocks other b
 
 abbrev pub IsLabelBroken : List BlockEdges → ℕ → Block → Broken → Type 0
 IsLabelBroken blocks b block broken = (broken.number ≡ 307) × (broken.line ≡ block.line) × IsShared blocks b

@@ -27,7 +27,8 @@ HasTask blocks b detaches = (legs : List Leg) × IsPath blocks 0 legs b × (task
 
 -- two paths give a block different tasks
 abbrev pub HasTwoTasks : List BlockEdges → ℕ → Type 0
-HasTwoTasks blocks b = (p : List Leg) × (q : List Leg) × IsPath blocks 0 p b × IsPath blocks 0 q b × (task_on p ≢ task_on q)
+HasTwoTasks blocks b = (p : List Leg) × (q : List Leg) × IsPath blocks 0 p b × IsPath blocks 0 q b ×
+    (task_on p ≢ task_on q)
 
 abbrev pub innermost : List ℕ → Task
 innermost [] = Body

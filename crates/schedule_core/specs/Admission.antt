@@ -4,12 +4,8 @@ use Rattle.program.specs.declared.function.Program.{Program}
 use Rattle.serial_machine.specs.store.Cells.{NamedCells}
 use Rattle.serial_machine.specs.store.Requirements.{unmet_in}
 use Rattle.serial_machine.specs.store.declared.outcome.RunFault.{RunFault}
-use Rattle.serial_machine.specs.store.declared.outcome.RunFault.TheVariants.{
-  BadArguments,
-  BadWorkers,
-  OutOfMemory,
-  Stopped,
-}
+use Rattle.serial_machine.specs.store.declared.outcome.RunFault.TheVariants.{BadArguments, BadWorkers, OutOfMemory}
+use Rattle.serial_machine.specs.store.declared.outcome.RunFault.TheVariants.{Stopped}
 
 abbrev pub IsNumberOfWorkers : ℕ → Type 0
 IsNumberOfWorkers workers = (0 < workers) × (workers ≤ 64)

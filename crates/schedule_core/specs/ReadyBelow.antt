@@ -1,21 +1,6 @@
 -- The ready tasks whose tops stand below the frame that a worker runs.
-use Rattle.std.specs.Prelude.{
-  ◌≡◌,
-  ◌≢◌,
-  ◌⊎◌,
-  ℕ,
-  zero,
-  suc,
-  List,
-  [],
-  ◌∷◌,
-  ◌++◌,
-  Option,
-  Some,
-  None,
-  IsSomeAnd,
-  option_and_then,
-}
+use Rattle.std.specs.Prelude.{◌≡◌, ◌≢◌, ◌⊎◌, ℕ, zero, suc, List, [], ◌∷◌, ◌++◌, Option, Some, None, IsSomeAnd}
+use Rattle.std.specs.Prelude.{option_and_then}
 use Rattle.semantics.specs.Paths.{Path as RunningPath}
 use Rattle.semantics.specs.Events as running
 use Rattle.frame.specs.declared.path.Path.{Path}

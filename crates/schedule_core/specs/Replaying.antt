@@ -1,26 +1,6 @@
 -- What events do to a stage, one and many.
-use Rattle.std.specs.Prelude.{
-  ◌≡◌,
-  ⊤,
-  ℕ,
-  ◌≤◌,
-  ◌<◌,
-  List,
-  [],
-  ◌∷◌,
-  ◌++◌,
-  length,
-  reverse,
-  map,
-  sum,
-  Bool,
-  true,
-  false,
-  Some,
-  None,
-  IsSome,
-  ℤ,
-}
+use Rattle.std.specs.Prelude.{◌≡◌, ⊤, ℕ, ◌≤◌, ◌<◌, List, [], ◌∷◌, ◌++◌, length, reverse, map, sum, Bool, true, false}
+use Rattle.std.specs.Prelude.{Some, None, IsSome, ℤ}
 use Rattle.semantics.specs.Paths.{Path as RunningPath}
 use Rattle.semantics.specs.Frames.{Frame}
 use Rattle.semantics.specs.Events as running

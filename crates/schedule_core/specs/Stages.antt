@@ -1,20 +1,6 @@
 -- What a stage stands for: a machine of the definitions, from which each schedule goes well.
-use Rattle.std.specs.Prelude.{
-  ◌≡◌,
-  ℕ,
-  ◌≤◌,
-  ◌<◌,
-  List,
-  length,
-  map,
-  Option,
-  Some,
-  None,
-  IsSome,
-  option_and_then,
-  slice_get,
-  ℤ,
-}
+use Rattle.std.specs.Prelude.{◌≡◌, ℕ, ◌≤◌, ◌<◌, List, length, map, Option, Some, None, IsSome, option_and_then}
+use Rattle.std.specs.Prelude.{slice_get, ℤ}
 use Rattle.semantics.specs.Cells.{Object, Shared, Local, Memory}
 use Rattle.semantics.specs.Events.{Machine, Event, start}
 use Rattle.semantics.specs.Replay.{replay}

@@ -11,7 +11,8 @@ abbrev pub steps_text : ℕ → ℕ → List ℕ
 steps_text worker count = codes "step " ++ decimal worker ++ codes " " ++ decimal count ++ codes "\n"
 
 abbrev pub steal_text : ℕ → List ℕ → List ℕ
-steal_text worker numbers = codes "steal " ++ decimal worker ++ codes " root" ++ flat_map child_text numbers ++ codes "\n"
+steal_text worker numbers = codes "steal " ++ decimal worker ++ codes " root" ++ flat_map child_text numbers ++
+    codes "\n"
 
 abbrev pub is_step_of : ℕ → Event → Bool
 is_step_of worker (Step stepping) = stepping == worker

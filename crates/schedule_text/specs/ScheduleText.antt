@@ -1,5 +1,6 @@
 -- Schedules as text: each line is one event or the steps of one worker, one after another, and ends with LF.
-use Rattle.std.specs.Prelude.{◌≡◌, ◌≢◌, ℕ, ◌<◌, ◌≤◌, List, [], ◌∷◌, ◌++◌, length, flat_map, codes, replicate, true, ◌+◌, ◌⊎◌, Option, Some, None}
+use Rattle.std.specs.Prelude.{◌≡◌, ◌≢◌, ℕ, ◌<◌, ◌≤◌, List, [], ◌∷◌, ◌++◌, length, flat_map, codes, replicate, true, ◌+◌}
+use Rattle.std.specs.Prelude.{◌⊎◌, Option, Some, None}
 use Rattle.std.specs.Str.Parse.{digits_value}
 use Rattle.ir_annotation.specs.Words.{is_numeral}
 use Rattle.frame.specs.declared.path.Path.{Path}
@@ -18,7 +19,8 @@ pub record IsNumeral (digits : List ℕ) (n : ℕ) : Type 0 where
 -- a dot and a number for each
 abbrev pub AreChildren : List ℕ → List ℕ → Type 0
 AreChildren text [] = text ≡ []
-AreChildren text (k ∷ numbers) = (digits rest : List ℕ) × (text ≡ 46 ∷ digits ++ rest) × IsNumeral digits k × (k ≤ 1000000000000) × AreChildren rest numbers
+AreChildren text (k ∷ numbers) = (digits rest : List ℕ) × (text ≡ 46 ∷ digits ++ rest) × IsNumeral digits k ×
+    (k ≤ 1000000000000) × AreChildren rest numbers
 
 -- `step W N`
 pub record IsStepping (line : List ℕ) (worker count : ℕ) : Type 0 where
@@ -108,7 +110,8 @@ pub record IsBadLine (text : List ℕ) (number : ℕ) : Type 0 where
   pub are_lines : AreLines before lines
   pub is_number : number ≡ length lines + 1
   pub more : rest ≢ []
-  pub is_bad : (l : Line) (line after : List ℕ) → rest ≡ line ++ 10 ∷ after → IsSpelled line l → Differs (last_stepper None lines) (stepper l) → ⊥
+  pub is_bad : (l : Line) (line after : List ℕ) → rest ≡ line ++ 10 ∷ after → IsSpelled line l →
+      Differs (last_stepper None lines) (stepper l) → ⊥
 
 -- a good line follows, with which bytes or events are too many
 pub record IsTooLong (text : List ℕ) (number : ℕ) : Type 0 where
@@ -127,7 +130,9 @@ pub record IsTooLong (text : List ℕ) (number : ℕ) : Type 0 where
 -- ---- laws
 
 abbrev pub OneSpelling : Type 0
-OneSpelling = (text other : List ℕ) (events : List Event) → IsSchedule text events → IsSchedule other events → text ≡ other
+OneSpelling = (text other : List ℕ) (events : List Event) → IsSchedule text events → IsSchedule other events →
+    text ≡ other
 
 abbrev pub OneReading : Type 0
-OneReading = (text : List ℕ) (events others : List Event) → IsSchedule text events → IsSchedule text others → events ≡ others
+OneReading = (text : List ℕ) (events others : List Event) → IsSchedule text events → IsSchedule text others →
+    events ≡ others

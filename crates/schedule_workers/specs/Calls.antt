@@ -20,7 +20,8 @@ use Rattle.schedule_workers.specs.declared.activation.Activation.{Activation}
 use Rattle.schedule_workers.specs.Scheduling.{counted_in}
 
 -- a frame that the worker begins: the function's, with its allocas from the start of a block on
-pub record IsCallee (places : Places) (caller : Frame) (worker : ℕ) (callee : FunctionId) (count : ℕ) (arguments : List Argument) (start : ℕ)
+pub record IsCallee (places : Places) (caller : Frame) (worker : ℕ) (callee : FunctionId) (count : ℕ)
+    (arguments : List Argument) (start : ℕ)
     (a : Activation) : Type 0 where
   pub is : a ≡ record { frame = a.frame; counts = a.counts; callee = None; runner = Some worker; stalled_in = None }
   pub none : (region : ℕ) → counted_in a region ≡ 0
@@ -30,7 +31,8 @@ pub record IsCallee (places : Places) (caller : Frame) (worker : ℕ) (callee : 
   pub home : a.frame.home ≡ pos start
   pub role : a.frame.role ≡ role.Body
   pub waits : a.frame.waits ≡ wait.Nothing
-  pub shown : (l k : Layout) (p : Path) (g : frames.Frame) (values : List Value) → ShowsFrame l places p g caller → ArgumentsAreWhole g arguments →
+  pub shown : (l k : Layout) (p : Path) (g : frames.Frame) (values : List Value) → ShowsFrame l places p g caller →
+      ArgumentsAreWhole g arguments →
       argument_values g arguments ≡ Some values → PointsAlike l k values →
       ShowsBases k (bases places.globals (allocas_of places callee.0) (pos start)) (g.made ∷ p) →
       ShowsFrame k places (g.made ∷ p) (called p g callee.0 values) a.frame

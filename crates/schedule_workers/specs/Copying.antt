@@ -21,7 +21,13 @@ pub record IsActivationCopy (a copy : Activation) : Type 0 where
   pub counts : copy.counts.items ≡ a.counts.items
 
 pub record HoldsSame (k copy : Run) : Type 0 where
-  pub only : copy ≡ record k { cactus = copy.cactus; cells = copy.cells; blocks = copy.blocks; hands = copy.hands; moves = copy.moves }
+  pub only : copy ≡ record k {
+    cactus = copy.cactus;
+    cells = copy.cells;
+    blocks = copy.blocks;
+    hands = copy.hands;
+    moves = copy.moves;
+  }
   pub frames : AreCopies IsActivationCopy k.cactus copy.cactus
   pub cells : copy.cells.cells.items ≡ k.cells.cells.items
   pub blocks : copy.blocks.items ≡ k.blocks.items

@@ -14,12 +14,14 @@ use Rattle.schedule_workers.specs.Stalls.{NotesStalls}
 -- whatever machine is shown, the event is done just where it is enabled, and then the machine after it is shown
 abbrev pub DoesEvent : Program → Places → Run → Run → Event → Bool → Type 0
 DoesEvent prog places old new e done =
-    (m : Machine) → IsShown prog places m old → RunsSafely prog (length old.hands.items) m → Becomes prog places (length old.hands.items) e m new done
+    (m : Machine) → IsShown prog places m old → RunsSafely prog (length old.hands.items) m →
+    Becomes prog places (length old.hands.items) e m new done
 
 -- whatever machine is shown, frames that are stalled are so at their last instructions
 abbrev pub LeavesStalls : Program → Places → Run → Run → Event → Bool → Type 0
 LeavesStalls prog places old new e done =
-    (m : Machine) → IsShown prog places m old → RunsSafely prog (length old.hands.items) m → NotesStalls e m old.cactus new.cactus done
+    (m : Machine) → IsShown prog places m old → RunsSafely prog (length old.hands.items) m →
+    NotesStalls e m old.cactus new.cactus done
 
 -- a detach or a call
 abbrev pub MakesFrame : Action → Type 0

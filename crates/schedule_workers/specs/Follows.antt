@@ -21,7 +21,8 @@ pub record IsNewUse (old new : Frames Activation) (slot : ℕ) (node : Node Acti
 -- what lives lived before, or is new
 pub record Follows (old new : Frames Activation) : Type 0 where
   pub made : old.made ≤ new.made
-  pub uses : (slot : ℕ) (node : Node Activation) → node_at new slot ≡ Some node → IsSameUse old slot node ⊎ IsNewUse old new slot node
+  pub uses : (slot : ℕ) (node : Node Activation) → node_at new slot ≡ Some node → IsSameUse old slot node ⊎
+      IsNewUse old new slot node
 
 -- the generations of living frames were given out
 abbrev pub AreGiven : Frames Activation → Type 0

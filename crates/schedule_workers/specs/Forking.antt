@@ -27,7 +27,8 @@ resumed_unheld wait.Nothing made left child region = eqb made (child + 1)
 resumed_unheld (wait.Region awaited) made left child region = eqb awaited.0 region && eqb left 0
 resumed_unheld (wait.Call callee register) made left child region = false
 
--- whether the child's worker goes on with the parent: nobody runs it, and the child was its newest, or the last of its sync's region
+-- whether the child's worker goes on with the parent: nobody runs it, and the child was its newest, or the last of its
+-- sync's region
 abbrev pub resumed_by_child : Option ℕ → Wait → ℕ → ℕ → ℕ → ℕ → Bool
 resumed_by_child None waits made left child region = resumed_unheld waits made left child region
 resumed_by_child (Some worker) waits made left child region = false

@@ -1,5 +1,6 @@
 -- What a run rests on, and what a step comes to.
-use Rattle.std.specs.Prelude.{◌≡◌, ⊤, ℕ, Bool, true, false, Option, None, ◌+◌, ◌<◌, ◌≤◌, List, length, map, Some, IsSome, slice_get, ℤ}
+use Rattle.std.specs.Prelude.{◌≡◌, ⊤, ℕ, Bool, true, false, Option, None, ◌+◌, ◌<◌, ◌≤◌, List, length, map, Some}
+use Rattle.std.specs.Prelude.{IsSome, slice_get, ℤ}
 use Rattle.semantics.specs.Paths.{Path, Under}
 use Rattle.semantics.specs.Cells.{Cell, Object, Shared, Local}
 use Rattle.semantics.specs.Frames.{Frame, Pointer, Does, Ends, item_at}
@@ -40,14 +41,16 @@ pub record CanStep (prog : Program) (m : Machine) (p : Path) (f : Frame) : Type 
   pub goes : IsSome (change_of prog m.core p)
   -- a call passes whole objects
   pub whole : (d : Option RegisterId) (callee : FunctionId) (arguments : List Argument) →
-      item_at prog f.function f.block f.index ≡ Some (Does (instruction.Call d callee arguments)) → ArgumentsAreWhole f arguments
+      item_at prog f.function f.block f.index ≡ Some (Does (instruction.Call d callee arguments)) →
+      ArgumentsAreWhole f arguments
   -- its numbers are numbers of 64 bits
   pub index : f.index + 1 < 18446744073709551616
   pub made : f.made + 1 < 18446744073709551616
   pub depth : length p + 2 < 18446744073709551616
 
 pub record CanGo (prog : Program) (m : Machine) : Type 0 where
-  pub steps : (worker : ℕ) (p : Path) (f : Frame) → m.hands worker ≡ Some p → m.core.frames p ≡ Some f → CanStep prog m p f
+  pub steps : (worker : ℕ) (p : Path) (f : Frame) → m.hands worker ≡ Some p → m.core.frames p ≡ Some f →
+      CanStep prog m p f
   pub tree : Tree m.core
   pub points : (p : Path) (f : Frame) → m.core.frames p ≡ Some f → PointsUp p f
   pub counted : m.core.done + 2 < 9223372036854775808
@@ -65,8 +68,8 @@ pub record Stands (prog : Program) (places : Places) (k : Run) : Type 0 where
 abbrev pub StandsSafely : Program → Places → Run → Type 0
 StandsSafely prog places k = ∥ Stands prog places k ∥₁
 
--- What the program's text gives: what is named is there, a region's register is one of the function's, a call passes no more than its
--- callee has registers, and objects stand one after the other.
+-- What the program's text gives: what is named is there, a region's register is one of the function's, a call passes no
+-- more than its callee has registers, and objects stand one after the other.
 pub record TextFits (prog : Program) (places : Places) (moves : ℕ) : Type 0 where
   pub fits : ProgramFits prog places moves
   pub globals : places.globals ≡ global_starts prog.globals
@@ -77,7 +80,8 @@ pub record TextFits (prog : Program) (places : Places) (moves : ℕ) : Type 0 wh
       (f : Function) × (slice_get prog.functions callee.0 ≡ Some f) × (length arguments ≤ length f.registers)
   pub syncs : (k b i : ℕ) (r : RegisterId) (target : BlockId) (f : Function) → slice_get prog.functions k ≡ Some f →
       item_at prog k b i ≡ Some (Ends (terminator.Sync r target)) → r.0 < length f.registers
-  pub detaches : (k b i : ℕ) (r : RegisterId) (child continuation : BlockId) (f : Function) → slice_get prog.functions k ≡ Some f →
+  pub detaches : (k b i : ℕ) (r : RegisterId) (child continuation : BlockId) (f : Function) →
+      slice_get prog.functions k ≡ Some f →
       item_at prog k b i ≡ Some (Ends (terminator.Detach r child continuation)) → r.0 < length f.registers
 
 -- ---- steps
@@ -95,9 +99,11 @@ KeepsShown prog places old new =
 
 -- an event is done just where it is enabled, and then the machine after it is shown
 abbrev pub Becomes : Program → Places → ℕ → Event → Machine → Run → Bool → Type 0
-Becomes prog places workers e m new true = (next : Machine) × (event prog workers e m ≡ Some next) × IsShown prog places next new
+Becomes prog places workers e m new true = (next : Machine) × (event prog workers e m ≡ Some next) ×
+    IsShown prog places next new
 Becomes prog places workers e m new false = (event prog workers e m ≡ None) × IsShown prog places m new
 
 abbrev pub DoesSteal : Program → Places → Run → Run → ℕ → Path → Bool → Type 0
 DoesSteal prog places old new worker path done =
-    (m : Machine) → IsShown prog places m old → Becomes prog places (length old.hands.items) (Steal worker path) m new done
+    (m : Machine) → IsShown prog places m old →
+    Becomes prog places (length old.hands.items) (Steal worker path) m new done

@@ -1,4 +1,5 @@
--- Where the objects of a run lie: globals where `Places` has them, and the allocas of each function's frame from its home on.
+-- Where the objects of a run lie: globals where `Places` has them, and the allocas of each function's frame from its
+-- home on.
 use Rattle.std.specs.Prelude.{ℕ, List, reverse, Option, Some, None, ℤ, pos, ◌+ℤ◌, slice_get, slice_index_or}
 use Rattle.semantics.specs.Cells.{Object, Shared, Local}
 use Rattle.semantics.specs.Frames.{Frame, Role, Child, Body, cells_of, global_cells}

@@ -7,7 +7,8 @@ use Rattle.schedule_workers.specs.Follows.{KeepsUses}
 use Rattle.schedule_workers.specs.Going.{KeepsShown}
 use Rattle.schedule_workers.specs.Stalls.{KeepsStalls}
 
--- what was shown is shown, workers run what they ran, and frames stand in their uses of slots and are stalled where they were
+-- what was shown is shown, workers run what they ran, and frames stand in their uses of slots and are stalled where
+-- they were
 pub record LeavesAsShown (prog : Program) (places : Places) (old new : Run) : Type 0 where
   pub shown : KeepsShown prog places old new
   pub hands : new.hands ≡ old.hands

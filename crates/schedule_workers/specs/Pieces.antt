@@ -38,7 +38,8 @@ pub record Touches (prog : Program) (start limit : ℕ) (f : Frame) : Type 0 whe
 
 -- what it has there is taken
 abbrev pub Covers : Program → ℕ → ℕ → Frame → Taken → Type 0
-Covers prog start limit f t = Touches prog start limit f → (t.from ≤ (own_block prog f).start) × ((own_end prog f ≤ t.to) ⊎ (limit ≤ t.to))
+Covers prog start limit f t = Touches prog start limit f → (t.from ≤ (own_block prog f).start) ×
+    ((own_end prog f ≤ t.to) ⊎ (limit ≤ t.to))
 
 -- with the frame's allocas
 pub record IsWithFrame (prog : Program) (start limit : ℕ) (f : Frame) (old new : Taken) : Type 0 where
@@ -56,6 +57,7 @@ HasFrame k P = (slot : ℕ) × (node : Node Activation) × (node_at k.cactus slo
 pub record IsTaken (prog : Program) (k : Run) (start limit : ℕ) (t : Taken) : Type 0 where
   pub low : t.from ≤ limit
   pub high : start ≤ t.to
-  pub covers : (slot : ℕ) (node : Node Activation) → node_at k.cactus slot ≡ Some node → Covers prog start limit node.frame.frame t
+  pub covers : (slot : ℕ) (node : Node Activation) → node_at k.cactus slot ≡ Some node →
+      Covers prog start limit node.frame.frame t
   pub from : (t.from ≡ limit) ⊎ HasFrame k (λ f. Touches prog start limit f × (t.from ≡ (own_block prog f).start))
   pub to : (t.to ≡ start) ⊎ HasFrame k (λ f. Touches prog start limit f × (t.to ≤ own_end prog f))

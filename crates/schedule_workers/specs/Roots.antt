@@ -24,7 +24,13 @@ first_frame main start f =
 
 -- worker 0 begins the function, which has so many registers, with these arguments
 pub record IsRoot (main : FunctionId) (arguments : List ℤ) (count start : ℕ) (a : Activation) : Type 0 where
-  pub is : a ≡ record { frame = first_frame main start a.frame; counts = a.counts; callee = None; runner = Some 0; stalled_in = None }
+  pub is : a ≡ record {
+    frame = first_frame main start a.frame;
+    counts = a.counts;
+    callee = None;
+    runner = Some 0;
+    stalled_in = None;
+  }
   pub none : (region : ℕ) → counted_in a region ≡ 0
   pub as_many : length a.counts.items ≡ count
   pub registers : length a.frame.registers.items ≡ count

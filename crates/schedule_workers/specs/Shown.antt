@@ -1,5 +1,6 @@
 -- How the machine's run shows a machine of the definitions.
-use Rattle.std.specs.Prelude.{◌≡◌, ◌≢◌, ◌↔◌, ⊤, ℕ, ◌+◌, ◌<◌, ◌≤◌, List, [], ◌∷◌, ◌++◌, length, reverse, map, sum, ◌⊎◌, Option, Some, None, pos}
+use Rattle.std.specs.Prelude.{◌≡◌, ◌≢◌, ◌↔◌, ⊤, ℕ, ◌+◌, ◌<◌, ◌≤◌, List, [], ◌∷◌, ◌++◌, length, reverse, map, sum, ◌⊎◌}
+use Rattle.std.specs.Prelude.{Option, Some, None, pos}
 use Rattle.std.specs.Prelude.{option_and_then, slice_get}
 use Rattle.std.specs.Option.{option_map}
 use Rattle.semantics.specs.Paths.{Path}
@@ -39,7 +40,8 @@ abbrev pub place_of : Node Activation → Path
 place_of node = reverse node.path.numbers
 
 abbrev pub hands_of : Frames Activation → List (Option ℕ) → ℕ → Option Path
-hands_of frames hands worker = option_and_then (λ slot. option_map place_of (node_at frames slot)) (hand_of hands worker)
+hands_of frames hands worker = option_and_then (λ slot. option_map place_of (node_at frames slot))
+    (hand_of hands worker)
 
 -- ---- what is shown
 
@@ -55,7 +57,8 @@ ShowsAt l places p (Some g) None = ⊥
 ShowsAt l places p (Some g) (Some node) = ShowsNode l places p g node.frame.frame
 
 pub record ShowsMachine (prog : Program) (places : Places) (m : Machine) (k : Run) : Type 0 where
-  pub frames : (p : Path) → ShowsAt (layout_of prog places k.cactus m.core) places p (m.core.frames p) (named k.cactus (reverse p))
+  pub frames : (p : Path) → ShowsAt (layout_of prog places k.cactus m.core) places p (m.core.frames p)
+      (named k.cactus (reverse p))
   pub cells : ShowsCells (layout_of prog places k.cactus m.core) (is_cell k.cells.cells.items)
       (λ a z. cell_in k.cells.cells.items a ≡ Some z) m.core.memory
   pub done : m.core.done ≡ k.instructions
@@ -83,8 +86,10 @@ HasTaker registers (wait.Call child register) = HasResult registers register
 pub record NodeFits (prog : Program) (frames : Frames Activation) (node : Node Activation) : Type 0 where
   pub fits : FrameFits prog node.frame.frame
   pub callee : CalleeStands frames node node.frame.frame.waits node.frame.callee
-  pub taker : (g : Function) → slice_get prog.functions node.frame.frame.function.0 ≡ Some g → HasTaker (length g.registers) node.frame.frame.waits
-  pub counts : (g : Function) → slice_get prog.functions node.frame.frame.function.0 ≡ Some g → length node.frame.counts.items ≡ length g.registers
+  pub taker : (g : Function) → slice_get prog.functions node.frame.frame.function.0 ≡ Some g →
+      HasTaker (length g.registers) node.frame.frame.waits
+  pub counts : (g : Function) → slice_get prog.functions node.frame.frame.function.0 ≡ Some g →
+      length node.frame.counts.items ≡ length g.registers
 
 abbrev pub cells_in : Option Function → ℕ
 cells_in None = 0
@@ -106,19 +111,22 @@ IsPlaced blocks lent slot b = (slice_get blocks slot ≡ Some b) ⊎ LiesWithin 
 -- a function's frame that has cells has its slot's block, or a part of what is lent
 abbrev pub HasBlock : Program → List Block → Block → ℕ → Frame → Type 0
 HasBlock prog blocks lent slot f =
-    f.role ≡ Body → 0 < cells_in (slice_get prog.functions f.function.0) → (b : Block) × IsPlaced blocks lent slot b × IsBlockOf prog f b
+    f.role ≡ Body → 0 < cells_in (slice_get prog.functions f.function.0) → (b : Block) × IsPlaced blocks lent slot b ×
+    IsBlockOf prog f b
 
 abbrev pub AreBeside : Block → Block → Type 0
 AreBeside a b = (a.start + a.cells ≤ b.start) ⊎ (b.start + b.cells ≤ a.start)
 
 -- blocks lie after the globals, one beside the other, and the frames that have cells have theirs
 pub record BlocksStand (prog : Program) (k : Run) : Type 0 where
-  pub owned : (slot : ℕ) (node : Node Activation) → node_at k.cactus slot ≡ Some node → HasBlock prog k.blocks.items k.lent slot node.frame.frame
+  pub owned : (slot : ℕ) (node : Node Activation) → node_at k.cactus slot ≡ Some node →
+      HasBlock prog k.blocks.items k.lent slot node.frame.frame
   pub below : (slot : ℕ) (b : Block) → slice_get k.blocks.items slot ≡ Some b → b.start + b.cells ≤ k.end
   pub globals : sum (map (λ (g : Global). g.cells) prog.globals) ≤ k.end
   pub after : (slot : ℕ) (b : Block) → slice_get k.blocks.items slot ≡ Some b →
       sum (map (λ (g : Global). g.cells) prog.globals) ≤ b.start
-  pub beside : (slot other : ℕ) (a b : Block) → slice_get k.blocks.items slot ≡ Some a → slice_get k.blocks.items other ≡ Some b →
+  pub beside : (slot other : ℕ) (a b : Block) → slice_get k.blocks.items slot ≡ Some a →
+      slice_get k.blocks.items other ≡ Some b →
       slot ≢ other → AreBeside a b
   -- what is lent lies after the globals, beside all blocks
   pub lent_after : sum (map (λ (g : Global). g.cells) prog.globals) ≤ k.lent.start

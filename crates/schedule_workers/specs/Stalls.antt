@@ -41,22 +41,26 @@ if_enabled (Some after) did last = did
 abbrev pub last_blocks : Program → ℕ → List running.Event → running.Machine → Blocks → Blocks
 last_blocks prog workers [] m last = last
 last_blocks prog workers (e ∷ events) m last =
-    last_blocks prog workers events (or_unchanged (running.event prog workers e m) m) (if_enabled (running.event prog workers e m) (noted e m last) last)
+    last_blocks prog workers events (or_unchanged (running.event prog workers e m) m)
+    (if_enabled (running.event prog workers e m) (noted e m last) last)
 
 -- ---- in the slots
 
 -- a frame that waits for children, and that no worker runs, is stalled at the sync that ends this block
 abbrev pub IsStalledIn : Option ℕ → Activation → Type 0
 IsStalledIn last a =
-    (region : RegisterId) → a.runner ≡ None → a.frame.waits ≡ Region region → option_map (λ (block : BlockId). block.0) a.stalled_in ≡ last
+    (region : RegisterId) → a.runner ≡ None → a.frame.waits ≡ Region region →
+    option_map (λ (block : BlockId). block.0) a.stalled_in ≡ last
 
 -- each frame that is stalled is so at the sync that was its last instruction
 abbrev pub StallsAgree : Blocks → Frames Activation → Type 0
-StallsAgree last frames = (slot : ℕ) (node : Node Activation) → node_at frames slot ≡ Some node → IsStalledIn (last (place_of node)) node.frame
+StallsAgree last frames = (slot : ℕ) (node : Node Activation) → node_at frames slot ≡ Some node →
+    IsStalledIn (last (place_of node)) node.frame
 
 -- after an event of this machine that is done, or not
 abbrev pub NotesStalls : running.Event → running.Machine → Frames Activation → Frames Activation → Bool → Type 0
-NotesStalls e m old new done = (last : Blocks) → StallsAgree last old → StallsAgree (cond done (noted e m last) last) new
+NotesStalls e m old new done = (last : Blocks) → StallsAgree last old →
+    StallsAgree (cond done (noted e m last) last) new
 
 abbrev pub KeepsStalls : Frames Activation → Frames Activation → Type 0
 KeepsStalls old new = (last : Blocks) → StallsAgree last old → StallsAgree last new

@@ -24,7 +24,8 @@ pub record IsRowOf (prog : Program) (memory : Memory) (row : List ℤ) : Type 0 
   pub long : length row ≡ sum (sizes_in prog)
   pub within : (g i : ℕ) (z : ℤ) → memory (record { object = Shared g; index = i }) ≡ Some z →
       (global : Global) × (slice_get prog.globals g ≡ Some global) × (i < global.cells)
-  pub held : (g i : ℕ) (z : ℤ) → memory (record { object = Shared g; index = i }) ≡ Some z → slice_get row (row_start prog g + i) ≡ Some z
+  pub held : (g i : ℕ) (z : ℤ) → memory (record { object = Shared g; index = i }) ≡ Some z →
+      slice_get row (row_start prog g + i) ≡ Some z
 
 -- the globals stand in a row, and each function's allocas behind its frame's home; the codes are the program's
 pub record ArePlaces (prog : Program) (places : Places) : Type 0 where
@@ -35,4 +36,5 @@ pub record ArePlaces (prog : Program) (places : Places) : Type 0 where
 -- the run shows the start with these arguments, from each memory that stands in the row
 abbrev pub Begins : Program → List ℤ → List ℤ → Run → Type 0
 Begins prog arguments row k =
-    (places : Places) (memory : Memory) → ArePlaces prog places → IsRowOf prog memory row → IsShown prog places (running.start prog arguments memory) k
+    (places : Places) (memory : Memory) → ArePlaces prog places → IsRowOf prog memory row →
+    IsShown prog places (running.start prog arguments memory) k

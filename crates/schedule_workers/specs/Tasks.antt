@@ -33,8 +33,10 @@ top_within frames (suc n) slot = by_callee (top_within frames n) slot (node_at f
 -- the slot of the top of the task of a path, where the path is a task's
 pub data FindsTop (frames : Frames Activation) (peak : ℕ) (path : Path) : Option ℕ → Type 0 where
   nobody : HasNoPath frames path → FindsTop frames peak path None
-  no_task : (slot : ℕ) (node : Node Activation) → node_at frames slot ≡ Some node → node.path ≡ path → ¬ IsLowest node → FindsTop frames peak path None
-  task : (slot : ℕ) (node : Node Activation) (found : Option ℕ) → node_at frames slot ≡ Some node → node.path ≡ path → IsLowest node →
+  no_task : (slot : ℕ) (node : Node Activation) → node_at frames slot ≡ Some node → node.path ≡ path → ¬ IsLowest node →
+      FindsTop frames peak path None
+  task : (slot : ℕ) (node : Node Activation) (found : Option ℕ) → node_at frames slot ≡ Some node → node.path ≡ path →
+      IsLowest node →
       found ≡ top_within frames peak slot → FindsTop frames peak path found
 
 -- ---- who may take it
@@ -58,7 +60,11 @@ run_at frames slot worker (Some a) = with_frame frames slot (run_by worker a)
 
 -- the worker runs the frame in the slot
 abbrev pub taken : Run → ℕ → ℕ → Run
-taken k worker slot = record k { cactus = run_at k.cactus slot worker (frame_at k.cactus slot); hands = with_item k.hands worker (Some slot) }
+taken k worker slot = record k {
+  cactus = run_at k.cactus slot worker (frame_at k.cactus slot);
+  hands =
+      with_item k.hands worker (Some slot);
+}
 
 -- the idle worker takes the ready task of which the slot's frame is the top
 pub record Takes (old new : Run) (worker top : ℕ) : Type 0 where

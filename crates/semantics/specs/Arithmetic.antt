@@ -1,31 +1,42 @@
--- Operations on words of 64 and of 32 bits (LLVM Language Reference, "Binary Operations", "Bitwise Binary Operations", "Conversion Operations", "icmp").
--- A word is a signed number of its width.
-use Rattle.std.specs.Prelude.{ℕ, ◌-◌, ◌^◌, ◌/◌, ◌%◌, Bool, cond, not, ◌&&◌, nat_lt, nat_le, ℤ, pos, negsuc, ◌+ℤ◌, ◌-ℤ◌, ◌*ℤ◌, int_lt, int_le, int_div, int_rem}
-use Rattle.std.specs.Int.{w32, w64, cast_signed, cast_unsigned, int_wrap, int_bit_and, int_bit_or, int_bit_xor, int_shl, int_shr}
+-- Operations on words of 64 and of 32 bits (LLVM Language Reference, "Binary Operations", "Bitwise Binary Operations",
+-- "Conversion Operations", "icmp"). A word is a signed number of its width.
+use Rattle.std.specs.Prelude.{ℕ, ◌-◌, ◌^◌, ◌/◌, ◌%◌, Bool, cond, not, ◌&&◌, nat_lt, nat_le, ℤ, pos, negsuc, ◌+ℤ◌, ◌-ℤ◌}
+use Rattle.std.specs.Prelude.{◌*ℤ◌, int_lt, int_le, int_div, int_rem}
+use Rattle.std.specs.Int.{w32, w64, cast_signed, cast_unsigned, int_wrap, int_bit_and, int_bit_or, int_bit_xor, int_shl}
+use Rattle.std.specs.Int.{int_shr}
 use Rattle.std.specs.Int.{Width as WordWidth}
 use Rattle.std.specs.Ordering.{int_eq}
 use mir.Val.{bits, hbits}
 use Rattle.program.specs.syntax.declared.operator.Width.{Width}
 use Rattle.program.specs.syntax.declared.operator.Width.TheVariants.{Bits64, Bits32}
 use Rattle.program.specs.syntax.declared.operator.BinaryOperator.{BinaryOperator}
-use Rattle.program.specs.syntax.declared.operator.BinaryOperator.TheVariants.{Add, Subtract, Multiply, AddNoWrap, SubtractNoWrap, MultiplyNoWrap, SignedDivide}
-use Rattle.program.specs.syntax.declared.operator.BinaryOperator.TheVariants.{UnsignedDivide, SignedRemainder, UnsignedRemainder, ShiftLeft, LogicalShiftRight}
-use Rattle.program.specs.syntax.declared.operator.BinaryOperator.TheVariants.{ArithmeticShiftRight, And, Or, ExclusiveOr}
+use Rattle.program.specs.syntax.declared.operator.BinaryOperator.TheVariants.{Add, Subtract, Multiply, AddNoWrap}
+use Rattle.program.specs.syntax.declared.operator.BinaryOperator.TheVariants.{SubtractNoWrap, MultiplyNoWrap}
+use Rattle.program.specs.syntax.declared.operator.BinaryOperator.TheVariants.{SignedDivide}
+use Rattle.program.specs.syntax.declared.operator.BinaryOperator.TheVariants.{UnsignedDivide, SignedRemainder}
+use Rattle.program.specs.syntax.declared.operator.BinaryOperator.TheVariants.{UnsignedRemainder, ShiftLeft}
+use Rattle.program.specs.syntax.declared.operator.BinaryOperator.TheVariants.{LogicalShiftRight}
+use Rattle.program.specs.syntax.declared.operator.BinaryOperator.TheVariants.{ArithmeticShiftRight, And, Or}
+use Rattle.program.specs.syntax.declared.operator.BinaryOperator.TheVariants.{ExclusiveOr}
 use Rattle.program.specs.syntax.declared.operator.Predicate.{Predicate}
-use Rattle.program.specs.syntax.declared.operator.Predicate.TheVariants.{Equal, NotEqual, UnsignedGreater, UnsignedAtLeast, UnsignedLess, UnsignedAtMost, SignedGreater}
+use Rattle.program.specs.syntax.declared.operator.Predicate.TheVariants.{Equal, NotEqual, UnsignedGreater}
+use Rattle.program.specs.syntax.declared.operator.Predicate.TheVariants.{UnsignedAtLeast, UnsignedLess, UnsignedAtMost}
+use Rattle.program.specs.syntax.declared.operator.Predicate.TheVariants.{SignedGreater}
 use Rattle.program.specs.syntax.declared.operator.Predicate.TheVariants.{SignedAtLeast, SignedLess, SignedAtMost}
 use Rattle.program.specs.syntax.declared.operator.Conversion.{Conversion}
 use Rattle.program.specs.syntax.declared.operator.Conversion.TheVariants.{Truncate, SignExtend, ZeroExtend}
 
 -- why a run cannot go on
 pub data Trap : Type 0 where
-  -- a register or cell without value, a sum, difference or product past the width under nsw, a shift amount past the width
+  -- a register or cell without value, a sum, difference or product past the width under nsw, a shift amount past the
+  -- width
   Undefined : Trap
   -- an index outside its object
   BadIndex : Trap
   -- division by 0, or of the least value by -1
   BadDivisor : Trap
-  -- a reattach that is not of its task's detach, a ret inside a task, an end with a child left, a region of another task
+  -- a reattach that is not of its task's detach, a ret inside a task, an end with a child left, a region of another
+  -- task
   Unmatched : Trap
 
 pub data Answer : Type 0 where

@@ -2,7 +2,8 @@
 use Rattle.std.specs.Prelude.{ℕ, Bool, false, ◌&&◌, cond, eqb, nat_lt, Option, Some, None, ℤ, pos}
 use Rattle.semantics.specs.Paths.{Path, same_path}
 
--- a global by its number, or an alloca of the function's frame that owns it (LLVM Language Reference, "Global Variables" and "alloca")
+-- a global by its number, or an alloca of the function's frame that owns it (LLVM Language Reference, "Global
+-- Variables" and "alloca")
 pub data Object : Type 0 where
   Shared : (global : ℕ) → Object
   Local : (owner : Path) (alloca : ℕ) → Object

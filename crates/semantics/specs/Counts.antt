@@ -1,5 +1,6 @@
--- A count of living children for each frame and region, as the steps keep it: a detach adds one, a reattach takes one away (Tapir, PPoPP 2017,
--- section 5, keeps it in the frame). The state itself keeps no count; that it says the same is the law below.
+-- A count of living children for each frame and region, as the steps keep it: a detach adds one, a reattach takes one
+-- away (Tapir, PPoPP 2017, section 5, keeps it in the frame). The state itself keeps no count; that it says the same is
+-- the law below.
 use Rattle.std.specs.Prelude.{◌≡◌, ℕ, zero, suc, ◌≤◌, List, [], ◌∷◌, Option, Some, None, true, cond, ◌&&◌, eqb, ℤ}
 use Rattle.semantics.specs.Paths.{Path, same_path}
 use Rattle.semantics.specs.Cells.{Memory}
@@ -48,7 +49,8 @@ if_changed (Some c) after before = after
 
 abbrev pub counts_of_frame : Program → State → Path → Option Frame → Counts → Counts
 counts_of_frame prog s p None counts = counts
-counts_of_frame prog s p (Some f) counts = if_changed (change_of prog s p) (counts_after p (action_of prog p f s.memory) counts) counts
+counts_of_frame prog s p (Some f) counts =
+    if_changed (change_of prog s p) (counts_after p (action_of prog p f s.memory) counts) counts
 
 abbrev pub counts_of_hand : Program → State → Option Path → Counts → Counts
 counts_of_hand prog s None counts = counts
@@ -67,7 +69,8 @@ if_enabled (Some next) after before = after
 abbrev pub counts_along : Program → ℕ → List Event → Machine → Counts → Counts
 counts_along prog workers [] m counts = counts
 counts_along prog workers (e ∷ events) m counts =
-    counts_along prog workers events (or_unchanged (event prog workers e m) m) (if_enabled (event prog workers e m) (counts_by prog m e counts) counts)
+    counts_along prog workers events (or_unchanged (event prog workers e m) m)
+    (if_enabled (event prog workers e m) (counts_by prog m e counts) counts)
 
 -- the living children of the frame at a path that it detached within the region
 abbrev pub count_in : State → Path → Option Frame → ℕ → ℕ
@@ -80,10 +83,13 @@ count_of s p region = count_in s p (s.frames p) region
 -- the counts are those of living children, and a sync passes where its count is none
 pub record CountsChildren (counts : Counts) (s : State) : Type 0 where
   pub same : (p : Path) (region : ℕ) → counts p region ≡ count_of s p region
-  pub passes : (p : Path) (f : Frame) (region : ℕ) → s.frames p ≡ Some f → counts p region ≡ 0 → none_within s p f.made region ≡ true
-  pub stalls : (p : Path) (f : Frame) (region : ℕ) → s.frames p ≡ Some f → none_within s p f.made region ≡ true → counts p region ≡ 0
+  pub passes : (p : Path) (f : Frame) (region : ℕ) → s.frames p ≡ Some f → counts p region ≡ 0 →
+      none_within s p f.made region ≡ true
+  pub stalls : (p : Path) (f : Frame) (region : ℕ) → s.frames p ≡ Some f → none_within s p f.made region ≡ true →
+      counts p region ≡ 0
 
 abbrev pub RegionCounts : Type 0
 RegionCounts =
     (prog : Program) (arguments : List ℤ) (memory : Memory) (workers : ℕ) → 1 ≤ workers → (events : List Event) →
-    CountsChildren (counts_along prog workers events (start prog arguments memory) no_counts) (replay prog workers events (start prog arguments memory)).core
+    CountsChildren (counts_along prog workers events (start prog arguments memory) no_counts)
+    (replay prog workers events (start prog arguments memory)).core

@@ -1,10 +1,13 @@
 -- What one instruction does.
-use Rattle.std.specs.Prelude.{ℕ, suc, List, [], ◌∷◌, Bool, false, cond, ◌&&◌, eqb, nat_lt, Option, Some, None, ℤ, pos, int_lt, int_le, unsigned_abs}
+use Rattle.std.specs.Prelude.{ℕ, suc, List, [], ◌∷◌, Bool, false, cond, ◌&&◌, eqb, nat_lt, Option, Some, None, ℤ, pos}
+use Rattle.std.specs.Prelude.{int_lt, int_le, unsigned_abs}
 use Rattle.std.specs.Ordering.{int_eq}
 use Rattle.semantics.specs.Paths.{Path, same_path}
 use Rattle.semantics.specs.Cells.{Object, Local, Cell, same_object, same_cell, Memory}
-use Rattle.semantics.specs.Arithmetic.{Trap, Undefined, BadIndex, Unmatched, Answer, Gives, Traps, binary, compares, converts}
-use Rattle.semantics.specs.Frames.{Value, Word, Truth, Pointer, Region, Registers, Role, Child, Body, Frame, and_then, Item, Does, Ends, item_at, phis_at}
+use Rattle.semantics.specs.Arithmetic.{Trap, Undefined, BadIndex, Unmatched, Answer, Gives, Traps, binary, compares}
+use Rattle.semantics.specs.Arithmetic.{converts}
+use Rattle.semantics.specs.Frames.{Value, Word, Truth, Pointer, Region, Registers, Role, Child, Body, Frame, and_then}
+use Rattle.semantics.specs.Frames.{Item, Does, Ends, item_at, phis_at}
 use Rattle.semantics.specs.Frames.{cells_of, truth_of, region_of, set_register, word_at, object_at, first_cell, cell_at}
 use Rattle.program.specs.linear.declared.form.RegisterId.{RegisterId}
 use Rattle.program.specs.declared.function.Program.{Program}
@@ -19,8 +22,8 @@ use Rattle.program.specs.declared.instruction.Operand.{Operand}
 use Rattle.program.specs.declared.instruction.Argument.{Argument}
 use Rattle.program.specs.declared.instruction.Argument.TheVariants as argument
 
--- The frame's registers and place afterwards, and the cells that are read, written and added to. A trap leaves registers and place as they were;
--- what it read or would have added to still counts.
+-- The frame's registers and place afterwards, and the cells that are read, written and added to. A trap leaves
+-- registers and place as they were; what it read or would have added to still counts.
 pub record Effect : Type 0 where
   pub registers : Registers
   pub block : ℕ
@@ -53,10 +56,27 @@ abbrev pub no_adds : Cell → Option ℤ
 no_adds c = None
 
 abbrev pub stops : Trap → Frame → Effect
-stops t f = record { registers = f.registers; block = f.block; index = f.index; reads = no_cells; writes = no_writes; adds = no_adds; trap = Some t }
+stops t f = record {
+  registers = f.registers;
+  block = f.block;
+  index = f.index;
+  reads = no_cells;
+  writes = no_writes;
+  adds = no_adds;
+  trap = Some t;
+}
 
 abbrev pub goes_on : Frame → Effect
-goes_on f = record { registers = f.registers; block = f.block; index = suc f.index; reads = no_cells; writes = no_writes; adds = no_adds; trap = None }
+goes_on f = record {
+  registers = f.registers;
+  block = f.block;
+  index = suc f.index;
+  reads = no_cells;
+  writes =
+      no_writes;
+  adds = no_adds;
+  trap = None;
+}
 
 abbrev pub sets : Frame → RegisterId → Value → Effect
 sets f d v = record (goes_on f) { registers = set_register f.registers d v }
@@ -72,7 +92,9 @@ given f (Some a) next = next a
 
 -- LLVM Language Reference, "getelementptr", of cells in an object
 abbrev pub points : Frame → RegisterId → ℕ → Object → ℤ → Effect
-points f d cells o i = cond (int_le (pos 0) i && int_lt i (pos cells)) (sets f d (Pointer (record { object = o; index = unsigned_abs i }))) (stops BadIndex f)
+points f d cells o i =
+    cond (int_le (pos 0) i && int_lt i (pos cells)) (sets f d (Pointer (record { object = o; index = unsigned_abs i })))
+    (stops BadIndex f)
 
 -- LLVM Language Reference, "load"
 abbrev pub loads : Frame → RegisterId → Cell → Option ℤ → Effect
@@ -84,7 +106,11 @@ abbrev pub stores : Frame → Cell → ℤ → Effect
 stores f c z = record (goes_on f) { writes = λ x. cond (same_cell c x) (Some (Some z)) None }
 
 abbrev pub stores_zeros : Frame → ℕ → Object → Effect
-stores_zeros f cells o = record (goes_on f) { writes = λ x. cond (same_object o x.object && nat_lt x.index cells) (Some (Some (pos 0))) None }
+stores_zeros f cells o =
+    record (goes_on f) {
+      writes =
+          λ x. cond (same_object o x.object && nat_lt x.index cells) (Some (Some (pos 0))) None;
+    }
 
 -- LLVM Language Reference, "atomicrmw"
 abbrev pub adds_to : Frame → Cell → ℤ → Option ℤ → Effect
@@ -103,7 +129,8 @@ phi_value before from phi = and_then (entry_for from phi.entries) (word_at befor
 -- all at once: each value is one from before
 abbrev pub with_phis : Registers → ℕ → List Phi → Registers → Option Registers
 with_phis before from [] r = Some r
-with_phis before from (phi ∷ phis) r = and_then (phi_value before from phi) (λ z. with_phis before from phis (set_register r phi.register (Word z)))
+with_phis before from (phi ∷ phis) r =
+    and_then (phi_value before from phi) (λ z. with_phis before from phis (set_register r phi.register (Word z)))
 
 -- the registers of the frame at the start of a block that it goes to
 abbrev pub registers_along : Program → Frame → ℕ → Option Registers
@@ -139,7 +166,8 @@ syncs f region target (Some r) = Sync region target r
 -- a reattach names the region and the continuation of its task's detach
 abbrev pub reattaches : Frame → ℕ → ℕ → Role → Action
 reattaches f region continuation Body = traps Unmatched f
-reattaches f region continuation (Child r c) = cond (eqb r region && eqb c continuation) (Reattach region) (traps Unmatched f)
+reattaches f region continuation (Child r c) = cond (eqb r region && eqb c continuation) (Reattach region)
+    (traps Unmatched f)
 
 abbrev pub argument_value : Frame → Argument → Option Value
 argument_value f (argument.Number a) = and_then (word_at f.registers a) (λ z. Some (Word z))
@@ -147,7 +175,8 @@ argument_value f (argument.Object name) = and_then (object_at f name) (λ o. Som
 
 abbrev pub argument_values : Frame → List Argument → Option (List Value)
 argument_values f [] = Some []
-argument_values f (a ∷ more) = and_then (argument_value f a) (λ v. and_then (argument_values f more) (λ vs. Some (v ∷ vs)))
+argument_values f (a ∷ more) =
+    and_then (argument_value f a) (λ v. and_then (argument_values f more) (λ vs. Some (v ∷ vs)))
 
 abbrev pub calls : Frame → Option RegisterId → ℕ → Option (List Value) → Action
 calls f d callee None = traps Undefined f
@@ -168,14 +197,20 @@ abbrev pub instruction_action : Program → Path → Frame → Memory → Instru
 instruction_action prog p f m (instruction.Binary d op w a b) =
     Plain (given f (word_at f.registers a) (λ x. given f (word_at f.registers b) (λ y. answers f d (binary op w x y))))
 instruction_action prog p f m (instruction.Compare d by w a b) =
-    Plain (given f (word_at f.registers a) (λ x. given f (word_at f.registers b) (λ y. sets f d (Truth (compares by w x y)))))
-instruction_action prog p f m (instruction.Convert d by a) = Plain (given f (word_at f.registers a) (λ x. sets f d (Word (converts by x))))
+    Plain (given f (word_at f.registers a) (λ x. given f (word_at f.registers b)
+    (λ y. sets f d (Truth (compares by w x y)))))
+instruction_action prog p f m (instruction.Convert d by a) =
+    Plain (given f (word_at f.registers a) (λ x. sets f d (Word (converts by x))))
 instruction_action prog p f m (instruction.Alloca d a) = Plain (sets f d (Pointer (first_cell (Local f.home a.0))))
 instruction_action prog p f m (instruction.ElementPointer d name i) =
-    Plain (given f (object_at f name) (λ o. given f (word_at f.registers i) (points f d (cells_of prog f.function name) o)))
-instruction_action prog p f m (instruction.Load d address) = Plain (given f (cell_at f address) (λ c. loads f d c (m c)))
-instruction_action prog p f m (instruction.Store a address) = Plain (given f (cell_at f address) (λ c. given f (word_at f.registers a) (stores f c)))
-instruction_action prog p f m (instruction.StoreZeros cells name) = Plain (given f (object_at f name) (stores_zeros f cells))
+    Plain (given f (object_at f name) (λ o. given f (word_at f.registers i)
+    (points f d (cells_of prog f.function name) o)))
+instruction_action prog p f m (instruction.Load d address) =
+    Plain (given f (cell_at f address) (λ c. loads f d c (m c)))
+instruction_action prog p f m (instruction.Store a address) =
+    Plain (given f (cell_at f address) (λ c. given f (word_at f.registers a) (stores f c)))
+instruction_action prog p f m (instruction.StoreZeros cells name) =
+    Plain (given f (object_at f name) (stores_zeros f cells))
 instruction_action prog p f m (instruction.AtomicAdd address a) =
     Plain (given f (cell_at f address) (λ c. given f (word_at f.registers a) (λ z. adds_to f c z (m c))))
 instruction_action prog p f m (instruction.Call d callee arguments) = calls f d callee.0 (argument_values f arguments)
@@ -185,12 +220,15 @@ abbrev pub terminator_action : Program → Path → Frame → Terminator → Act
 terminator_action prog p f (terminator.Jump target) = Plain (jumps prog f target.0)
 terminator_action prog p f (terminator.Branch test when_true when_false) =
     Plain (given f (truth_of (f.registers test.0)) (λ b. jumps prog f (cond b when_true.0 when_false.0)))
-terminator_action prog p f (terminator.Switch w a default cases) = Plain (given f (word_at f.registers a) (λ z. jumps prog f (case_for z default.0 cases)))
+terminator_action prog p f (terminator.Switch w a default cases) =
+    Plain (given f (word_at f.registers a) (λ z. jumps prog f (case_for z default.0 cases)))
 terminator_action prog p f (terminator.Return None) = returns f f.role None
 terminator_action prog p f (terminator.Return (Some a)) = returns_value f (word_at f.registers a)
-terminator_action prog p f (terminator.Detach region body continuation) = within p f region (Detach region.0 body.0 continuation.0)
+terminator_action prog p f (terminator.Detach region body continuation) =
+    within p f region (Detach region.0 body.0 continuation.0)
 terminator_action prog p f (terminator.Reattach region continuation) = reattaches f region.0 continuation.0 f.role
-terminator_action prog p f (terminator.Sync region target) = within p f region (syncs f region.0 target.0 (registers_along prog f target.0))
+terminator_action prog p f (terminator.Sync region target) =
+    within p f region (syncs f region.0 target.0 (registers_along prog f target.0))
 
 abbrev pub item_action : Program → Path → Frame → Memory → Option Item → Action
 item_action prog p f m None = traps Unmatched f

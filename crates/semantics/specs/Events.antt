@@ -1,6 +1,8 @@
 -- Workers over the tree of frames: steps and steals (Blumofe and Leiserson, Journal of the ACM 46(5), 1999, section 3).
--- A task is a detached child's frame, or the root, with the frames called on top of it. It is named by its lowest frame's path.
-use Rattle.std.specs.Prelude.{ℕ, zero, suc, List, [], ◌∷◌, Option, Some, None, Bool, true, false, cond, ◌&&◌, eqb, ltb, is_none, ℤ}
+-- A task is a detached child's frame, or the root, with the frames called on top of it. It is named by its lowest
+-- frame's path.
+use Rattle.std.specs.Prelude.{ℕ, zero, suc, List, [], ◌∷◌, Option, Some, None, Bool, true, false, cond, ◌&&◌, eqb, ltb}
+use Rattle.std.specs.Prelude.{is_none, ℤ}
 use Rattle.semantics.specs.Paths.{Path, same_path}
 use Rattle.semantics.specs.Cells.{Memory}
 use Rattle.semantics.specs.Arithmetic.{Trap, Unmatched}
@@ -102,7 +104,8 @@ may_be_taken new k above region g Halted = false
 
 abbrev pub takes_parent : ℕ → Machine → State → ℕ → Path → ℕ → Option Frame → Option Path
 takes_parent workers m new k above region None = None
-takes_parent workers m new k above region (Some g) = unless_held (holder workers m.hands above) (may_be_taken new k above region g g.waits) above
+takes_parent workers m new k above region (Some g) =
+    unless_held (holder workers m.hands above) (may_be_taken new k above region g g.waits) above
 
 abbrev pub after_reattach : ℕ → Machine → State → Path → ℕ → Option Path
 after_reattach workers m new [] region = None
@@ -130,7 +133,8 @@ stepped m w c next = record { core = apply c m.core; hands = with_hand m.hands w
 -- an end with a child left traps
 abbrev pub by_change : Program → ℕ → Machine → ℕ → Path → Frame → Option Change → Machine
 by_change prog workers m w p f None = stepped m w (trap_change p f Unmatched) (Some p)
-by_change prog workers m w p f (Some c) = stepped m w c (next_hand workers m (apply c m.core) p f (action_of prog p f m.core.memory))
+by_change prog workers m w p f (Some c) =
+    stepped m w c (next_hand workers m (apply c m.core) p f (action_of prog p f m.core.memory))
 
 abbrev pub by_frame : Program → ℕ → Machine → ℕ → Path → Option Frame → Option Machine
 by_frame prog workers m w p None = None
@@ -156,7 +160,8 @@ stolen m w t = record m { hands = with_hand m.hands w (Some (top_of m.core t)) }
 -- one event of a machine that has not trapped; None where it is not enabled
 abbrev pub sound_event : Program → ℕ → Event → Machine → Option Machine
 sound_event prog workers (Step w) m = by_hand prog workers m w (m.hands w)
-sound_event prog workers (Steal w t) m = cond (ltb w workers && is_none (m.hands w)) (if_ready (stolen m w t) (status_of workers m t)) None
+sound_event prog workers (Steal w t) m =
+    cond (ltb w workers && is_none (m.hands w)) (if_ready (stolen m w t) (status_of workers m t)) None
 
 abbrev pub unless_trapped : Option Trap → Option Machine → Option Machine
 unless_trapped None next = next
@@ -167,4 +172,9 @@ event prog workers e m = unless_trapped m.trapped (sound_event prog workers e m)
 
 -- worker 0 runs the root, the others are idle
 abbrev pub start : Program → List ℤ → Memory → Machine
-start prog arguments memory = record { core = start_state prog arguments memory; hands = λ w. cond (eqb 0 w) (Some []) None; trapped = None }
+start prog arguments memory = record {
+  core = start_state prog arguments memory;
+  hands =
+      λ w. cond (eqb 0 w) (Some []) None;
+  trapped = None;
+}

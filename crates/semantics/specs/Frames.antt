@@ -82,7 +82,8 @@ abbrev pub block_at : Program → ℕ → ℕ → Option Block
 block_at prog function block = and_then (slice_get prog.functions function) (λ (f : Function). slice_get f.blocks block)
 
 abbrev pub item_at : Program → ℕ → ℕ → ℕ → Option Item
-item_at prog function block index = and_then (block_at prog function block) (λ (b : Block). item_of b.steps b.ending index)
+item_at prog function block index =
+    and_then (block_at prog function block) (λ (b : Block). item_of b.steps b.ending index)
 
 abbrev pub phis_at : Program → ℕ → ℕ → List Phi
 phis_at prog function block = block_phis (block_at prog function block)

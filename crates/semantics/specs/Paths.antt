@@ -1,8 +1,8 @@
 -- Where a frame stands in the tree of frames.
 use Rattle.std.specs.Prelude.{ℕ, List, [], ◌∷◌, Bool, true, false, ◌&&◌, eqb}
 
--- The calls and detaches of a frame are numbered together from 0. A path has the numbers from a frame up to the root, the frame's own first;
--- the root's is empty. It does not depend on the schedule.
+-- The calls and detaches of a frame are numbered together from 0. A path has the numbers from a frame up to the root,
+-- the frame's own first; the root's is empty. It does not depend on the schedule.
 abbrev pub Path : Type 0
 Path = List ℕ
 

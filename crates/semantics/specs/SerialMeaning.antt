@@ -1,11 +1,13 @@
--- The serial meaning: a detach is its child's whole meaning and then the continuation's (Tapir, PPoPP 2017, section 3, "serial elision").
+-- The serial meaning: a detach is its child's whole meaning and then the continuation's (Tapir, PPoPP 2017, section 3,
+-- "serial elision").
 use Rattle.std.specs.Prelude.{◌≡◌, ℕ, zero, suc, ◌+◌, max, List, ◌∷◌, [], Option, Some, None, ℤ}
 use Rattle.semantics.specs.Paths.{Path}
 use Rattle.semantics.specs.Cells.{Memory, globals_of}
 use Rattle.semantics.specs.Arithmetic.{Trap}
 use Rattle.semantics.specs.Frames.{Frame}
 use Rattle.semantics.specs.Effect.{Effect, Action, Plain, Detach, Reattach, Sync, Call, Return, action_of}
-use Rattle.semantics.specs.State.{override, added, clears, went, detached, continued, synced, called, waiting, resumed, root_frame}
+use Rattle.semantics.specs.State.{override, added, clears, went, detached, continued, synced, called, waiting, resumed}
+use Rattle.semantics.specs.State.{root_frame}
 use Rattle.program.specs.linear.declared.form.RegisterId.{RegisterId}
 use Rattle.program.specs.declared.function.Program.{Program}
 
@@ -36,7 +38,13 @@ one_more o = record o { count = suc o.count }
 
 -- a child or callee and then the rest
 abbrev pub both_outcomes : Outcome → Outcome → Outcome
-both_outcomes o u = record { ending = u.ending; memory = u.memory; count = suc (o.count + u.count); depth = max (suc o.depth) u.depth }
+both_outcomes o u = record {
+  ending = u.ending;
+  memory = u.memory;
+  count = suc (o.count + u.count);
+  depth =
+      max (suc o.depth) u.depth;
+}
 
 abbrev pub at_last : Ending → Memory → Outcome
 at_last ending m = record { ending = ending; memory = m; count = 1; depth = 1 }
@@ -78,10 +86,12 @@ by_action rest p f m (Detach region body continuation) =
     after_child rest p (continued f continuation) (rest (f.made ∷ p) (detached f region body continuation) m)
 by_action rest p f m (Reattach region) = last Left m
 by_action rest p f m (Sync region block r) = counted (rest p (synced f region block r) m)
-by_action rest p f m (Call d callee values) = after_call rest p (waiting f d) d (rest (f.made ∷ p) (called p f callee values) m)
+by_action rest p f m (Call d callee values) =
+    after_call rest p (waiting f d) d (rest (f.made ∷ p) (called p f callee values) m)
 by_action rest p f m (Return result) = last (Gave result) (cleared p m)
 
--- the rest of the frame at a path from this memory on, if it ends without a trap within so many instructions one after another
+-- the rest of the frame at a path from this memory on, if it ends without a trap within so many instructions one after
+-- another
 abbrev pub meaning : Program → ℕ → Rest
 meaning prog zero p f m = None
 meaning prog (suc n) p f m = by_action (meaning prog n) p f m (action_of prog p f m)

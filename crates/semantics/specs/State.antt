@@ -1,11 +1,14 @@
 -- The tree of frames with its memory, and a step of one frame. Workers stand above it.
-use Rattle.std.specs.Prelude.{ℕ, zero, suc, ◌+◌, max, List, [], ◌∷◌, length, Option, Some, None, Bool, true, false, cond, ◌&&◌, not, eqb, is_none, ℤ, slice_get}
+use Rattle.std.specs.Prelude.{ℕ, zero, suc, ◌+◌, max, List, [], ◌∷◌, length, Option, Some, None, Bool, true, false}
+use Rattle.std.specs.Prelude.{cond, ◌&&◌, not, eqb, is_none, ℤ, slice_get}
 use Rattle.std.specs.Prelude.{map}
 use Rattle.semantics.specs.Paths.{Path, same_path}
 use Rattle.semantics.specs.Cells.{Cell, Memory, globals_of, owns}
 use Rattle.semantics.specs.Arithmetic.{Trap, cell_sum}
-use Rattle.semantics.specs.Frames.{Value, Word, Registers, Wait, Free, OnRegion, OnCall, Halted, Role, Child, Body, Frame, set_register}
-use Rattle.semantics.specs.Effect.{Effect, Action, Plain, Detach, Reattach, Sync, Call, Return, no_cells, no_writes, no_adds, action_of}
+use Rattle.semantics.specs.Frames.{Value, Word, Registers, Wait, Free, OnRegion, OnCall, Halted, Role, Child, Body}
+use Rattle.semantics.specs.Frames.{Frame, set_register}
+use Rattle.semantics.specs.Effect.{Effect, Action, Plain, Detach, Reattach, Sync, Call, Return, no_cells, no_writes}
+use Rattle.semantics.specs.Effect.{no_adds, action_of}
 use Rattle.program.specs.linear.declared.form.RegisterId.{RegisterId}
 use Rattle.program.specs.declared.function.Program.{Program}
 
@@ -20,8 +23,8 @@ pub record State : Type 0 where
   -- what the root returned
   pub result : Option ℤ
 
--- What one step changes: frames (Some None: removed), cells written, cells added to, the depth of a new frame, and the root's result.
--- reads says what it looked at.
+-- What one step changes: frames (Some None: removed), cells written, cells added to, the depth of a new frame, and the
+-- root's result. reads says what it looked at.
 pub record Change : Type 0 where
   pub frames : Path → Option (Option Frame)
   pub reads : Cell → Bool
@@ -72,7 +75,17 @@ went f e = record f { block = e.block; index = e.index; registers = e.registers;
 -- the child begins with its parent's registers
 abbrev pub detached : Frame → ℕ → ℕ → ℕ → Frame
 detached f region body continuation =
-    record { function = f.function; block = body; index = 0; registers = f.registers; made = 0; waits = Free; role = Child region continuation; home = f.home }
+    record {
+      function = f.function;
+      block = body;
+      index = 0;
+      registers = f.registers;
+      made = 0;
+      waits = Free;
+      role =
+          Child region continuation;
+      home = f.home;
+    }
 
 abbrev pub continued : Frame → ℕ → Frame
 continued f continuation = record f { block = continuation; index = 0; made = suc f.made; waits = Free }
@@ -83,7 +96,16 @@ synced f region block r = record f { block = block; index = 0; registers = r; wa
 -- the parameters are the registers from 0 on
 abbrev pub called : Path → Frame → ℕ → List Value → Frame
 called p f callee values =
-    record { function = callee; block = 0; index = 0; registers = slice_get values; made = 0; waits = Free; role = Body; home = f.made ∷ p }
+    record {
+      function = callee;
+      block = 0;
+      index = 0;
+      registers = slice_get values;
+      made = 0;
+      waits = Free;
+      role = Body;
+      home = f.made ∷ p;
+    }
 
 abbrev pub waiting : Frame → Option RegisterId → Frame
 waiting f d = record f { index = suc f.index; made = suc f.made; waits = OnCall f.made d }
@@ -108,7 +130,16 @@ abbrev pub both : Path → Option Frame → Path → Option Frame → Path → O
 both p f q g x = cond (same_path p x) (Some f) (cond (same_path q x) (Some g) None)
 
 abbrev pub frame_change : (Path → Option (Option Frame)) → ℕ → Change
-frame_change frames depth = record { frames = frames; reads = no_cells; writes = no_writes; adds = no_adds; depth = depth; result = None; trap = None }
+frame_change frames depth = record {
+  frames = frames;
+  reads = no_cells;
+  writes = no_writes;
+  adds = no_adds;
+  depth =
+      depth;
+  result = None;
+  trap = None;
+}
 
 abbrev pub plain_change : Path → Frame → Effect → Change
 plain_change p f e =
@@ -124,7 +155,8 @@ plain_change p f e =
 
 abbrev pub detach_change : Path → Frame → ℕ → ℕ → ℕ → Change
 detach_change p f region body continuation =
-    frame_change (both p (Some (continued f continuation)) (f.made ∷ p) (Some (detached f region body continuation))) (length p + 2)
+    frame_change (both p (Some (continued f continuation)) (f.made ∷ p) (Some (detached f region body continuation)))
+    (length p + 2)
 
 abbrev pub reattach_change : Path → Change
 reattach_change p = frame_change (only p None) 0
@@ -133,14 +165,18 @@ abbrev pub sync_change : Path → Frame → ℕ → ℕ → Registers → Change
 sync_change p f region block r = frame_change (only p (Some (synced f region block r))) 0
 
 abbrev pub call_change : Path → Frame → Option RegisterId → ℕ → List Value → Change
-call_change p f d callee values = frame_change (both p (Some (waiting f d)) (f.made ∷ p) (Some (called p f callee values))) (length p + 2)
+call_change p f d callee values =
+    frame_change (both p (Some (waiting f d)) (f.made ∷ p) (Some (called p f callee values))) (length p + 2)
 
 -- the allocas of a frame that goes are gone with it
 abbrev pub clears : Path → Cell → Option (Option ℤ)
 clears p x = cond (owns p x.object) (Some None) None
 
 abbrev pub return_change : Path → Path → Frame → Option RegisterId → Option ℤ → Change
-return_change p above g d result = record (frame_change (both p None above (Some (resumed g d result))) 0) { writes = clears p }
+return_change p above g d result = record (frame_change (both p None above (Some (resumed g d result))) 0) {
+  writes =
+      clears p;
+}
 
 abbrev pub end_change : Path → Option ℤ → Change
 end_change p result = record (frame_change (only p None) 0) { writes = clears p; result = result }
@@ -230,11 +266,18 @@ root_frame prog arguments =
 -- the root frame alone, with the globals as they are given; no alloca is defined
 abbrev pub start_state : Program → List ℤ → Memory → State
 start_state prog arguments memory =
-    record { frames = λ p. cond (same_path [] p) (Some (root_frame prog arguments)) None; memory = globals_of memory; done = 0; peak = 1; result = None }
+    record {
+      frames = λ p. cond (same_path [] p) (Some (root_frame prog arguments)) None;
+      memory = globals_of memory;
+      done = 0;
+      peak = 1;
+      result = None;
+    }
 
 -- ---- what is seen of it
 
 -- living children that the frame at p detached within the region
 abbrev pub children_within : State → Path → ℕ → ℕ → ℕ
 children_within s p zero region = 0
-children_within s p (suc k) region = cond (outside region (s.frames (k ∷ p))) (children_within s p k region) (suc (children_within s p k region))
+children_within s p (suc k) region = cond (outside region (s.frames (k ∷ p))) (children_within s p k region)
+    (suc (children_within s p k region))

@@ -1,4 +1,5 @@
--- Tasks part the living frames. A task is a detached child's frame, or the root, with the frames called on top of it, and is named by its lowest frame.
+-- Tasks part the living frames. A task is a detached child's frame, or the root, with the frames called on top of it,
+-- and is named by its lowest frame.
 use Rattle.std.specs.Prelude.{◌≡◌, ℕ, suc, ◌≤◌, List, ◌∷◌, Some, None, true, ℤ}
 use Rattle.semantics.specs.Paths.{Path, Under}
 use Rattle.semantics.specs.Cells.{Memory}
@@ -11,7 +12,8 @@ use Rattle.program.specs.declared.function.Program.{Program}
 -- the frame at a path is the task's lowest one, or was called by a frame of the task
 pub data OnTask (s : State) (t : Path) : Path → Type 0 where
   is_lowest : is_task t (s.frames t) ≡ true → OnTask s t t
-  is_called : (k : ℕ) {p : Path} (f : Frame) → OnTask s t p → s.frames (k ∷ p) ≡ Some f → f.role ≡ Body → OnTask s t (k ∷ p)
+  is_called : (k : ℕ) {p : Path} (f : Frame) → OnTask s t p → s.frames (k ∷ p) ≡ Some f → f.role ≡ Body →
+      OnTask s t (k ∷ p)
 
 -- the last child that the frame at a path made was detached, and lives
 pub record NewestChildLives (s : State) (p : Path) : Type 0 where
@@ -30,10 +32,13 @@ pub record PartIntoTasks (workers : ℕ) (m : Machine) : Type 0 where
   -- all frames of a task are on the way down to its top frame, which is one of them
   pub top : (t p : Path) → OnTask m.core t p → OnTask m.core t (top_of m.core t) × Under p (top_of m.core t)
   -- until a step traps each task runs, or is ready or stalled
-  pub status : m.trapped ≡ None → (t : Path) → is_task t (m.core.frames t) ≡ true → (x : Status) × (status_of workers m t ≡ Some x)
+  pub status : m.trapped ≡ None → (t : Path) → is_task t (m.core.frames t) ≡ true → (x : Status) ×
+      (status_of workers m t ≡ Some x)
   -- a task that is ready may go on beside its top frame's newest child
-  pub ready : m.trapped ≡ None → (t : Path) → status_of workers m t ≡ Some Ready → NewestChildLives m.core (top_of m.core t)
+  pub ready : m.trapped ≡ None → (t : Path) → status_of workers m t ≡ Some Ready →
+      NewestChildLives m.core (top_of m.core t)
 
 abbrev pub FramesOnTasks : Type 0
-FramesOnTasks = (prog : Program) (arguments : List ℤ) (memory : Memory) (workers : ℕ) → 1 ≤ workers → (events : List Event) →
+FramesOnTasks = (prog : Program) (arguments : List ℤ) (memory : Memory) (workers : ℕ) → 1 ≤ workers →
+    (events : List Event) →
     PartIntoTasks workers (replay prog workers events (start prog arguments memory))

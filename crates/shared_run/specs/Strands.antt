@@ -1,26 +1,6 @@
 -- A worker's strand, and what the calls of a board do with it.
-use Rattle.std.specs.Prelude.{
-  ◌≡◌,
-  ◌≢◌,
-  ◌≤◌,
-  ◌↔◌,
-  ◌+◌,
-  ⊤,
-  ℕ,
-  ℤ,
-  ◌++◌,
-  min,
-  replicate,
-  IsSome,
-  Option,
-  Some,
-  None,
-  Bool,
-  true,
-  false,
-  List,
-  reverse,
-}
+use Rattle.std.specs.Prelude.{◌≡◌, ◌≢◌, ◌≤◌, ◌↔◌, ◌+◌, ⊤, ℕ, ℤ, ◌++◌, min, replicate, IsSome, Option, Some, None, Bool}
+use Rattle.std.specs.Prelude.{true, false, List, reverse}
 use Rattle.program.specs.declared.function.Program.{Program}
 use Rattle.program.specs.declared.instruction.Terminator.TheVariants as terminator
 use Rattle.semantics.specs.Frames.{Item, Does, Ends}

@@ -7,7 +7,8 @@ use Rattle.store.specs.Rows.{sizes_of}
 
 -- each cell that the program's globals declare is there
 abbrev pub HasGlobalCells : Program → List NamedCells → Type 0
-HasGlobalCells program memory = (g i : ℕ) (global : Global) → slice_get program.globals g ≡ Some global → i < global.cells → IsSome (cell_at memory g i)
+HasGlobalCells program memory = (g i : ℕ) (global : Global) → slice_get program.globals g ≡ Some global →
+    i < global.cells → IsSome (cell_at memory g i)
 
 -- there are as many globals as the program declares, each with just its cells
 abbrev pub IsMadeFor : Program → List NamedCells → Type 0

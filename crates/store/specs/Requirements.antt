@@ -1,5 +1,6 @@
 -- Whether arguments are those that a program takes.
-use Rattle.std.specs.Prelude.{ℕ, suc, ◌^◌, List, [], ◌∷◌, length, position, Option, Some, None, Bool, false, cond, not, eqb, nat_lt, ℤ, pos, negsuc}
+use Rattle.std.specs.Prelude.{ℕ, suc, ◌^◌, List, [], ◌∷◌, length, position, Option, Some, None, Bool, false, cond, not}
+use Rattle.std.specs.Prelude.{eqb, nat_lt, ℤ, pos, negsuc}
 use Rattle.std.specs.Prelude.{◌+ℤ◌, ◌*ℤ◌, int_le, slice_get}
 use Rattle.std.specs.Option.{option_map}
 use Rattle.semantics.specs.Frames.{and_then}
@@ -18,7 +19,8 @@ abbrev pub wide : ℤ → Option ℤ
 wide z = cond (nat_lt (size z) (2 ^ 127)) (Some z) None
 
 abbrev pub with_term : List ℤ → ℤ → Term → Option ℤ
-with_term arguments sum t = and_then (slice_get arguments t.register.0) (λ a. and_then (wide (t.coefficient *ℤ a)) (λ x. wide (sum +ℤ x)))
+with_term arguments sum t =
+    and_then (slice_get arguments t.register.0) (λ a. and_then (wide (t.coefficient *ℤ a)) (λ x. wide (sum +ℤ x)))
 
 abbrev pub with_terms : List ℤ → ℤ → List Term → Option ℤ
 with_terms arguments sum [] = Some sum
@@ -39,7 +41,8 @@ is_met arguments r = at_most (value_at arguments r.low) (value_at arguments r.hi
 abbrev pub unmet_of : List ℤ → Option Function → Option ℕ
 unmet_of arguments None = Some 0
 unmet_of arguments (Some main) =
-    cond (eqb (length main.parameters) (length arguments)) (option_map (λ k. suc k) (position (λ r. not (is_met arguments r)) main.requirements)) (Some 0)
+    cond (eqb (length main.parameters) (length arguments))
+    (option_map (λ k. suc k) (position (λ r. not (is_met arguments r)) main.requirements)) (Some 0)
 
 -- 0 for a wrong number of arguments of main, else its first requirement that they do not meet, counted from 1
 abbrev pub unmet_in : Program → List ℤ → Option ℕ

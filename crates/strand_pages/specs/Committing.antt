@@ -12,7 +12,8 @@ PageAgrees p row = (k : ℕ) (v : ℤ) → k < 64 → p.reads k ≡ Some v → s
 
 -- the same of the places from one on and before another
 abbrev pub AgreesWithin : Kept → ℕ → ℕ → List ℤ → Type 0
-AgreesWithin p from end row = (k : ℕ) (v : ℤ) → from ≤ k → k < end → p.reads k ≡ Some v → slice_get row (p.number * 64 + k) ≡ Some v
+AgreesWithin p from end row = (k : ℕ) (v : ℤ) → from ≤ k → k < end → p.reads k ≡ Some v →
+    slice_get row (p.number * 64 + k) ≡ Some v
 
 -- some cell that was read holds something else now
 pub record PageDiffers (p : Kept) (row : List ℤ) : Type 0 where
@@ -25,12 +26,14 @@ pub record PageDiffers (p : Kept) (row : List ℤ) : Type 0 where
 -- what is kept of the places from one on and before another is put, and nothing else
 pub record ArePut (p : Kept) (from end : ℕ) (old new : List ℤ) : Type 0 where
   pub long : length new ≡ length old
-  pub here : (k : ℕ) → from ≤ k → k < end → slice_get new (p.number * 64 + k) ≡ put_change (p.writes k) (slice_get old (p.number * 64 + k))
+  pub here : (k : ℕ) → from ≤ k → k < end →
+      slice_get new (p.number * 64 + k) ≡ put_change (p.writes k) (slice_get old (p.number * 64 + k))
   pub others : (i : ℕ) → ((k : ℕ) → from ≤ k → k < end → i ≢ p.number * 64 + k) → slice_get new i ≡ slice_get old i
 
 pub record PageIsPut (p : Kept) (old new : List ℤ) : Type 0 where
   pub long : length new ≡ length old
-  pub here : (k : ℕ) → k < 64 → slice_get new (p.number * 64 + k) ≡ put_change (p.writes k) (slice_get old (p.number * 64 + k))
+  pub here : (k : ℕ) → k < 64 →
+      slice_get new (p.number * 64 + k) ≡ put_change (p.writes k) (slice_get old (p.number * 64 + k))
   pub others : (i : ℕ) → i / 64 ≢ p.number → slice_get new i ≡ slice_get old i
 
 -- ---- a log

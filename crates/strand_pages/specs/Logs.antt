@@ -1,5 +1,6 @@
 -- What a log shows, by addresses.
-use Rattle.std.specs.Prelude.{◌≡◌, ◌+◌, ◌*◌, ◌/◌, ◌%◌, ℕ, suc, ℤ, pos, negsuc, Bool, true, false, cond, ◌&&◌, ◌||◌, nat_eq, nat_lt, min, List, [], take, drop, Option, Some, None, slice_get}
+use Rattle.std.specs.Prelude.{◌≡◌, ◌+◌, ◌*◌, ◌/◌, ◌%◌, ℕ, suc, ℤ, pos, negsuc, Bool, true, false, cond, ◌&&◌, ◌||◌}
+use Rattle.std.specs.Prelude.{nat_eq, nat_lt, min, List, [], take, drop, Option, Some, None, slice_get}
 use Rattle.std.specs.Int.{w64, cast_unsigned}
 use Rattle.frame_strand.specs.declared.cells.Change.{Change}
 use Rattle.strand_pages.specs.Known.{at_address, at_place, first_of, read_after, settled_change, value_of}
@@ -15,7 +16,15 @@ pub record Log : Type 0 where
   pub writes : ℤ → Option Change
 
 abbrev pub empty_log : ℕ → Log
-empty_log pages = record { pages = pages; used = 0; has_page = λ n. false; near = λ a. None; reads = λ a. None; writes = λ a. None }
+empty_log pages = record {
+  pages = pages;
+  used = 0;
+  has_page = λ n. false;
+  near = λ a. None;
+  reads = λ a. None;
+  writes =
+      λ a. None;
+}
 
 -- the pages of so many cells; addresses are numbers of 64 bits
 abbrev pub pages_of : ℕ → ℕ
@@ -77,7 +86,8 @@ same_page (negsuc m) b = false
 
 -- the page of the address holds these values, as far as none were at hand
 abbrev pub with_values : Log → ℤ → List ℤ → Log
-with_values x a values = record x { near = λ b. cond (same_page a b) (first_of (x.near b) (slice_get values (place_of b))) (x.near b) }
+with_values x a values =
+    record x { near = λ b. cond (same_page a b) (first_of (x.near b) (slice_get values (place_of b))) (x.near b) }
 
 abbrev pub filled_log : Log → ℤ → List ℤ → Log
 filled_log x a values = with_values (with_page x a) a values

@@ -28,4 +28,10 @@ abbrev pub writes_by : ℕ → ℕ → List ℤ → ℕ → Option Change
 writes_by stored delta changes k = change_by (is_set stored k) (is_set delta k) (number_at changes k)
 
 abbrev pub kept_of : Page → Kept
-kept_of x = record { number = x.number; near = near_by x.filled x.values; reads = reads_by x.read x.values; writes = writes_by x.stored x.delta x.changes }
+kept_of x = record {
+  number = x.number;
+  near = near_by x.filled x.values;
+  reads = reads_by x.read x.values;
+  writes =
+      writes_by x.stored x.delta x.changes;
+}

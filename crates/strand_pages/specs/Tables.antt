@@ -1,5 +1,6 @@
 -- How a log keeps it.
-use Rattle.std.specs.Prelude.{◌≡◌, ◌<◌, ◌≤◌, ◌/◌, ℕ, zero, suc, ℤ, pos, negsuc, List, Option, Some, None, length, nat_lt, slice_get, slice_index}
+use Rattle.std.specs.Prelude.{◌≡◌, ◌<◌, ◌≤◌, ◌/◌, ℕ, zero, suc, ℤ, pos, negsuc, List, Option, Some, None, length}
+use Rattle.std.specs.Prelude.{nat_lt, slice_get, slice_index}
 use Rattle.std.specs.Option.{option_and_then}
 use Rattle.strand_pages.specs.Logs.{Log, place_of}
 use Rattle.strand_pages.specs.Pages.{Kept}

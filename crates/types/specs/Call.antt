@@ -1,5 +1,6 @@
 -- Calls: their callee, their arguments, and which pointers may be passed.
-use Rattle.std.specs.Prelude.{ℕ, nat_eq, nat_le, Bool, true, false, ◌&&◌, not, List, [], ◌∷◌, length, slice_get, slice_index_or, Option, Some, None}
+use Rattle.std.specs.Prelude.{ℕ, nat_eq, nat_le, Bool, true, false, ◌&&◌, not, List, [], ◌∷◌, length, slice_get}
+use Rattle.std.specs.Prelude.{slice_index_or, Option, Some, None}
 use Rattle.std.specs.Prelude.{Result, Ok, Err}
 use Rattle.std.specs.List.{list_any}
 use Rattle.std.specs.Option.{option_map}
@@ -69,7 +70,8 @@ fits_extent cells (Some (parameter.Pointer extent)) = nat_le extent cells
 -- an argument for a parameter: 202 where they differ, 204 where the object is too short
 abbrev pub argument_of : Items → Scope → ℕ → Option Parameter → ArgumentText → Result Argument TypeFault
 argument_of items scope line parameter (text.Number value) =
-    and_then (operand_of scope line Bits64 value) (λ v. made_of (λ _. argument.Number v) (unless_of (takes_number parameter) (breaks 202 line)))
+    and_then (operand_of scope line Bits64 value)
+    (λ v. made_of (λ _. argument.Number v) (unless_of (takes_number parameter) (breaks 202 line)))
 argument_of items scope line parameter (text.Pointer address) =
     and_then (both_of (object_of items scope line address) (unless_of (takes_object parameter) (breaks 202 line))) (λ p.
     made_of (λ _. argument.Object p.0.name) (unless_of (fits_extent p.0.cells parameter) (breaks 204 line)))
@@ -120,14 +122,16 @@ is_any_named None arguments = false
 is_any_named (Some named) arguments = list_any (is_named_below named) arguments
 
 -- the arguments of a call of a known function: 202 where the results differ, 203 where the counts do
-abbrev pub fitting_arguments : Items → Scope → ℕ → Bool → FunctionText → List ArgumentText → Result (List Argument) TypeFault
+abbrev pub fitting_arguments : Items → Scope → ℕ → Bool → FunctionText → List ArgumentText →
+    Result (List Argument) TypeFault
 fitting_arguments items scope line has_result callee arguments =
     made_of (λ p. p.0)
     (both_of (arguments_of items scope line callee.parameters arguments)
     (both_of (unless_of (fits_result has_result callee.result_type) (breaks 202 line))
     (unless_of (nat_eq (length arguments) (length callee.parameters)) (breaks 203 line))))
 
--- which pointers may be passed: 204 where two are one object or a global is named below; 205 where the callee stands below
+-- which pointers may be passed: 204 where two are one object or a global is named below; 205 where the callee stands
+-- below
 abbrev pub passed_call : Named → ℕ → ℕ → FunctionId → List Argument → Result ResolvedCall TypeFault
 passed_call named caller line id arguments =
     and_then (unless_of (are_distinct arguments) (breaks 204 line)) (λ _.
@@ -135,7 +139,8 @@ passed_call named caller line id arguments =
     made_of (λ _. record { callee = id; arguments = arguments }) (unless_of (nat_le id.0 caller) (breaks 205 line))))
 
 -- a call of a known function
-abbrev pub known_call : Items → Named → Scope → ℕ → ℕ → Bool → FunctionId → FunctionText → List ArgumentText → Result ResolvedCall TypeFault
+abbrev pub known_call : Items → Named → Scope → ℕ → ℕ → Bool → FunctionId → FunctionText → List ArgumentText →
+    Result ResolvedCall TypeFault
 known_call items named scope caller line has_result id callee arguments =
     and_then (fitting_arguments items scope line has_result callee arguments) (passed_call named caller line id)
 
@@ -145,16 +150,21 @@ refused_call items scope line arguments fault =
     let refused : Result (Unit {0}) TypeFault = Err fault in
     and_then (both_of (arguments_of items scope line [] arguments) refused) (λ _. Err fault)
 
-abbrev pub found_call : Items → Named → Scope → ℕ → ℕ → Bool → FunctionId → Option FunctionText → List ArgumentText → Result ResolvedCall TypeFault
+abbrev pub found_call : Items → Named → Scope → ℕ → ℕ → Bool → FunctionId → Option FunctionText → List ArgumentText →
+    Result ResolvedCall TypeFault
 found_call items named scope caller line has_result id None arguments = Err (breaks 201 line)
-found_call items named scope caller line has_result id (Some callee) arguments = known_call items named scope caller line has_result id callee arguments
+found_call items named scope caller line has_result id (Some callee) arguments =
+    known_call items named scope caller line has_result id callee arguments
 
-abbrev pub called : Items → List FunctionText → Named → Scope → ℕ → ℕ → Bool → Result FunctionId TypeFault → List ArgumentText → Result ResolvedCall TypeFault
-called items functions named scope caller line has_result (Err fault) arguments = refused_call items scope line arguments fault
+abbrev pub called : Items → List FunctionText → Named → Scope → ℕ → ℕ → Bool → Result FunctionId TypeFault →
+    List ArgumentText → Result ResolvedCall TypeFault
+called items functions named scope caller line has_result (Err fault) arguments =
+    refused_call items scope line arguments fault
 called items functions named scope caller line has_result (Ok id) arguments =
     found_call items named scope caller line has_result id (slice_get functions id.0) arguments
 
 -- a call from the function at this place
-abbrev pub call_of : Items → List FunctionText → Named → Scope → ℕ → ℕ → Bool → List ℕ → List ArgumentText → Result ResolvedCall TypeFault
+abbrev pub call_of : Items → List FunctionText → Named → Scope → ℕ → ℕ → Bool → List ℕ → List ArgumentText →
+    Result ResolvedCall TypeFault
 call_of items functions named scope caller line has_result callee arguments =
     called items functions named scope caller line has_result (as_function line (look_up items callee)) arguments

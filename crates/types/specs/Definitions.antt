@@ -36,8 +36,10 @@ DefinesFrom n (instruction.StartRegion register) = n ≤ register.0
 
 -- no phi and no instruction of the program defines a parameter, which are the first registers of a function
 pub record KeepsParameters (functions : List Function) : Type 0 where
-  pub by_instructions : (f b s : ℕ) (what : Instruction) → IsInstructionAt functions f b s what → DefinesFrom (parameters_at functions f) what
-  pub by_phis : (f b i : ℕ) (block : Block) (phi : Phi) → IsBlockAt functions f b block → slice_get block.phis i ≡ Some phi
+  pub by_instructions : (f b s : ℕ) (what : Instruction) → IsInstructionAt functions f b s what →
+      DefinesFrom (parameters_at functions f) what
+  pub by_phis : (f b i : ℕ) (block : Block) (phi : Phi) → IsBlockAt functions f b block →
+      slice_get block.phis i ≡ Some phi
       → parameters_at functions f ≤ phi.register.0
 
 -- ---- of a text
@@ -48,7 +50,8 @@ parameter_name (parameter.Pointer name cells) = name
 
 -- a parameter of the function has this name
 abbrev pub IsParameterName : List ParameterText → List ℕ → Type 0
-IsParameterName parameters name = (i : ℕ) × (one : ParameterText) × (slice_get parameters i ≡ Some one) × (parameter_name one ≡ name)
+IsParameterName parameters name = (i : ℕ) × (one : ParameterText) × (slice_get parameters i ≡ Some one) ×
+    (parameter_name one ≡ name)
 
 -- the name that an instruction defines, if it defines one
 abbrev pub defined_name : InstructionText → Option (List ℕ)
@@ -66,11 +69,14 @@ defined_name (text.StartRegion register) = Some register
 
 -- no phi and no instruction of the function defines the name of a parameter again
 pub record DefinesAnew (function : FunctionText) : Type 0 where
-  pub by_phis : (b i : ℕ) (block : BlockText) (phi : PhiText) → slice_get function.blocks b ≡ Some block → slice_get block.phis i ≡ Some phi
+  pub by_phis : (b i : ℕ) (block : BlockText) (phi : PhiText) → slice_get function.blocks b ≡ Some block →
+      slice_get block.phis i ≡ Some phi
       → IsParameterName function.parameters phi.register → ⊥
-  pub by_instructions : (b s : ℕ) (block : BlockText) (step : StepText) (name : List ℕ) → slice_get function.blocks b ≡ Some block
+  pub by_instructions : (b s : ℕ) (block : BlockText) (step : StepText) (name : List ℕ) →
+      slice_get function.blocks b ≡ Some block
       → slice_get block.steps s ≡ Some step →
       defined_name step.instruction ≡ Some name → IsParameterName function.parameters name → ⊥
 
 abbrev pub EachDefinesAnew : List FunctionText → Type 0
-EachDefinesAnew functions = (f : ℕ) (function : FunctionText) → slice_get functions f ≡ Some function → DefinesAnew function
+EachDefinesAnew functions = (f : ℕ) (function : FunctionText) → slice_get functions f ≡ Some function →
+    DefinesAnew function

@@ -56,15 +56,19 @@ phi_of scope phi =
 abbrev pub phis_of : Scope → List PhiText → Result (List Phi) TypeFault
 phis_of scope phis = all_of (λ _. phi_of scope) phis
 
-abbrev pub binary_of : Scope → ℕ → List ℕ → BinaryOperator → Width → OperandText → OperandText → Result Instruction TypeFault
+abbrev pub binary_of : Scope → ℕ → List ℕ → BinaryOperator → Width → OperandText → OperandText →
+    Result Instruction TypeFault
 binary_of scope line register operator width left right =
     made_of (λ p. instruction.Binary p.0 operator width p.1.0 p.1.1)
-    (both_of (defined_of scope line register) (both_of (operand_of scope line width left) (operand_of scope line width right)))
+    (both_of (defined_of scope line register) (both_of (operand_of scope line width left)
+    (operand_of scope line width right)))
 
-abbrev pub compare_of : Scope → ℕ → List ℕ → Predicate → Width → OperandText → OperandText → Result Instruction TypeFault
+abbrev pub compare_of : Scope → ℕ → List ℕ → Predicate → Width → OperandText → OperandText →
+    Result Instruction TypeFault
 compare_of scope line register predicate width left right =
     made_of (λ p. instruction.Compare p.0 predicate width p.1.0 p.1.1)
-    (both_of (defined_of scope line register) (both_of (operand_of scope line width left) (operand_of scope line width right)))
+    (both_of (defined_of scope line register) (both_of (operand_of scope line width left)
+    (operand_of scope line width right)))
 
 abbrev pub convert_of : Scope → ℕ → List ℕ → Conversion → OperandText → Result Instruction TypeFault
 convert_of scope line register conversion value =
@@ -93,15 +97,18 @@ alloca_of scope block line register =
 abbrev pub element_pointer_of : Items → Scope → ℕ → List ℕ → AddressText → OperandText → Result Instruction TypeFault
 element_pointer_of items scope line register base index =
     made_of (λ p. instruction.ElementPointer p.0 p.1.0.name p.1.1)
-    (both_of (defined_of scope line register) (both_of (object_of items scope line base) (operand_of scope line Bits64 index)))
+    (both_of (defined_of scope line register) (both_of (object_of items scope line base)
+    (operand_of scope line Bits64 index)))
 
 abbrev pub load_of : Items → Scope → ℕ → ℕ → List ℕ → AddressText → Result Instruction TypeFault
 load_of items scope block line register address =
-    made_of (λ p. instruction.Load p.0 p.1) (both_of (defined_of scope line register) (address_of items scope block line address))
+    made_of (λ p. instruction.Load p.0 p.1)
+    (both_of (defined_of scope line register) (address_of items scope block line address))
 
 abbrev pub store_of : Items → Scope → ℕ → ℕ → OperandText → AddressText → Result Instruction TypeFault
 store_of items scope block line value address =
-    made_of (λ p. instruction.Store p.0 p.1) (both_of (operand_of scope line Bits64 value) (address_of items scope block line address))
+    made_of (λ p. instruction.Store p.0 p.1)
+    (both_of (operand_of scope line Bits64 value) (address_of items scope block line address))
 
 -- an array store clears just as many cells as its pointer's extent, else 204
 abbrev pub store_zeros_of : Items → Scope → ℕ → ℕ → AddressText → Result Instruction TypeFault
@@ -111,33 +118,45 @@ store_zeros_of items scope line cells address =
 
 abbrev pub atomic_add_of : Items → Scope → ℕ → ℕ → AddressText → OperandText → Result Instruction TypeFault
 atomic_add_of items scope block line address value =
-    made_of (λ p. instruction.AtomicAdd p.0 p.1) (both_of (address_of items scope block line address) (operand_of scope line Bits64 value))
+    made_of (λ p. instruction.AtomicAdd p.0 p.1)
+    (both_of (address_of items scope block line address) (operand_of scope line Bits64 value))
 
 -- the register of a call that has one
 abbrev pub call_register_of : Scope → ℕ → Option (List ℕ) → Result (Option RegisterId) TypeFault
 call_register_of scope line None = Ok None
 call_register_of scope line (Some name) = made_of Some (defined_of scope line name)
 
-abbrev pub call_step_of : Items → List FunctionText → Named → Scope → ℕ → ℕ → Option (List ℕ) → List ℕ → List ArgumentText → Result Instruction TypeFault
+abbrev pub call_step_of : Items → List FunctionText → Named → Scope → ℕ → ℕ → Option (List ℕ) → List ℕ →
+    List ArgumentText → Result Instruction TypeFault
 call_step_of items functions named scope caller line register callee arguments =
     made_of (λ p. instruction.Call p.0 p.1.callee p.1.arguments)
-    (both_of (call_register_of scope line register) (call_of items functions named scope caller line (is_some register) callee arguments))
+    (both_of (call_register_of scope line register) (call_of items functions named scope caller line
+    (is_some register) callee arguments))
 
 abbrev pub region_start_of : Scope → ℕ → List ℕ → Result Instruction TypeFault
 region_start_of scope line register = made_of instruction.StartRegion (defined_of scope line register)
 
 -- an instruction of the function and the block at these places
-abbrev pub instruction_of : Items → List FunctionText → Named → Scope → Spot → InstructionText → Result Instruction TypeFault
-instruction_of items functions named scope spot (text.Binary register operator width left right) = binary_of scope spot.line register operator width left right
+abbrev pub instruction_of : Items → List FunctionText → Named → Scope → Spot → InstructionText →
+    Result Instruction TypeFault
+instruction_of items functions named scope spot (text.Binary register operator width left right) =
+    binary_of scope spot.line register operator width left right
 instruction_of items functions named scope spot (text.Compare register predicate width left right) =
     compare_of scope spot.line register predicate width left right
-instruction_of items functions named scope spot (text.Convert register conversion value) = convert_of scope spot.line register conversion value
-instruction_of items functions named scope spot (text.Alloca register size) = alloca_of scope spot.block spot.line register
-instruction_of items functions named scope spot (text.ElementPointer register base index) = element_pointer_of items scope spot.line register base index
-instruction_of items functions named scope spot (text.Load register address) = load_of items scope spot.block spot.line register address
-instruction_of items functions named scope spot (text.Store value address) = store_of items scope spot.block spot.line value address
-instruction_of items functions named scope spot (text.StoreZeros cells address) = store_zeros_of items scope spot.line cells address
-instruction_of items functions named scope spot (text.AtomicAdd address value) = atomic_add_of items scope spot.block spot.line address value
+instruction_of items functions named scope spot (text.Convert register conversion value) =
+    convert_of scope spot.line register conversion value
+instruction_of items functions named scope spot (text.Alloca register size) =
+    alloca_of scope spot.block spot.line register
+instruction_of items functions named scope spot (text.ElementPointer register base index) =
+    element_pointer_of items scope spot.line register base index
+instruction_of items functions named scope spot (text.Load register address) =
+    load_of items scope spot.block spot.line register address
+instruction_of items functions named scope spot (text.Store value address) =
+    store_of items scope spot.block spot.line value address
+instruction_of items functions named scope spot (text.StoreZeros cells address) =
+    store_zeros_of items scope spot.line cells address
+instruction_of items functions named scope spot (text.AtomicAdd address value) =
+    atomic_add_of items scope spot.block spot.line address value
 instruction_of items functions named scope spot (text.Call register callee arguments) =
     call_step_of items functions named scope spot.function spot.line register callee arguments
 instruction_of items functions named scope spot (text.StartRegion register) = region_start_of scope spot.line register
@@ -150,4 +169,5 @@ step_of items functions named scope function block step =
     (both_of (inequalities_of scope Body step.shows) (instruction_of items functions named scope spot step.instruction))
 
 abbrev pub steps_of : Items → List FunctionText → Named → Scope → ℕ → ℕ → List StepText → Result (List Step) TypeFault
-steps_of items functions named scope function block steps = all_of (λ _. step_of items functions named scope function block) steps
+steps_of items functions named scope function block steps =
+    all_of (λ _. step_of items functions named scope function block) steps

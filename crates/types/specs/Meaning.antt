@@ -1,5 +1,6 @@
 -- The program that a module means.
-use Rattle.std.specs.Prelude.{◌≡◌, Bool, true, false, List, map, length, codes, slice_get, Option, Some, None, Result, Ok, Err}
+use Rattle.std.specs.Prelude.{◌≡◌, Bool, true, false, List, map, length, codes, slice_get, Option, Some, None, Result}
+use Rattle.std.specs.Prelude.{Ok, Err}
 use Rattle.std.specs.List.{list_all}
 use Rattle.program.specs.declared.function.Function.{Function}
 use Rattle.program.specs.declared.function.Global.{Global}
@@ -34,7 +35,8 @@ main_form Number parameters = list_all is_number parameters
 -- `@main` gives an `i64` and takes nothing else, else 202 at its `define`
 abbrev pub as_main : FunctionId → Option FunctionText → Result FunctionId TypeFault
 as_main id None = Err (breaks 201 1)
-as_main id (Some function) = made_of (λ _. id) (unless_of (main_form function.result_type function.parameters) (breaks 202 function.line))
+as_main id (Some function) =
+    made_of (λ _. id) (unless_of (main_form function.result_type function.parameters) (breaks 202 function.line))
 
 -- 201 at line 1 where no function is called `@main`
 abbrev pub found_main : List FunctionText → Option Item → Result FunctionId TypeFault
@@ -54,7 +56,8 @@ program_with whole main functions = record { globals = map global_of whole.globa
 -- the program that a module means by these tables of names, else its earliest fault
 abbrev pub program_from : Items → Named → Module → Result Program TypeFault
 program_from items named whole =
-    made_of (λ p. program_with whole p.0 p.1) (both_of (main_of items whole.functions) (functions_of items whole.functions named))
+    made_of (λ p. program_with whole p.0 p.1)
+    (both_of (main_of items whole.functions) (functions_of items whole.functions named))
 
 -- for each function of the module just the globals that it names, itself or by those that it calls
 abbrev pub IsNamedIn : Module → Named → Type 0

@@ -33,7 +33,8 @@ cases_of scope line width texts = all_of (λ _. case_of scope line width) texts
 abbrev pub return_of : Scope → ℕ → ResultType → Option OperandText → Result Terminator TypeFault
 return_of scope line Void None = Ok (terminator.Return None)
 return_of scope line Number None = Err (breaks 202 line)
-return_of scope line Number (Some value) = made_of (λ v. terminator.Return (Some v)) (operand_of scope line Bits64 value)
+return_of scope line Number (Some value) =
+    made_of (λ v. terminator.Return (Some v)) (operand_of scope line Bits64 value)
 return_of scope line Void (Some value) = and_then (operand_of scope line Bits64 value) (λ _. Err (breaks 202 line))
 
 abbrev pub jump_of : Scope → ℕ → List ℕ → Result Terminator TypeFault
@@ -42,12 +43,14 @@ jump_of scope line target = made_of terminator.Jump (label_of scope line target)
 abbrev pub branch_of : Scope → ℕ → List ℕ → List ℕ → List ℕ → Result Terminator TypeFault
 branch_of scope line condition when_true when_false =
     made_of (λ p. terminator.Branch p.0 p.1.0 p.1.1)
-    (both_of (condition_of scope line condition) (both_of (label_of scope line when_true) (label_of scope line when_false)))
+    (both_of (condition_of scope line condition) (both_of (label_of scope line when_true)
+    (label_of scope line when_false)))
 
 abbrev pub switch_of : Scope → ℕ → Width → OperandText → List ℕ → List CaseText → Result Terminator TypeFault
 switch_of scope line width value default cases =
     made_of (λ p. terminator.Switch width p.0 p.1.0 p.1.1)
-    (both_of (operand_of scope line width value) (both_of (label_of scope line default) (cases_of scope line width cases)))
+    (both_of (operand_of scope line width value) (both_of (label_of scope line default)
+    (cases_of scope line width cases)))
 
 abbrev pub detach_of : Scope → ℕ → List ℕ → List ℕ → List ℕ → Result Terminator TypeFault
 detach_of scope line region body continuation =
@@ -56,7 +59,8 @@ detach_of scope line region body continuation =
 
 abbrev pub reattach_of : Scope → ℕ → List ℕ → List ℕ → Result Terminator TypeFault
 reattach_of scope line region continuation =
-    made_of (λ p. terminator.Reattach p.0 p.1) (both_of (region_of scope line region) (label_of scope line continuation))
+    made_of (λ p. terminator.Reattach p.0 p.1)
+    (both_of (region_of scope line region) (label_of scope line continuation))
 
 abbrev pub sync_of : Scope → ℕ → List ℕ → List ℕ → Result Terminator TypeFault
 sync_of scope line region target =
@@ -64,7 +68,8 @@ sync_of scope line region target =
 
 abbrev pub terminator_of : Scope → ℕ → ResultType → TerminatorText → Result Terminator TypeFault
 terminator_of scope line result (text.Jump target) = jump_of scope line target
-terminator_of scope line result (text.Branch condition when_true when_false) = branch_of scope line condition when_true when_false
+terminator_of scope line result (text.Branch condition when_true when_false) =
+    branch_of scope line condition when_true when_false
 terminator_of scope line result (text.Switch width value default cases) = switch_of scope line width value default cases
 terminator_of scope line result (text.Return value) = return_of scope line result value
 terminator_of scope line result (text.Detach region body continuation) = detach_of scope line region body continuation

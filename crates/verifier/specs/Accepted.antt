@@ -34,7 +34,8 @@ AreZonesRight program = (regions : Regions) × AreTasksOf program regions × Are
 
 -- by the tasks of the blocks this is the earliest broken rule on zones
 abbrev pub IsFirstOfZones : Program → Broken → Type 0
-IsFirstOfZones program broken = (regions : Regions) × AreTasksOf program regions × IsFirst (IsZoneBroken program regions) broken
+IsFirstOfZones program broken = (regions : Regions) × AreTasksOf program regions ×
+    IsFirst (IsZoneBroken program regions) broken
 
 -- the rules after the types, phase by phase
 pub record IsRight (program : Program) : Type 0 where
@@ -48,7 +49,8 @@ pub record IsRight (program : Program) : Type 0 where
 -- the text is read as a module, the module means this program, and the program keeps the rules
 abbrev pub IsProgramOf : List ℕ → Program → Type 0
 IsProgramOf text program =
-    (whole : Module) × Answers text (Ok whole) × (typed : Typed) × MeansTyped whole (Ok typed) × (typed.program ≡ program) × IsRight program
+    (whole : Module) × Answers text (Ok whole) × (typed : Typed) × MeansTyped whole (Ok typed) ×
+    (typed.program ≡ program) × IsRight program
 
 -- of the first phase after the types whose rules the program breaks this is the earliest broken one
 abbrev pub IsFaulty : Program → Broken → Type 0
@@ -70,7 +72,8 @@ IsRefused text broken =
     ⊎ ((whole : Module) × Answers text (Ok whole)
     × (MeansTyped whole (Err broken) ⊎ ((typed : Typed) × MeansTyped whole (Ok typed) × IsFaulty typed.program broken)))
 
--- if a fault, then the text is refused for it; or there is no verdict, and the effort is named that was granted, if that is bounded
+-- if a fault, then the text is refused for it; or there is no verdict, and the effort is named that was granted, if
+-- that is bounded
 abbrev pub IsUnverified : List ℕ → Option ℕ → Unverified → Type 0
 IsUnverified text effort (unverified.Refused refused) = IfBroken (IsRefused text) refused
 IsUnverified text effort (unverified.OutOfEffort granted) = effort ≡ Some granted

@@ -25,12 +25,15 @@ depth_of program regions = depth_in program regions (slice_get program.functions
 
 -- what a table says up to the bound of each function is the cost and the depth themselves: neither passes 64 bits
 pub record AreWhole (program : Program) (regions : Regions) : Type 0 where
-  pub costs : (f m : ℕ) (function : Function) → slice_get program.functions f ≡ Some function → m ≤ function.measure.bound → cost_at program f m ≡ Some (cost function m)
-  pub depths : (f m : ℕ) (function : Function) → slice_get program.functions f ≡ Some function → m ≤ function.measure.bound
+  pub costs : (f m : ℕ) (function : Function) → slice_get program.functions f ≡ Some function →
+      m ≤ function.measure.bound → cost_at program f m ≡ Some (cost function m)
+  pub depths : (f m : ℕ) (function : Function) → slice_get program.functions f ≡ Some function →
+      m ≤ function.measure.bound
       → depth_at program regions f m ≡ Some (depth program regions f function m)
 
 abbrev pub IsTableOf : Program → Table → Type 0
-IsTableOf program table = (regions : Regions) × AreTasksOf program regions × IsTable program regions table × AreWhole program regions
+IsTableOf program table = (regions : Regions) × AreTasksOf program regions × IsTable program regions table ×
+    AreWhole program regions
 
 abbrev pub IsDepthOf : Program → ℕ → Type 0
 IsDepthOf program n = (regions : Regions) × AreTasksOf program regions × (n ≡ depth_of program regions)

@@ -5,5 +5,7 @@ use Rattle.program.specs.declared.function.Program.{Program}
 
 pub record IsWithinLimits (program : Program) : Type 0 where
   pub functions : length program.functions ≤ 256
-  pub blocks : (f : ℕ) (function : Function) → slice_get program.functions f ≡ Some function → length function.blocks ≤ 1024
-  pub measures : (f : ℕ) (function : Function) → slice_get program.functions f ≡ Some function → function.measure.bound ≤ 4096
+  pub blocks : (f : ℕ) (function : Function) → slice_get program.functions f ≡ Some function →
+      length function.blocks ≤ 1024
+  pub measures : (f : ℕ) (function : Function) → slice_get program.functions f ≡ Some function →
+      function.measure.bound ≤ 4096

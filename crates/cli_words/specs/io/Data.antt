@@ -1,5 +1,6 @@
 -- Numbers as text and as bytes.
-use Rattle.std.specs.Prelude.{◌≡◌, ◌≢◌, ℕ, ℤ, FitsSigned, Bool, not, ◌==◌, ◌||◌, List, [], ◌∷◌, ◌++◌, ◌+◌, All, filter, flat_map, length, reverse, true}
+use Rattle.std.specs.Prelude.{◌≡◌, ◌≢◌, ℕ, ℤ, FitsSigned, Bool, not, ◌==◌, ◌||◌, List, [], ◌∷◌, ◌++◌, ◌+◌, All, filter}
+use Rattle.std.specs.Prelude.{flat_map, length, reverse, true}
 use Rattle.std.specs.List.{list_all, prefix_len}
 use Rattle.std.specs.Fmt.{signed_decimal}
 use Rattle.std.specs.Int.{w64, cast_signed, cast_unsigned, from_le_bytes, to_le_bytes}
@@ -41,7 +42,8 @@ pub record IsNext (text word after : List ℕ) : Type 0 where
 -- the text begins with these numbers, and this follows them
 abbrev pub Begins : List ℕ → List ℤ → List ℕ → Type 0
 Begins text [] rest = text ≡ rest
-Begins text (z ∷ numbers) rest = (word after : List ℕ) × IsNext text word after × IsNumber word z × Begins after numbers rest
+Begins text (z ∷ numbers) rest = (word after : List ℕ) × IsNext text word after × IsNumber word z ×
+    Begins after numbers rest
 
 -- the text has these numbers and nothing else
 pub record IsNumbers (text : List ℕ) (numbers : List ℤ) : Type 0 where

@@ -8,7 +8,8 @@ use Rattle.ir_instruction.specs.declared.symbol.Symbol.TheVariants.{Register, Gl
 use Rattle.ir_instruction.specs.Outcome.{◌>>=◌}
 use Rattle.ir_instruction.specs.Fronts.{is_mark, behind, mark_at}
 use Rattle.ir_instruction.specs.Shape.{Gaps, gaps_of}
-use Rattle.ir_instruction.specs.Grammar.{phi_shape, phi_from, call, fixed, store, atomic_shape, atomic_from, call_void_shape, call_void_from}
+use Rattle.ir_instruction.specs.Grammar.{phi_shape, phi_from, call, fixed, store, atomic_shape, atomic_from}
+use Rattle.ir_instruction.specs.Grammar.{call_void_shape, call_void_from}
 use Rattle.ir_instruction.specs.Grammar.{global_shape, define_shape, terminator_in}
 use Rattle.ir_reader.specs.declared.item.item.Item.{Item}
 use Rattle.ir_reader.specs.declared.item.item.Item.TheVariants as item
@@ -43,15 +44,18 @@ unfoldable pub worded : List ℕ → List Symbol → Option Item
 worded text rest =
     if bytes_eq text (codes "define") then option_map define_from (gaps_of define_shape rest)
     else if bytes_eq text (codes "store") then option_map item.Instruction (store rest)
-    else if bytes_eq text (codes "atomicrmw") then option_map (λ g. item.Instruction (atomic_from g)) (gaps_of atomic_shape rest)
-    else if bytes_eq text (codes "call") then option_map (λ g. item.Instruction (call_void_from g)) (gaps_of call_void_shape rest)
+    else if bytes_eq text (codes "atomicrmw") then option_map (λ g. item.Instruction (atomic_from g))
+    (gaps_of atomic_shape rest)
+    else if bytes_eq text (codes "call") then option_map (λ g. item.Instruction (call_void_from g))
+    (gaps_of call_void_shape rest)
     else option_map item.Terminator (terminator_in text rest)
 
--- The item of a line that has tokens and is no annotation; at is the line's number. A word before a colon is a label, however
--- it is spelled.
+-- The item of a line that has tokens and is no annotation; at is the line's number. A word before a colon is a label,
+-- however it is spelled.
 unfoldable pub item_in : ℕ → List Symbol → Option Item
 item_in at (Register d ∷ rest) = mark_at 61 rest >>= definition at d
 item_in at (Global name ∷ rest) = option_map (global_from at name) (gaps_of global_shape rest)
-item_in at (Word text ∷ rest) = if is_mark 58 rest then option_map (λ g. item.Label text) (gaps_of [] (behind rest)) else worded text rest
+item_in at (Word text ∷ rest) = if is_mark 58 rest then option_map (λ g. item.Label text)
+    (gaps_of [] (behind rest)) else worded text rest
 item_in at (Mark byte ∷ rest) = if byte == 125 then option_map (λ g. item.Close) (gaps_of [] rest) else None
 item_in at _ = None

@@ -1,7 +1,8 @@
 -- What items are spelled by, and which of them a line can say.
 use Rattle.std.specs.Prelude.{ℕ, List, [], nat_lt, ◌==◌, Bool, true, false, ◌&&◌}
 use Rattle.std.specs.List.{list_all}
-use Rattle.ir_instruction.specs.Spelling.{Atom, global_atoms, define_atoms, name_atoms, phi_atoms, instruction_atoms, terminator_atoms, close_atoms}
+use Rattle.ir_instruction.specs.Spelling.{Atom, global_atoms, define_atoms, name_atoms, phi_atoms, instruction_atoms}
+use Rattle.ir_instruction.specs.Spelling.{terminator_atoms, close_atoms}
 use Rattle.ir_instruction.specs.Fits.{has_cells, is_some_list, instruction_fits, terminator_fits}
 use Rattle.ir_reader.specs.declared.item.item.Item.{Item}
 use Rattle.ir_reader.specs.declared.item.item.Item.TheVariants as item

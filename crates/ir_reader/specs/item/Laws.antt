@@ -28,13 +28,16 @@ WordsAreReadBack = (at k : ℕ) (words : List (List ℕ)) → are_words words �
 
 -- Symbols within the limits that say an item are its spelling, and the item is one that a line of this number can say.
 abbrev pub SymbolsSpellTheirItem : Type 0
-SymbolsSpellTheirItem = (at : ℕ) (line : List Symbol) (i : Item) → list_all is_within_limits line ≡ true → item_in at line ≡ Some i
+SymbolsSpellTheirItem = (at : ℕ) (line : List Symbol) (i : Item) → list_all is_within_limits line ≡ true →
+    item_in at line ≡ Some i
     → (line ≡ symbols_in (item_atoms i)) × (item_fits at i ≡ true)
 
 -- The line that prints an item which is kept says the item, on its own line and within the limits.
 abbrev pub KeptItemsAreReadBack : Type 0
-KeptItemsAreReadBack = (at k : ℕ) (i : Item) → IsKeptItem i → line_of at (spaces k ++ item_text i) ≡ Ok (Some (said (item_on at i)))
+KeptItemsAreReadBack = (at k : ℕ) (i : Item) → IsKeptItem i →
+    line_of at (spaces k ++ item_text i) ≡ Ok (Some (said (item_on at i)))
 
 -- what a line says within the limits is kept
 abbrev pub ReadItemsAreKept : Type 0
-ReadItemsAreKept = (at : ℕ) (line : List ℕ) (l : Line) → line_of at line ≡ Ok (Some l) → l.is_within_limits ≡ true → IsKeptItem l.item
+ReadItemsAreKept = (at : ℕ) (line : List ℕ) (l : Line) → line_of at line ≡ Ok (Some l) → l.is_within_limits ≡ true →
+    IsKeptItem l.item

@@ -18,7 +18,8 @@ use Rattle.ir_instruction.specs.Symbols.{symbol_at, is_within_limits}
 use Rattle.ir_reader.specs.item.Grammar.{item_in}
 
 abbrev pub annotation_line : Result AnnotationLine ℕ → Result (Option Line) ℕ
-annotation_line (Ok found) = Ok (Some (record { item = Annotation found.annotation; is_within_limits = found.is_within_limits }))
+annotation_line (Ok found) =
+    Ok (Some (record { item = Annotation found.annotation; is_within_limits = found.is_within_limits }))
 annotation_line (Err number) = Err number
 
 abbrev pub item_line : List Symbol → Option Item → Result (Option Line) ℕ

@@ -1,6 +1,7 @@
--- What the rules on cost say of frames: how much of its function's budget a frame may still use, and the inequalities between a frame and those that
--- it goes on with.
-use Rattle.std.specs.Prelude.{◌≡◌, ◌≢◌, ℕ, zero, suc, ◌+◌, ◌*◌, List, [], ◌∷◌, Option, Some, None, cond, eqb, slice_get, All, ℤ, pos, negsuc}
+-- What the rules on cost say of frames: how much of its function's budget a frame may still use, and the inequalities
+-- between a frame and those that it goes on with.
+use Rattle.std.specs.Prelude.{◌≡◌, ◌≢◌, ℕ, zero, suc, ◌+◌, ◌*◌, List, [], ◌∷◌, Option, Some, None, cond, eqb, slice_get}
+use Rattle.std.specs.Prelude.{All, ℤ, pos, negsuc}
 use Rattle.std.specs.Prelude.{◌-ℤ◌, ◌≤ℤ◌}
 use Rattle.semantics.specs.Cells.{or_zero}
 use Rattle.semantics.specs.Frames.{Registers, Frame, block_at, word_of}
@@ -75,7 +76,8 @@ measure_at prog f = value (numbers f.registers) (measure_of prog f.function)
 -- what a call costs whose measure is below this number
 abbrev pub cost_below : Program → ℕ → ℕ → ℕ
 cost_below prog function zero = 0
-cost_below prog function (suc m) = instructions_of prog function + self_calls_of prog function * cost_below prog function m
+cost_below prog function (suc m) =
+    instructions_of prog function + self_calls_of prog function * cost_below prog function m
 
 -- an instruction costs 1, and a call of another function that one's cost too; a self call is counted apart
 abbrev pub instructions_for : Program → ℕ → Option ℕ → ℕ

@@ -16,18 +16,23 @@ use Rattle.laws_conditions.specs.rules.Costs.{bound_of, natural, measure_at}
 -- level function block: within how many detaches the block stands
 pub record Levels (prog : Program) (level : ℕ → ℕ → ℕ) : Type 0 where
   pub entry : (function : ℕ) → level function 0 ≡ 0
-  pub along : (function block index target : ℕ) (t : Terminator) → item_at prog function block index ≡ Some (Ends t) → JumpsTo t target →
+  pub along : (function block index target : ℕ) (t : Terminator) → item_at prog function block index ≡ Some (Ends t) →
+      JumpsTo t target →
       level function target ≡ level function block
-  pub sync : (function block index region target : ℕ) (t : Terminator) → item_at prog function block index ≡ Some (Ends t) → SyncsTo t region target →
+  pub sync : (function block index region target : ℕ) (t : Terminator) →
+      item_at prog function block index ≡ Some (Ends t) → SyncsTo t region target →
       level function target ≡ level function block
   pub body : (function block index : ℕ) (region : RegisterId) (body continuation : BlockId) →
-      item_at prog function block index ≡ Some (Ends (terminator.Detach region body continuation)) → level function body.0 ≡ suc (level function block)
+      item_at prog function block index ≡ Some (Ends (terminator.Detach region body continuation)) →
+      level function body.0 ≡ suc (level function block)
   pub continuation : (function block index : ℕ) (region : RegisterId) (body continuation : BlockId) →
-      item_at prog function block index ≡ Some (Ends (terminator.Detach region body continuation)) → level function continuation.0 ≡ level function block
+      item_at prog function block index ≡ Some (Ends (terminator.Detach region body continuation)) →
+      level function continuation.0 ≡ level function block
 
 -- depth function m: the depth of a call whose measure is m
 pub record DepthTable (prog : Program) (level depth : ℕ → ℕ → ℕ) : Type 0 where
-  pub block : (function block m : ℕ) (b : Block) → block_at prog function block ≡ Some b → level function block + 1 ≤ depth function m
+  pub block : (function block m : ℕ) (b : Block) → block_at prog function block ≡ Some b →
+      level function block + 1 ≤ depth function m
   pub call : (function block index m : ℕ) (d : Option RegisterId) (g : FunctionId) (arguments : List Argument) →
       item_at prog function block index ≡ Some (Does (instruction.Call d g arguments)) → g.0 ≢ function →
       level function block + 1 + depth g.0 (bound_of prog g.0) ≤ depth function m

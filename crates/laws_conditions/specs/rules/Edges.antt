@@ -1,4 +1,5 @@
--- Forms on the far side of an edge or call, said of the registers on the near side: operands put in for phis and parameters.
+-- Forms on the far side of an edge or call, said of the registers on the near side: operands put in for phis and
+-- parameters.
 use Rattle.std.specs.Prelude.{ℕ, zero, suc, List, [], ◌∷◌, Option, Some, None, cond, eqb, pos}
 use Rattle.semantics.specs.Frames.{phis_at}
 use Rattle.semantics.specs.Effect.{entry_for}
@@ -21,7 +22,8 @@ entry_form (Some a) = operand_form a
 -- the phis' values on the edge from a block, over what stands for the registers else
 abbrev pub phi_forms : ℕ → List Phi → (ℕ → Combination) → ℕ → Combination
 phi_forms from [] forms = forms
-phi_forms from (phi ∷ phis) forms = phi_forms from phis (λ x. cond (eqb phi.register.0 x) (entry_form (entry_for from phi.entries)) (forms x))
+phi_forms from (phi ∷ phis) forms =
+    phi_forms from phis (λ x. cond (eqb phi.register.0 x) (entry_form (entry_for from phi.entries)) (forms x))
 
 abbrev pub edge_forms : Program → ℕ → ℕ → ℕ → ℕ → Combination
 edge_forms prog function from target = phi_forms from (phis_at prog function target) register_form

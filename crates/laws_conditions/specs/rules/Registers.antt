@@ -1,5 +1,7 @@
--- Registers that have a value: what is said of each place of the text, and what is kept of each frame of the serial run.
-use Rattle.std.specs.Prelude.{◌≡◌, ℕ, suc, ◌<◌, List, [], ◌∷◌, length, Option, Some, None, Bool, true, false, ◌⊎◌, slice_get, is_some, ℤ}
+-- Registers that have a value: what is said of each place of the text, and what is kept of each frame of the serial
+-- run.
+use Rattle.std.specs.Prelude.{◌≡◌, ℕ, suc, ◌<◌, List, [], ◌∷◌, length, Option, Some, None, Bool, true, false, ◌⊎◌}
+use Rattle.std.specs.Prelude.{slice_get, is_some, ℤ}
 use Rattle.semantics.specs.Paths.{Path}
 use Rattle.semantics.specs.Cells.{Memory}
 use Rattle.semantics.specs.Frames.{Frame, Does, Ends, item_at, phis_at}
@@ -38,27 +40,37 @@ abbrev pub HasPhi : List Phi → ℕ → Type 0
 HasPhi [] r = ⊥
 HasPhi (phi ∷ phis) r = (phi.register.0 ≡ r) ⊎ HasPhi phis r
 
--- defined function block index r: on each way to the place the register was given a value. So it was before, or it is given one here.
+-- defined function block index r: on each way to the place the register was given a value. So it was before, or it is
+-- given one here.
 pub record DefinesRegisters (prog : Program) (defined : ℕ → ℕ → ℕ → ℕ → Type 0) : Type 0 where
   pub entry : (function r : ℕ) → defined function 0 0 r → r < parameters_of prog function
-  pub step : (function block index r : ℕ) (i : Instruction) → item_at prog function block index ≡ Some (Does i) → defined function block (suc index) r →
+  pub step : (function block index r : ℕ) (i : Instruction) → item_at prog function block index ≡ Some (Does i) →
+      defined function block (suc index) r →
       defined function block index r ⊎ (dest_of i ≡ Some r)
-  pub along : (function block index target r : ℕ) (t : Terminator) → item_at prog function block index ≡ Some (Ends t) → JumpsTo t target →
+  pub along : (function block index target r : ℕ) (t : Terminator) → item_at prog function block index ≡ Some (Ends t) →
+      JumpsTo t target →
       defined function target 0 r → defined function block index r ⊎ HasPhi (phis_at prog function target) r
-  pub sync : (function block index region target r : ℕ) (t : Terminator) → item_at prog function block index ≡ Some (Ends t) → SyncsTo t region target →
+  pub sync : (function block index region target r : ℕ) (t : Terminator) →
+      item_at prog function block index ≡ Some (Ends t) → SyncsTo t region target →
       defined function target 0 r → defined function block index r ⊎ HasPhi (phis_at prog function target) r
   pub body : (function block index r : ℕ) (region : RegisterId) (body continuation : BlockId) →
-      item_at prog function block index ≡ Some (Ends (terminator.Detach region body continuation)) → defined function body.0 0 r →
+      item_at prog function block index ≡ Some (Ends (terminator.Detach region body continuation)) →
+      defined function body.0 0 r →
       defined function block index r
   pub continuation : (function block index r : ℕ) (region : RegisterId) (body continuation : BlockId) →
-      item_at prog function block index ≡ Some (Ends (terminator.Detach region body continuation)) → defined function continuation.0 0 r →
+      item_at prog function block index ≡ Some (Ends (terminator.Detach region body continuation)) →
+      defined function continuation.0 0 r →
       defined function block index r
-  -- a call passes as many arguments as there are parameters, and one that defines a register is of a function that returns a number
+  -- a call passes as many arguments as there are parameters, and one that defines a register is of a function that
+  -- returns a number
   pub arguments : (function block index : ℕ) (d : Option RegisterId) (g : FunctionId) (arguments : List Argument) →
-      item_at prog function block index ≡ Some (Does (instruction.Call d g arguments)) → length arguments ≡ parameters_of prog g.0
+      item_at prog function block index ≡ Some (Does (instruction.Call d g arguments)) →
+      length arguments ≡ parameters_of prog g.0
   pub calls : (function block index : ℕ) (d : RegisterId) (g : FunctionId) (arguments : List Argument) →
-      item_at prog function block index ≡ Some (Does (instruction.Call (Some d) g arguments)) → returns_number prog g.0 ≡ true
-  pub returns : (function block index : ℕ) → item_at prog function block index ≡ Some (Ends (terminator.Return None)) → returns_number prog function ≡ false
+      item_at prog function block index ≡ Some (Does (instruction.Call (Some d) g arguments)) →
+      returns_number prog g.0 ≡ true
+  pub returns : (function block index : ℕ) → item_at prog function block index ≡ Some (Ends (terminator.Return None)) →
+      returns_number prog function ≡ false
 
 abbrev pub Registered : (ℕ → ℕ → ℕ → ℕ → Type 0) → Says
 Registered defined p f m = (r : ℕ) → defined f.function f.block f.index r → is_some (f.registers r) ≡ true
@@ -72,4 +84,5 @@ abbrev pub RegistersKept : Type 0
 RegistersKept =
     (prog : Program) (defined : ℕ → ℕ → ℕ → ℕ → Bool) (base : Path → Frame → Memory → Bool) →
     DefinesRegisters prog (λ function block index r. defined function block index r ≡ true) →
-    KeptSerially prog (λ p f m. base p f m ≡ true) (Registered (λ function block index r. defined function block index r ≡ true)) (GivesNumber prog)
+    KeptSerially prog (λ p f m. base p f m ≡ true) (Registered (λ function block index r. defined function block index r
+    ≡ true)) (GivesNumber prog)

@@ -1,5 +1,5 @@
--- A sample program: a child stores the argument in one cell of @a while its parent stores it in the other; then the parent adds both.
--- It is `examples/pair.ll`.
+-- A sample program: a child stores the argument in one cell of @a while its parent stores it in the other; then the
+-- parent adds both. It is `examples/pair.ll`.
 use Rattle.std.specs.Prelude.{◌≡◌, ℕ, List, [], ◌∷◌, ◌++◌, Some, None, true, false, ℤ, pos, ◌+ℤ◌, codes}
 use Rattle.semantics.specs.Cells.{Shared, Cell, Memory}
 use Rattle.semantics.specs.Arithmetic.{wrapped}
@@ -47,7 +47,14 @@ abbrev pub global_a : ObjectName
 global_a = object.Global (record { 0 = 0 })
 
 abbrev pub writes_a : ℕ → ℕ → ℕ → Zone
-writes_a line low high = record { line = line; mode = mode.Writes; object = global_a; low = constant low; high = constant high }
+writes_a line low high = record {
+  line = line;
+  mode = mode.Writes;
+  object = global_a;
+  low = constant low;
+  high =
+      constant high;
+}
 
 abbrev pub left_of : ℕ → ℕ → Left
 left_of line n = record { line = line; self_calls = constant 0; instructions = constant n }
@@ -82,7 +89,8 @@ child_block = record {
   left = left_of 10 3;
   foot = writes_a 11 0 1 ∷ [];
   phis = [];
-  steps = line_of 12 (points_at 2 0) ∷ line_of 13 (instruction.Store (operand.Register (register 0)) (address.Element (register 2))) ∷ [];
+  steps = line_of 12 (points_at 2 0) ∷
+      line_of 13 (instruction.Store (operand.Register (register 0)) (address.Element (register 2))) ∷ [];
   ending = Some (ending_of 14 (terminator.Reattach (register 1) (block 2)));
 }
 
@@ -94,7 +102,8 @@ continuation_block = record {
   left = left_of 17 9;
   foot = [];
   phis = [];
-  steps = line_of 18 (points_at 3 1) ∷ line_of 19 (instruction.Store (operand.Register (register 0)) (address.Element (register 3))) ∷ [];
+  steps = line_of 18 (points_at 3 1) ∷
+      line_of 19 (instruction.Store (operand.Register (register 0)) (address.Element (register 3))) ∷ [];
   ending = Some (ending_of 20 (terminator.Sync (register 1) (block 3)));
 }
 
@@ -106,9 +115,11 @@ last_block = record {
   left = left_of 22 6;
   foot = [];
   phis = [];
-  steps = line_of 23 (points_at 4 0) ∷ line_of 24 (instruction.Load (register 5) (address.Element (register 4))) ∷ line_of 25 (points_at 6 1) ∷ line_of 26
+  steps = line_of 23 (points_at 4 0) ∷ line_of 24 (instruction.Load (register 5) (address.Element (register 4))) ∷
+      line_of 25 (points_at 6 1) ∷ line_of 26
       (instruction.Load (register 7) (address.Element (register 6))) ∷
-      line_of 27 (instruction.Binary (register 8) operator.Add Bits64 (operand.Register (register 5)) (operand.Register (register 7))) ∷ [];
+      line_of 27 (instruction.Binary (register 8) operator.Add Bits64 (operand.Register (register 5))
+      (operand.Register (register 7))) ∷ [];
   ending = Some (ending_of 28 (terminator.Return (Some (operand.Register (register 8)))));
 }
 
@@ -119,7 +130,8 @@ main_function = record {
   result_type = result_type.Number;
   parameters = parameter.Number ∷ [];
   registers =
-      kind.Number Bits64 ∷ kind.Region ∷ kind.Element ∷ kind.Element ∷ kind.Element ∷ kind.Number Bits64 ∷ kind.Element ∷
+      kind.Number Bits64 ∷ kind.Region ∷ kind.Element ∷ kind.Element ∷ kind.Element ∷ kind.Number Bits64 ∷
+      kind.Element ∷
       kind.Number Bits64 ∷ kind.Number Bits64 ∷ [];
   allocas = [];
   requirements = [];
@@ -131,19 +143,25 @@ main_function = record {
 }
 
 abbrev pub pair : Program
-pair = record { globals = record { line = 1; name = codes "a"; cells = 2 } ∷ []; functions = main_function ∷ []; main = record { 0 = 0 } }
+pair = record {
+  globals = record { line = 1; name = codes "a"; cells = 2 } ∷ [];
+  functions = main_function ∷ [];
+  main =
+      record { 0 = 0 };
+}
 
 abbrev pub cell_of_a : ℕ → Cell
 cell_of_a index = record { object = Shared 0; index = index }
 
 -- ---- what is proved of it
 
--- whatever its argument n, the schedule theorem holds of it with a budget of 14 and a depth of 2; its serial run uses both whole, leaves n in both cells
--- and gives n + n
+-- whatever its argument n, the schedule theorem holds of it with a budget of 14 and a depth of 2; its serial run uses
+-- both whole, leaves n in both cells and gives n + n
 abbrev pub PairOnEverySchedule : Type 0
 PairOnEverySchedule =
     (n : ℤ) (memory : Memory) →
-    (t : RunsAsSerial pair (n ∷ []) memory 14 2) × (t.outcome.ending ≡ Gave (Some (wrapped Bits64 (n +ℤ n)))) × (t.outcome.count ≡ 14) × (t.outcome.depth ≡ 2) ×
+    (t : RunsAsSerial pair (n ∷ []) memory 14 2) × (t.outcome.ending ≡ Gave (Some (wrapped Bits64 (n +ℤ n)))) ×
+    (t.outcome.count ≡ 14) × (t.outcome.depth ≡ 2) ×
     (t.outcome.memory (cell_of_a 0) ≡ Some n) × (t.outcome.memory (cell_of_a 1) ≡ Some n)
 
 -- worker 0 detaches, worker 1 steals the root and stalls at the sync
@@ -162,7 +180,8 @@ pub record IsTimeline (n : ℤ) (memory : Memory) : Type 0 where
   pub idle_then : (replay pair 2 stalling (start pair (n ∷ []) memory)).hands 1 ≡ None
   pub has_ended_later : has_ended (replay pair 2 (stalling ++ ending) (start pair (n ∷ []) memory)) ≡ true
   pub done_later : (replay pair 2 (stalling ++ ending) (start pair (n ∷ []) memory)).core.done ≡ 14
-  pub result_later : (replay pair 2 (stalling ++ ending) (start pair (n ∷ []) memory)).core.result ≡ Some (wrapped Bits64 (n +ℤ n))
+  pub result_later : (replay pair 2 (stalling ++ ending) (start pair (n ∷ []) memory)).core.result
+      ≡ Some (wrapped Bits64 (n +ℤ n))
 
 abbrev pub PairOnTwoWorkers : Type 0
 PairOnTwoWorkers = (n : ℤ) (memory : Memory) → IsTimeline n memory

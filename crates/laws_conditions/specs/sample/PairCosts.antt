@@ -11,4 +11,5 @@ two_deep function m = 2
 
 -- it meets the rules on cost by its own annotations, with no fact at any place; they say 14 instructions
 abbrev pub PairWithinTables : Type 0
-PairWithinTables = (n : ℤ) (memory : Memory) → RunsWithinTables pair two_deep (n ∷ []) memory × (cost_below pair 0 (suc (bound_of pair 0)) ≡ 14)
+PairWithinTables = (n : ℤ) (memory : Memory) → RunsWithinTables pair two_deep (n ∷ []) memory ×
+    (cost_below pair 0 (suc (bound_of pair 0)) ≡ 14)

@@ -9,8 +9,8 @@ And base good p f m = base p f m × good p f m
 abbrev pub FindsBoth : Finds → Finds → Finds
 FindsBoth first second p f m o = first p f m o × second p f m o
 
--- the rest of the frame takes no more instructions than it may use. The number may be below zero in mid-block, where steps have used what a later
--- edge shows that the block did not have: no run gets there.
+-- the rest of the frame takes no more instructions than it may use. The number may be below zero in mid-block, where
+-- steps have used what a later edge shows that the block did not have: no run gets there.
 abbrev pub WithinBudget : (Frame → ℤ) → Finds
 WithinBudget may_use p f m o = pos o.count ≤ℤ may_use f
 

@@ -1,5 +1,6 @@
 -- The schedule theorem: what every schedule of a checked program keeps, against its serial meaning.
-use Rattle.std.specs.Prelude.{◌≡◌, ◌≢◌, ℕ, ◌*◌, ◌≤◌, ◌<◌, List, [], ◌∷◌, Option, Some, None, Bool, true, false, ◌||◌, ◌⊎◌, ℤ, pos, ◌≤ℤ◌}
+use Rattle.std.specs.Prelude.{◌≡◌, ◌≢◌, ℕ, ◌*◌, ◌≤◌, ◌<◌, List, [], ◌∷◌, Option, Some, None, Bool, true, false, ◌||◌}
+use Rattle.std.specs.Prelude.{◌⊎◌, ℤ, pos, ◌≤ℤ◌}
 use Rattle.semantics.specs.Paths.{Path}
 use Rattle.semantics.specs.Cells.{Cell, Memory, globals_of}
 use Rattle.semantics.specs.Frames.{Halted, Frame}
@@ -36,7 +37,8 @@ pub record Undisturbed (prog : Program) (m later : Machine) (w : ℕ) (p : Path)
   pub hand : later.hands w ≡ Some p
   pub frame : later.core.frames p ≡ m.core.frames p
   pub steps : (cs : List Change) (t : State) → StepsOf prog p cs m.core t → (u : State) × StepsOf prog p cs later.core u
-  pub cells : (cs : List Change) (t : State) (x : Cell) → StepsOf prog p cs m.core t → read_by cs x ≡ true → later.core.memory x ≡ m.core.memory x
+  pub cells : (cs : List Change) (t : State) (x : Cell) → StepsOf prog p cs m.core t → read_by cs x ≡ true →
+      later.core.memory x ≡ m.core.memory x
 
 -- ---- the theorem
 
@@ -52,14 +54,18 @@ pub record KeepsSchedule (prog : Program) (workers : ℕ) (o : Outcome) (m : Mac
   pub same_count : has_ended m ≡ true → m.core.done ≡ o.count
   pub same_peak : has_ended m ≡ true → m.core.peak ≡ o.depth
   -- each frame without children is on top of a task that a worker runs
-  pub busy_leaves : (p : Path) (f : Frame) → m.core.frames p ≡ Some f → childless m.core p f.made ≡ true → (w : ℕ) × (w < workers) × (m.hands w ≡ Some p)
-  -- until the run has ended some worker's step is enabled, and a run of as many instructions as the serial one has ended
-  pub goes_on : has_ended m ≡ false → (w : ℕ) × (next : Machine) × (w < workers) × (event prog workers (Step w) m ≡ Some next)
+  pub busy_leaves : (p : Path) (f : Frame) → m.core.frames p ≡ Some f → childless m.core p f.made ≡ true → (w : ℕ) ×
+      (w < workers) × (m.hands w ≡ Some p)
+  -- until the run has ended some worker's step is enabled, and a run of as many instructions as the serial one has
+  -- ended
+  pub goes_on : has_ended m ≡ false → (w : ℕ) × (next : Machine) × (w < workers) ×
+      (event prog workers (Step w) m ≡ Some next)
   pub ends_in_time : m.core.done ≡ o.count → has_ended m ≡ true
-  pub undisturbed : (w : ℕ) (p : Path) (others : List Event) → m.hands w ≡ Some p → NoneBy w others → Undisturbed prog m (replay prog workers others m) w p
+  pub undisturbed : (w : ℕ) (p : Path) (others : List Event) → m.hands w ≡ Some p → NoneBy w others →
+      Undisturbed prog m (replay prog workers others m) w p
 
--- The serial run exists, and is the only one; it is within the budget and the depth; and on any number of workers, whatever the events, enabled or
--- not, the machine keeps the schedule theorem.
+-- The serial run exists, and is the only one; it is within the budget and the depth; and on any number of workers,
+-- whatever the events, enabled or not, the machine keeps the schedule theorem.
 pub record RunsAsSerial (prog : Program) (arguments : List ℤ) (memory : Memory) (budget depth : ℕ) : Type 0 where
   pub outcome : Outcome
   pub serial : IsSerialMeaning prog arguments memory outcome
@@ -107,12 +113,14 @@ IsFound t p f m o = t.finds p f m o ≡ true
 -- all local conditions
 pub record MeetsConditions (prog : Program) (t : Tests) : Type 0 where
   pub stays : StaysInZone TestedZone tested prog (λ p f z. t.fits p f z ≡ true) t.pending
-  pub passes : PassesZonesOn TestedZone tested prog (λ p f z. t.fits p f z ≡ true) t.pending (λ f z. t.expects f z ≡ true)
+  pub passes : PassesZonesOn TestedZone tested prog (λ p f z. t.fits p f z ≡ true) t.pending (λ f z. t.expects f z
+      ≡ true)
   pub closes : ClosesRegions prog (λ p f. t.holds p f ≡ true) t.opens
   pub serial : RunsSerially prog (IsGood t) (IsFound t) t.rank t.may_use t.may_reach
 
 -- for these arguments and this memory they hold at the root, within the budget and the depth
-pub record HoldsAtRoot (prog : Program) (t : Tests) (arguments : List ℤ) (memory : Memory) (budget depth : ℕ) : Type 0 where
+pub record HoldsAtRoot (prog : Program) (t : Tests) (arguments : List ℤ) (memory : Memory)
+    (budget depth : ℕ) : Type 0 where
   pub zone : TestedZone
   pub fits : t.fits [] (root_frame prog arguments) zone ≡ true
   pub holds : t.holds [] (root_frame prog arguments) ≡ true

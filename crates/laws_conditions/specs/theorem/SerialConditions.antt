@@ -1,5 +1,5 @@
--- Local conditions for the serial run alone, where a child is over before its continuation begins: what is kept, that no instruction traps, and
--- that a rank falls. With them the serial meaning exists.
+-- Local conditions for the serial run alone, where a child is over before its continuation begins: what is kept, that
+-- no instruction traps, and that a rank falls. With them the serial meaning exists.
 use Rattle.std.specs.Prelude.{◌≡◌, ℕ, ◌<◌, List, ◌∷◌, Option, None, ℤ}
 use Rattle.semantics.specs.Paths.{Path}
 use Rattle.semantics.specs.Cells.{Memory}
@@ -20,10 +20,16 @@ Finds = Path → Frame → Memory → Outcome → Type 0
 
 -- good is kept by each instruction that does not trap, where base is; and post holds of the outcome
 pub record KeptSerially (prog : Program) (base good : Says) (post : Finds) : Type 0 where
-  pub plain_kept : (p : Path) (f : Frame) (m : Memory) (e : Effect) → base p f m → good p f m → action_of prog p f m ≡ Plain e → e.trap ≡ None →
+  pub plain_kept : (p : Path) (f : Frame) (m : Memory) (e : Effect) → base p f m → good p f m →
+      action_of prog p f m ≡ Plain e → e.trap ≡ None →
       base p (went f e) (written e m) →
-      record { next : good p (went f e) (written e m); finds : (o : Outcome) → post p (went f e) (written e m) o → post p f m (one_more o) }
-  pub sync_kept : (p : Path) (f : Frame) (m : Memory) (region block : ℕ) (registers : Registers) → base p f m → good p f m →
+      record {
+        next : good p (went f e) (written e m);
+        finds : (o : Outcome) → post p (went f e) (written e m) o →
+            post p f m (one_more o);
+      }
+  pub sync_kept : (p : Path) (f : Frame) (m : Memory) (region block : ℕ) (registers : Registers) → base p f m →
+      good p f m →
       action_of prog p f m ≡ Sync region block registers → base p (synced f region block registers) m →
       record {
         next : good p (synced f region block registers) m;
@@ -31,20 +37,25 @@ pub record KeptSerially (prog : Program) (base good : Says) (post : Finds) : Typ
             post p f m (one_more o);
       }
   pub child_kept : (p : Path) (f : Frame) (m : Memory) (region body continuation : ℕ) → base p f m → good p f m →
-      action_of prog p f m ≡ Detach region body continuation → base (f.made ∷ p) (detached f region body continuation) m →
+      action_of prog p f m ≡ Detach region body continuation →
+      base (f.made ∷ p) (detached f region body continuation) m →
       good (f.made ∷ p) (detached f region body continuation) m
   pub continued_kept : (p : Path) (f : Frame) (m : Memory) (region body continuation : ℕ) → base p f m → good p f m →
-      action_of prog p f m ≡ Detach region body continuation → base (f.made ∷ p) (detached f region body continuation) m →
-      (o : Outcome) → o.ending ≡ Left → post (f.made ∷ p) (detached f region body continuation) m o → base p (continued f continuation) o.memory →
+      action_of prog p f m ≡ Detach region body continuation →
+      base (f.made ∷ p) (detached f region body continuation) m →
+      (o : Outcome) → o.ending ≡ Left → post (f.made ∷ p) (detached f region body continuation) m o →
+      base p (continued f continuation) o.memory →
       record {
         next : good p (continued f continuation) o.memory;
         finds : (u : Outcome) → post p (continued f continuation) o.memory u →
             post p f m (both_outcomes o u);
       }
-  pub callee_kept : (p : Path) (f : Frame) (m : Memory) (d : Option RegisterId) (callee : ℕ) (values : List Value) → base p f m → good p f m →
+  pub callee_kept : (p : Path) (f : Frame) (m : Memory) (d : Option RegisterId) (callee : ℕ) (values : List Value) →
+      base p f m → good p f m →
       action_of prog p f m ≡ Call d callee values → base (f.made ∷ p) (called p f callee values) m →
       good (f.made ∷ p) (called p f callee values) m
-  pub resumed_kept : (p : Path) (f : Frame) (m : Memory) (d : Option RegisterId) (callee : ℕ) (values : List Value) → base p f m → good p f m →
+  pub resumed_kept : (p : Path) (f : Frame) (m : Memory) (d : Option RegisterId) (callee : ℕ) (values : List Value) →
+      base p f m → good p f m →
       action_of prog p f m ≡ Call d callee values → base (f.made ∷ p) (called p f callee values) m →
       (o : Outcome) (result : Option ℤ) → o.ending ≡ Gave result → post (f.made ∷ p) (called p f callee values) m o →
       base p (resumed (waiting f d) d result) o.memory →
@@ -53,12 +64,15 @@ pub record KeptSerially (prog : Program) (base good : Says) (post : Finds) : Typ
         finds : (u : Outcome) → post p (resumed (waiting f d) d result) o.memory u →
             post p f m (both_outcomes o u);
       }
-  pub reattach_finds : (p : Path) (f : Frame) (m : Memory) (region : ℕ) → base p f m → good p f m → action_of prog p f m ≡ Reattach region →
+  pub reattach_finds : (p : Path) (f : Frame) (m : Memory) (region : ℕ) → base p f m → good p f m →
+      action_of prog p f m ≡ Reattach region →
       post p f m (at_last Left m)
-  pub return_finds : (p : Path) (f : Frame) (m : Memory) (result : Option ℤ) → base p f m → good p f m → action_of prog p f m ≡ Return result →
+  pub return_finds : (p : Path) (f : Frame) (m : Memory) (result : Option ℤ) → base p f m → good p f m →
+      action_of prog p f m ≡ Return result →
       post p f m (at_last (Gave result) (cleared p m))
 
--- what falls, the first that differs deciding: the function, its measure, what its block may still use, the steps of the block that are left
+-- what falls, the first that differs deciding: the function, its measure, what its block may still use, the steps of
+-- the block that are left
 pub record Rank : Type 0 where
   pub function : ℕ
   pub measure : ℕ
@@ -73,20 +87,27 @@ pub data Below (a b : Rank) : Type 0 where
 
 -- no instruction of a good frame traps, and the rank falls from it to each frame that it goes on with
 pub record RunsOn (prog : Program) (good : Says) (rank : Frame → Rank) : Type 0 where
-  pub no_trap : (p : Path) (f : Frame) (m : Memory) (e : Effect) → good p f m → action_of prog p f m ≡ Plain e → e.trap ≡ None
-  pub plain_falls : (p : Path) (f : Frame) (m : Memory) (e : Effect) → good p f m → action_of prog p f m ≡ Plain e → good p (went f e) (written e m) →
+  pub no_trap : (p : Path) (f : Frame) (m : Memory) (e : Effect) → good p f m → action_of prog p f m ≡ Plain e →
+      e.trap ≡ None
+  pub plain_falls : (p : Path) (f : Frame) (m : Memory) (e : Effect) → good p f m → action_of prog p f m ≡ Plain e →
+      good p (went f e) (written e m) →
       Below (rank (went f e)) (rank f)
   pub sync_falls : (p : Path) (f : Frame) (m : Memory) (region block : ℕ) (registers : Registers) → good p f m →
       action_of prog p f m ≡ Sync region block registers → good p (synced f region block registers) m →
       Below (rank (synced f region block registers)) (rank f)
-  pub child_falls : (p : Path) (f : Frame) (m : Memory) (region body continuation : ℕ) → good p f m → action_of prog p f m ≡ Detach region body continuation →
-      good (f.made ∷ p) (detached f region body continuation) m → Below (rank (detached f region body continuation)) (rank f)
+  pub child_falls : (p : Path) (f : Frame) (m : Memory) (region body continuation : ℕ) → good p f m →
+      action_of prog p f m ≡ Detach region body continuation →
+      good (f.made ∷ p) (detached f region body continuation) m →
+      Below (rank (detached f region body continuation)) (rank f)
   pub continued_falls : (p : Path) (f : Frame) (m n : Memory) (region body continuation : ℕ) → good p f m →
-      action_of prog p f m ≡ Detach region body continuation → good p (continued f continuation) n → Below (rank (continued f continuation)) (rank f)
-  pub callee_falls : (p : Path) (f : Frame) (m : Memory) (d : Option RegisterId) (callee : ℕ) (values : List Value) → good p f m →
+      action_of prog p f m ≡ Detach region body continuation → good p (continued f continuation) n →
+      Below (rank (continued f continuation)) (rank f)
+  pub callee_falls : (p : Path) (f : Frame) (m : Memory) (d : Option RegisterId) (callee : ℕ) (values : List Value) →
+      good p f m →
       action_of prog p f m ≡ Call d callee values → good (f.made ∷ p) (called p f callee values) m →
       Below (rank (called p f callee values)) (rank f)
-  pub resumed_falls : (p : Path) (f : Frame) (m n : Memory) (d : Option RegisterId) (callee : ℕ) (values : List Value) (result : Option ℤ) → good p f m →
+  pub resumed_falls : (p : Path) (f : Frame) (m n : Memory) (d : Option RegisterId) (callee : ℕ) (values : List Value)
+      (result : Option ℤ) → good p f m →
       action_of prog p f m ≡ Call d callee values → good p (resumed (waiting f d) d result) n →
       Below (rank (resumed (waiting f d) d result)) (rank f)
 

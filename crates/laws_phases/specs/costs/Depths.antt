@@ -21,7 +21,8 @@ depth_in before self tasks (Some function) m = depth_from before self tasks func
 
 -- depth(f, m), and 0 where there is no such function
 abbrev pub depth_of : Program → Regions → ℕ → ℕ → ℕ
-depth_of program regions f m = depth_in (first_depths program regions f) f (tasks_of regions f) (slice_get program.functions f) m
+depth_of program regions f m = depth_in (first_depths program regions f) f (tasks_of regions f)
+    (slice_get program.functions f) m
 
 -- each function calls itself or one further up in the text
 abbrev pub CallsUpward : Program → Type 0
@@ -30,4 +31,5 @@ CallsUpward program =
     item_at program function block index ≡ Some (Does (instruction.Call d g arguments)) → g.0 ≤ function
 
 abbrev pub DepthsTabled : Type 0
-DepthsTabled = (program : Program) (regions : Regions) → CallsUpward program → DepthTable program (level_of regions) (depth_of program regions)
+DepthsTabled = (program : Program) (regions : Regions) → CallsUpward program →
+    DepthTable program (level_of regions) (depth_of program regions)

@@ -1,4 +1,5 @@
--- The law owed to the machine: the serial run from any place ends, within what is left there and within the depth of the table.
+-- The law owed to the machine: the serial run from any place ends, within what is left there and within the depth of
+-- the table.
 use Rattle.std.specs.Prelude.{◌≡◌, ℕ, ◌≤◌, List, [], Some, All, Bool, true, ℤ, pos, ◌≤ℤ◌, slice_get}
 use Rattle.semantics.specs.Paths.{Path}
 use Rattle.semantics.specs.Cells.{Memory, globals_of}
@@ -33,14 +34,16 @@ pub record AreRulesRight (prog : Program) (regions : Regions) : Type 0 where
   pub ranges : AreRangesRight prog
   pub costs : AreCostsRight prog
 
--- what is kept along the serial run, given as tests: numbers of their widths, and something at each place that finds what it reads
-pub record IsKeptReady (prog : Program) (base : Path → Frame → Memory → Bool) (post : Path → Frame → Memory → Outcome → Bool) : Type 0 where
+-- what is kept along the serial run, given as tests: numbers of their widths, and something at each place that finds
+-- what it reads
+pub record IsKeptReady (prog : Program) (base : Path → Frame → Memory → Bool) (post : Path → Frame → Memory → Outcome →
+    Bool) : Type 0 where
   pub kept : KeptSerially prog Nothing (λ p f m. base p f m ≡ true) (λ p f m o. post p f m o ≡ true)
   pub widths : (p : Path) (f : Frame) (m : Memory) → base p f m ≡ true → HasWidths prog f
   pub ready : (p : Path) (f : Frame) (m : Memory) → base p f m ≡ true → IsReady prog p f m
 
--- the rest of the frame ends without a trap, within what is left of its block less what the steps behind it have spent, and no deeper than the table
--- has it for a block within so many detaches
+-- the rest of the frame ends without a trap, within what is left of its block less what the steps behind it have spent,
+-- and no deeper than the table has it for a block within so many detaches
 pub record EndsWithin (prog : Program) (regions : Regions) (p : Path) (f : Frame) (m : Memory) : Type 0 where
   pub outcome : Outcome
   pub within : ℕ
@@ -51,9 +54,11 @@ pub record EndsWithin (prog : Program) (regions : Regions) (p : Path) (f : Frame
 -- from each place where the facts are true, and where what is left and the measure are within their bounds
 abbrev pub EndsFromAnyPlace : Type 0
 EndsFromAnyPlace =
-    (prog : Program) (regions : Regions) (base : Path → Frame → Memory → Bool) (post : Path → Frame → Memory → Outcome → Bool) → AreRulesRight prog regions →
+    (prog : Program) (regions : Regions) (base : Path → Frame → Memory → Bool) (post : Path → Frame → Memory → Outcome →
+    Bool) → AreRulesRight prog regions →
     IsKeptReady prog base post →
-    (p : Path) (f : Frame) (m : Memory) → base p f m ≡ true → KnownHold prog f → IsCosted prog f → EndsWithin prog regions p f m
+    (p : Path) (f : Frame) (m : Memory) → base p f m ≡ true → KnownHold prog f → IsCosted prog f →
+    EndsWithin prog regions p f m
 
 -- the serial run of the whole program ends, within the cost and the depth of `main` at its greatest measure
 pub record EndsWithinBudget (prog : Program) (regions : Regions) (arguments : List ℤ) (memory : Memory) : Type 0 where
@@ -65,8 +70,10 @@ pub record EndsWithinBudget (prog : Program) (regions : Regions) (arguments : Li
 -- where the arguments meet what `main` requires
 abbrev pub RunEndsWithinBudget : Type 0
 RunEndsWithinBudget =
-    (prog : Program) (regions : Regions) (base : Path → Frame → Memory → Bool) (post : Path → Frame → Memory → Outcome → Bool) → AreRulesRight prog regions →
+    (prog : Program) (regions : Regions) (base : Path → Frame → Memory → Bool) (post : Path → Frame → Memory → Outcome →
+    Bool) → AreRulesRight prog regions →
     IsKeptReady prog base post →
     (arguments : List ℤ) (memory : Memory) → base [] (root_frame prog arguments) (globals_of memory) ≡ true →
     ((function : Function) → slice_get prog.functions prog.main.0 ≡ Some function →
-    All (IsMet (numbers (root_frame prog arguments).registers)) function.requirements) → EndsWithinBudget prog regions arguments memory
+    All (IsMet (numbers (root_frame prog arguments).registers)) function.requirements) →
+    EndsWithinBudget prog regions arguments memory

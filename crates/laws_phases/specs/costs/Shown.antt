@@ -17,7 +17,8 @@ pub record IsMeasured (prog : Program) : Type 0 where
   pub parameters : (g : ℕ) (function : Function) → slice_get prog.functions g ≡ Some function →
       All (λ t. t.register.0 < length function.parameters) function.measure.form.terms
   -- each function has an entry block
-  pub entry : (g : ℕ) (function : Function) → slice_get prog.functions g ≡ Some function → is_some (slice_get function.blocks 0) ≡ true
+  pub entry : (g : ℕ) (function : Function) → slice_get prog.functions g ≡ Some function →
+      is_some (slice_get function.blocks 0) ≡ true
   pub upward : CallsUpward prog
 
 -- What the rules on names, types, the graph and definedness give of the program.
@@ -29,4 +30,5 @@ pub record IsReadable (prog : Program) : Type 0 where
   pub measured : IsMeasured prog
 
 abbrev pub CostsAreShown : Type 0
-CostsAreShown = (prog : Program) → AreCostsRight prog → IsReadable prog → CostsShown prog (known_at_place prog) (outs_at prog)
+CostsAreShown = (prog : Program) → AreCostsRight prog → IsReadable prog →
+    CostsShown prog (known_at_place prog) (outs_at prog)

@@ -1,5 +1,6 @@
 -- Registers that are defined on each path to a place, as the rule on registers has them.
-use Rattle.std.specs.Prelude.{◌≡◌, ℕ, zero, suc, List, [], ◌∷◌, ◌++◌, length, map, Option, Some, None, Contains, slice_get}
+use Rattle.std.specs.Prelude.{◌≡◌, ℕ, zero, suc, List, [], ◌∷◌, ◌++◌, length, map, Option, Some, None, Contains}
+use Rattle.std.specs.Prelude.{slice_get}
 use Rattle.semantics.specs.Frames.{Does, item_at}
 use Rattle.laws_conditions.specs.theorem.SerialConditions.{Nothing, KeptSerially}
 use Rattle.std.specs.List.{flat_map}
@@ -31,9 +32,11 @@ steps_define [] i = []
 steps_define (s ∷ steps) zero = []
 steps_define (s ∷ steps) (suc i) = listed (dest_of s.instruction) ++ steps_define steps i
 
--- what a block has defined before its step of this number: the parameters in the entry block, its phis, and its steps before
+-- what a block has defined before its step of this number: the parameters in the entry block, its phis, and its steps
+-- before
 abbrev pub defined_before : Function → ℕ → Block → ℕ → List ℕ
-defined_before function b block i = gives (start_gives b (length function.parameters)) ++ (gives (flat_map phi_gives block.phis) ++ steps_define block.steps i)
+defined_before function b block i = gives (start_gives b (length function.parameters)) ++
+    (gives (flat_map phi_gives block.phis) ++ steps_define block.steps i)
 
 -- on each path to the place the register is defined before it
 pub record IsAlways (prog : Program) (f b i r : ℕ) : Type 0 where
@@ -45,14 +48,18 @@ pub record IsAlways (prog : Program) (f b i r : ℕ) : Type 0 where
 
 -- 401 holds in each function
 abbrev pub AreUsesDefined : Program → Type 0
-AreUsesDefined prog = (f : ℕ) (function : Function) → slice_get prog.functions f ≡ Some function → AreRegistersDefined function
+AreUsesDefined prog = (f : ℕ) (function : Function) → slice_get prog.functions f ≡ Some function →
+    AreRegistersDefined function
 
 -- registers that are defined on each path to a frame's place have values in it
 abbrev pub DefinedAreKept : Type 0
-DefinedAreKept = (prog : Program) → IsNamed prog → AreRegionsRight prog → KeptSerially prog Nothing (Registered (IsAlways prog)) (GivesNumber prog)
+DefinedAreKept = (prog : Program) → IsNamed prog → AreRegionsRight prog →
+    KeptSerially prog Nothing (Registered (IsAlways prog)) (GivesNumber prog)
 
 -- and each register that an instruction uses is one of them
 abbrev pub UsesAreDefined : Type 0
-UsesAreDefined = (prog : Program) → AreUsesDefined prog → (f b i : ℕ) (what : Instruction) (n : ℕ) → item_at prog f b i ≡ Some (Does what) →
-    ((function : Function) (line : ℕ) → slice_get prog.functions f ≡ Some function → Contains (instruction_needs function.allocas line what) (Needs n line)) →
+UsesAreDefined = (prog : Program) → AreUsesDefined prog → (f b i : ℕ) (what : Instruction) (n : ℕ) →
+    item_at prog f b i ≡ Some (Does what) →
+    ((function : Function) (line : ℕ) → slice_get prog.functions f ≡ Some function →
+    Contains (instruction_needs function.allocas line what) (Needs n line)) →
     IsAlways prog f b i n

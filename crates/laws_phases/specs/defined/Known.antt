@@ -23,12 +23,14 @@ IsPut callee arguments d r = (r < length arguments) ⊎ ((r ≡ length callee.re
 pub record NamesParameters (prog : Program) : Type 0 where
   pub requirements : (f : ℕ) (function : Function) → slice_get prog.functions f ≡ Some function →
       All (NamesOnly (λ r. r < length function.parameters)) function.requirements
-  pub guarantees : (f b i : ℕ) (d : Option RegisterId) (g : FunctionId) (arguments : List Argument) (callee : Function) →
+  pub guarantees : (f b i : ℕ) (d : Option RegisterId) (g : FunctionId) (arguments : List Argument)
+      (callee : Function) →
       item_at prog f b i ≡ Some (Does (instruction.Call d g arguments)) → slice_get prog.functions g.0 ≡ Some callee →
       All (NamesOnly (IsPut callee arguments d)) callee.guarantees
 
 abbrev pub KnownIsStable : Type 0
 KnownIsStable =
-    (prog : Program) → IsStable prog → NamesParameters prog → (f b i d : ℕ) (function : Function) (block : Block) → IsBlock prog f b function block →
+    (prog : Program) → IsStable prog → NamesParameters prog → (f b i d : ℕ) (function : Function) (block : Block) →
+    IsBlock prog f b function block →
     StepDefines function b i d →
     All (λ (fact : Fact). Lacks fact.form d) (facts_at_step prog.functions function b block i)

@@ -54,10 +54,12 @@ pub record IsNamed (prog : Program) : Type 0 where
   -- no edge leads to the entry block, so it has no phis
   pub entry : (f : ℕ) (function : Function) (block : Block) → IsBlock prog f 0 function block → block.phis ≡ []
   -- labels and callees are there
-  pub targets : (f b i to : ℕ) (t : Terminator) (w : Way) → item_at prog f b i ≡ Some (Ends t) → LeadsTo t w to → is_some (block_at prog f to) ≡ true
+  pub targets : (f b i to : ℕ) (t : Terminator) (w : Way) → item_at prog f b i ≡ Some (Ends t) → LeadsTo t w to →
+      is_some (block_at prog f to) ≡ true
   pub callees : (f b i : ℕ) (d : Option RegisterId) (g : FunctionId) (arguments : List Argument) →
       item_at prog f b i ≡ Some (Does (instruction.Call d g arguments)) → is_some (block_at prog g.0 0) ≡ true
-  -- a call passes as many arguments as there are parameters, and one that defines a register is of a function that returns a number
+  -- a call passes as many arguments as there are parameters, and one that defines a register is of a function that
+  -- returns a number
   pub arguments : (f b i : ℕ) (d : Option RegisterId) (g : FunctionId) (arguments : List Argument) →
       item_at prog f b i ≡ Some (Does (instruction.Call d g arguments)) → length arguments ≡ parameters_of prog g.0
   pub calls : (f b i : ℕ) (d : RegisterId) (g : FunctionId) (arguments : List Argument) →

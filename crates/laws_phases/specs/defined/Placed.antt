@@ -20,12 +20,14 @@ use Rattle.region_match.specs.Matched.{AreRegionsRight}
 use Rattle.laws_phases.specs.defined.Leads.{IsBlock}
 use Rattle.laws_phases.specs.defined.Names.{IsNamed}
 
--- a body's frame is in no child's task; a child's is in the task of the detach that made it, within its region and with its continuation
+-- a body's frame is in no child's task; a child's is in the task of the detach that made it, within its region and with
+-- its continuation
 abbrev pub Suits : List Block → Role → List ℕ → Type 0
 Suits bodies Body [] = Unit {0}
 Suits bodies Body (d ∷ ds) = ⊥
 Suits bodies (Child r k) [] = ⊥
-Suits bodies (Child r k) (d ∷ ds) = (region : RegisterId) × (continuation : BlockId) × IsDetach (ending_at bodies d) region continuation × (region.0 ≡ r) ×
+Suits bodies (Child r k) (d ∷ ds) = (region : RegisterId) × (continuation : BlockId) ×
+    IsDetach (ending_at bodies d) region continuation × (region.0 ≡ r) ×
     (continuation.0 ≡ k)
 
 pub record IsPlaced (prog : Program) (f : Frame) : Type 0 where
@@ -46,9 +48,11 @@ NoFinds p f m o = Unit {0}
 
 -- a `ret` stands in a function's own frame, a reattach in a child of its region and continuation
 pub record RolesFit (prog : Program) (f : Frame) : Type 0 where
-  pub returns : (v : Option Operand) → item_at prog f.function f.block f.index ≡ Some (Ends (terminator.Return v)) → f.role ≡ Body
+  pub returns : (v : Option Operand) → item_at prog f.function f.block f.index ≡ Some (Ends (terminator.Return v)) →
+      f.role ≡ Body
   pub reattaches : (region : RegisterId) (continuation : BlockId) →
-      item_at prog f.function f.block f.index ≡ Some (Ends (terminator.Reattach region continuation)) → f.role ≡ Child region.0 continuation.0
+      item_at prog f.function f.block f.index ≡ Some (Ends (terminator.Reattach region continuation)) →
+      f.role ≡ Child region.0 continuation.0
 
 abbrev pub TasksKept : Type 0
 TasksKept = (prog : Program) → IsNamed prog → KeptSerially prog Nothing (Placed prog) NoFinds
@@ -58,4 +62,5 @@ RolesFitTasks = (prog : Program) → AreRegionsRight prog → (f : Frame) → Is
 
 -- something stands at a frame's place
 abbrev pub PlacesHaveItems : Type 0
-PlacesHaveItems = (prog : Program) → IsGraphRight prog → (f : Frame) → IsPlaced prog f → (x : Item) × (item_at prog f.function f.block f.index ≡ Some x)
+PlacesHaveItems = (prog : Program) → IsGraphRight prog → (f : Frame) → IsPlaced prog f → (x : Item) ×
+    (item_at prog f.function f.block f.index ≡ Some x)

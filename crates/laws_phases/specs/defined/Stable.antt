@@ -1,4 +1,5 @@
--- Which registers a step and a phi leave alone: those of the annotations, facts and zones of their places. An act that needs a register names it.
+-- Which registers a step and a phi leave alone: those of the annotations, facts and zones of their places. An act that
+-- needs a register names it.
 use Rattle.std.specs.Prelude.{◌≡◌, ◌≢◌, ℕ, ◌<◌, ◌≤◌, List, ◌∷◌, length, Some, Contains, slice_get}
 use Rattle.std.specs.List.{flat_map}
 use Rattle.linear.specs.declared.form.RegisterId.{RegisterId}
@@ -27,19 +28,24 @@ Names acts r = (line : ℕ) × Contains acts (Needs r line)
 -- the `foot` lines that a block of a child keeps to do not name the register
 abbrev pub IsOffFoot : Function → ℕ → ℕ → Type 0
 IsOffFoot function b d =
-    (detach : ℕ) (outer : List ℕ) (region : RegisterId) (body continuation : BlockId) (child : Block) → HasTask (graph_of function).blocks b (detach ∷ outer) →
-    ending_at function.blocks detach ≡ Some (terminator.Detach region body continuation) → slice_get function.blocks body.0 ≡ Some child →
+    (detach : ℕ) (outer : List ℕ) (region : RegisterId) (body continuation : BlockId) (child : Block) →
+    HasTask (graph_of function).blocks b (detach ∷ outer) →
+    ending_at function.blocks detach ≡ Some (terminator.Detach region body continuation) →
+    slice_get function.blocks body.0 ≡ Some child →
     Names (flat_map (zone_needs function.allocas) child.foot) d → ⊥
 
--- the register d, which the step of this number defines, is no parameter, and is named by none of: the annotations of the block, the `shows`
--- lines and the operands of the step and of those before it, their results, the zones of the child
+-- the register d, which the step of this number defines, is no parameter, and is named by none of: the annotations of
+-- the block, the `shows` lines and the operands of the step and of those before it, their results, the zones of the
+-- child
 pub record IsSteady (function : Function) (b : ℕ) (block : Block) (i d : ℕ) : Type 0 where
   pub parameter : length function.parameters ≤ d
   pub keeps : Names (flat_map inequality_needs block.keeps) d → ⊥
   pub pending : Names (flat_map (pending_needs function.allocas) block.pending) d → ⊥
   pub left : Names (left_needs block.left) d → ⊥
-  pub shows : (j : ℕ) (s : Step) → j ≤ i → slice_get block.steps j ≡ Some s → Names (flat_map inequality_needs s.shows) d → ⊥
-  pub uses : (j : ℕ) (s : Step) → j ≤ i → slice_get block.steps j ≡ Some s → Names (instruction_needs function.allocas s.line s.instruction) d → ⊥
+  pub shows : (j : ℕ) (s : Step) → j ≤ i → slice_get block.steps j ≡ Some s →
+      Names (flat_map inequality_needs s.shows) d → ⊥
+  pub uses : (j : ℕ) (s : Step) → j ≤ i → slice_get block.steps j ≡ Some s →
+      Names (instruction_needs function.allocas s.line s.instruction) d → ⊥
   pub earlier : (j : ℕ) (s : Step) → j < i → slice_get block.steps j ≡ Some s → dest_of s.instruction ≢ Some d
   pub foot : IsOffFoot function b d
 
@@ -49,8 +55,11 @@ pub record IsSteadyPhi (function : Function) (b d : ℕ) : Type 0 where
   pub foot : IsOffFoot function b d
 
 pub record IsStable (prog : Program) : Type 0 where
-  pub steps : (f b i d : ℕ) (function : Function) (block : Block) → IsBlock prog f b function block → StepDefines function b i d → IsSteady function b block i d
-  pub phis : (f b d : ℕ) (function : Function) (block : Block) → IsBlock prog f b function block → PhiDefines function b d → IsSteadyPhi function b d
+  pub steps : (f b i d : ℕ) (function : Function) (block : Block) → IsBlock prog f b function block →
+      StepDefines function b i d → IsSteady function b block i d
+  pub phis : (f b d : ℕ) (function : Function) (block : Block) → IsBlock prog f b function block →
+      PhiDefines function b d → IsSteadyPhi function b d
 
 abbrev pub StableByRules : Type 0
-StableByRules = (prog : Program) → IsNamed prog → IsGraphRight prog → AreRegionsRight prog → AreUsesDefined prog → IsStable prog
+StableByRules = (prog : Program) → IsNamed prog → IsGraphRight prog → AreRegionsRight prog → AreUsesDefined prog →
+    IsStable prog

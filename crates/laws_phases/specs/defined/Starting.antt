@@ -26,5 +26,6 @@ pub record IsFirst (prog : Program) (arguments : List ℤ) (memory : Memory) : T
   pub registers : Registered (IsAlways prog) [] (root_frame prog arguments) (globals_of memory)
 
 abbrev pub StartsWell : Type 0
-StartsWell = (prog : Program) → IsNamed prog → AreRegionsRight prog → (arguments : List ℤ) (memory : Memory) → StartsRight prog arguments memory →
+StartsWell = (prog : Program) → IsNamed prog → AreRegionsRight prog → (arguments : List ℤ) (memory : Memory) →
+    StartsRight prog arguments memory →
     IsFirst prog arguments memory

@@ -1,4 +1,5 @@
--- What the facts hand on to the rules above them: facts at places and on edges, true in the frames there, from the start on.
+-- What the facts hand on to the rules above them: facts at places and on edges, true in the frames there, from the
+-- start on.
 use Rattle.std.specs.Prelude.{◌≡◌, ℕ, List, [], ◌++◌, length, map, Option, Some, None, All, slice_get, ℤ}
 use Rattle.semantics.specs.Frames.{block_at}
 use Rattle.semantics.specs.State.{root_frame}
@@ -30,8 +31,10 @@ outs_of known edges = map (out_of known) edges
 -- the edges of a jump, branch, switch or sync, where this is known at the block's end
 abbrev pub outs_along : List Fact → List Step → Terminator → List Out
 outs_along known steps (terminator.Jump target) = outs_of known (edges_out steps (terminator.Jump target))
-outs_along known steps (terminator.Branch condition when_true when_false) = outs_of known (edges_out steps (terminator.Branch condition when_true when_false))
-outs_along known steps (terminator.Switch width value default cases) = outs_of known (edges_out steps (terminator.Switch width value default cases))
+outs_along known steps (terminator.Branch condition when_true when_false) =
+    outs_of known (edges_out steps (terminator.Branch condition when_true when_false))
+outs_along known steps (terminator.Switch width value default cases) =
+    outs_of known (edges_out steps (terminator.Switch width value default cases))
 outs_along known steps (terminator.Return value) = []
 outs_along known steps (terminator.Detach region body continuation) = []
 outs_along known steps (terminator.Reattach region continuation) = []
@@ -58,13 +61,16 @@ abbrev pub FactsAtStart : Type 0
 FactsAtStart =
     (prog : Program) → AreRangesRight prog → (arguments : List ℤ) →
     ((function : Function) → slice_get prog.functions prog.main.0 ≡ Some function →
-    All (IsMet (numbers (root_frame prog arguments).registers)) function.requirements) → KnownHold prog (root_frame prog arguments)
+    All (IsMet (numbers (root_frame prog arguments).registers)) function.requirements) →
+    KnownHold prog (root_frame prog arguments)
 
 -- the facts of a place are those of the table
 pub record IsTabled (prog : Program) (f b : ℕ) (function : Function) (block : Block) : Type 0 where
-  pub at_step : (i : ℕ) (step : Step) → slice_get block.steps i ≡ Some step → known_at_place prog f b i ≡ facts_at_step prog.functions function b block i
+  pub at_step : (i : ℕ) (step : Step) → slice_get block.steps i ≡ Some step →
+      known_at_place prog f b i ≡ facts_at_step prog.functions function b block i
   pub at_end : known_at_place prog f b (length block.steps) ≡ facts_at_end prog.functions function b block
 
 abbrev pub FactsTabled : Type 0
-FactsTabled = (prog : Program) (f b : ℕ) (function : Function) (block : Block) → slice_get prog.functions f ≡ Some function →
+FactsTabled = (prog : Program) (f b : ℕ) (function : Function) (block : Block) →
+    slice_get prog.functions f ≡ Some function →
     slice_get function.blocks b ≡ Some block → IsTabled prog f b function block

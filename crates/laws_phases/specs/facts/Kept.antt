@@ -1,5 +1,6 @@
 -- The law: facts that hold are kept along the serial run, and what a function's `ensures` say holds of what it returns.
-use Rattle.std.specs.Prelude.{◌≡◌, ℕ, Option, Some, None, Bool, true, is_some, All, slice_get, length, ℤ, if◌then◌else◌, ◌==◌}
+use Rattle.std.specs.Prelude.{◌≡◌, ℕ, Option, Some, None, Bool, true, is_some, All, slice_get, length, ℤ, if◌then◌else◌}
+use Rattle.std.specs.Prelude.{◌==◌}
 use Rattle.semantics.specs.Paths.{Path}
 use Rattle.semantics.specs.Cells.{Memory, or_zero}
 use Rattle.semantics.specs.Frames.{Registers, Frame}

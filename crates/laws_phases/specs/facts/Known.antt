@@ -28,7 +28,8 @@ shows_at (step ∷ steps) ending (suc index) = shows_at steps ending index
 abbrev pub known_in_block : List Function → Function → ℕ → Option Block → ℕ → List Fact
 known_in_block functions function b None index = []
 known_in_block functions function b (Some block) index =
-    with_shows (facts_before functions (start_facts function b block) block.steps index) (shows_at block.steps block.ending index)
+    with_shows (facts_before functions (start_facts function b block) block.steps index)
+    (shows_at block.steps block.ending index)
 
 abbrev pub known_in : List Function → Option Function → ℕ → ℕ → List Fact
 known_in functions None b index = []
@@ -62,4 +63,5 @@ HoldsTest r (instruction.StartRegion d) = Unit {0}
 -- the facts of the frame's place are true of its registers, and so are the compares that it has done in its block
 pub record KnownHold (prog : Program) (f : Frame) : Type 0 where
   pub facts : AllHold (numbers f.registers) (known_at_place prog f.function f.block f.index)
-  pub tests : (k : ℕ) (i : Instruction) → k < f.index → item_at prog f.function f.block k ≡ Some (Does i) → HoldsTest f.registers i
+  pub tests : (k : ℕ) (i : Instruction) → k < f.index → item_at prog f.function f.block k ≡ Some (Does i) →
+      HoldsTest f.registers i

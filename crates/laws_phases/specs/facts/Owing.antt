@@ -1,5 +1,6 @@
 -- What the phases on names, types, the graph, regions and definedness owe the law on facts.
-use Rattle.std.specs.Prelude.{◌≡◌, ◌≢◌, ℕ, ◌<◌, ◌≤◌, List, [], ◌∷◌, length, Option, Some, None, true, false, ◌⊎◌, is_some, All, slice_get, ℤ}
+use Rattle.std.specs.Prelude.{◌≡◌, ◌≢◌, ℕ, ◌<◌, ◌≤◌, List, [], ◌∷◌, length, Option, Some, None, true, false, ◌⊎◌}
+use Rattle.std.specs.Prelude.{is_some, All, slice_get, ℤ}
 use Rattle.semantics.specs.Arithmetic.{fits}
 use Rattle.semantics.specs.Frames.{Registers, Frame, Does, Ends, item_at, phis_at, word_at}
 use Rattle.linear.specs.declared.form.RegisterId.{RegisterId}
@@ -32,23 +33,31 @@ use Rattle.laws_phases.specs.defined.Names.{NamesOnly}
 
 -- a parameter, or the result of a function that gives a number
 abbrev pub IsGiven : Program → ℕ → Function → ℕ → Type 0
-IsGiven prog g function r = (r < length function.parameters) ⊎ ((r ≡ length function.registers) × (returns_number prog g ≡ true))
+IsGiven prog g function r = (r < length function.parameters) ⊎ ((r ≡ length function.registers) ×
+    (returns_number prog g ≡ true))
 
 pub record IsTyped (prog : Program) : Type 0 where
   -- the parameters are the first registers
-  pub parameters : (g : ℕ) (function : Function) → slice_get prog.functions g ≡ Some function → length function.parameters ≤ length function.registers
+  pub parameters : (g : ℕ) (function : Function) → slice_get prog.functions g ≡ Some function →
+      length function.parameters ≤ length function.registers
   -- `requires` name parameters, and `ensures` the result too
   pub requirements : (g : ℕ) (function : Function) → slice_get prog.functions g ≡ Some function →
       All (NamesOnly (λ r. r < length function.parameters)) function.requirements
-  pub guarantees : (g : ℕ) (function : Function) → slice_get prog.functions g ≡ Some function → All (NamesOnly (IsGiven prog g function)) function.guarantees
-  -- a call passes as many arguments as there are parameters, and defines a register exactly where the function gives a number
+  pub guarantees : (g : ℕ) (function : Function) → slice_get prog.functions g ≡ Some function →
+      All (NamesOnly (IsGiven prog g function)) function.guarantees
+  -- a call passes as many arguments as there are parameters, and defines a register exactly where the function gives a
+  -- number
   pub arguments : (function block index : ℕ) (d : Option RegisterId) (g : FunctionId) (arguments : List Argument) →
-      item_at prog function block index ≡ Some (Does (instruction.Call d g arguments)) → length arguments ≡ parameters_of prog g.0
+      item_at prog function block index ≡ Some (Does (instruction.Call d g arguments)) →
+      length arguments ≡ parameters_of prog g.0
   pub results : (function block index : ℕ) (d : Option RegisterId) (g : FunctionId) (arguments : List Argument) →
-      item_at prog function block index ≡ Some (Does (instruction.Call d g arguments)) → returns_number prog g.0 ≡ is_some d
-  pub returns : (function block index : ℕ) → item_at prog function block index ≡ Some (Ends (terminator.Return None)) → returns_number prog function ≡ false
+      item_at prog function block index ≡ Some (Does (instruction.Call d g arguments)) →
+      returns_number prog g.0 ≡ is_some d
+  pub returns : (function block index : ℕ) → item_at prog function block index ≡ Some (Ends (terminator.Return None)) →
+      returns_number prog function ≡ false
   -- no edge leads to an entry block
-  pub entry : (function block index : ℕ) (t : Terminator) (steps : List Step) → item_at prog function block index ≡ Some (Ends t) →
+  pub entry : (function block index : ℕ) (t : Terminator) (steps : List Step) →
+      item_at prog function block index ≡ Some (Ends t) →
       All (λ e. e.to.0 ≢ 0) (edges_out steps t)
   -- where a detach leads to, no phi stands
   pub forks : (function block index : ℕ) (region : RegisterId) (body continuation : BlockId) →
@@ -97,14 +106,17 @@ AreApart [] = Unit {0}
 AreApart (phi ∷ phis) = All (λ other. other.register.0 ≢ phi.register.0) phis × AreApart phis
 
 pub record AreFactsStable (prog : Program) : Type 0 where
-  pub steps : (function block index : ℕ) (i : Instruction) (d : ℕ) → item_at prog function block index ≡ Some (Does i) → dest_of i ≡ Some d →
+  pub steps : (function block index : ℕ) (i : Instruction) (d : ℕ) → item_at prog function block index ≡ Some (Does i) →
+      dest_of i ≡ Some d →
       LeavesKnown prog function block index i d
-  pub phis : (function block : ℕ) → All (λ phi. parameters_of prog function ≤ phi.register.0) (phis_at prog function block)
+  pub phis : (function block : ℕ) →
+      All (λ phi. parameters_of prog function ≤ phi.register.0) (phis_at prog function block)
   pub apart : (function block : ℕ) → AreApart (phis_at prog function block)
 
 -- ---- numbers of their widths
 
--- A number of i64 may come from memory, where a cell holds any number; so what is made known rests on the widths of these alone.
+-- A number of i64 may come from memory, where a cell holds any number; so what is made known rests on the widths of
+-- these alone.
 abbrev pub FitsAt : Registers → Width → Operand → Type 0
 FitsAt r w x = (z : ℤ) → word_at r x ≡ Some z → fits w z ≡ true
 
@@ -118,7 +130,8 @@ FitsConversion r Truncate x = Unit {0}
 FitsConversion r SignExtend x = FitsAt r Bits32 x
 FitsConversion r ZeroExtend x = FitsAt r Bits32 x
 
--- the numbers that the instruction reads are of the widths that it reads them at: those of the text, and those of i32 that it extends
+-- the numbers that the instruction reads are of the widths that it reads them at: those of the text, and those of i32
+-- that it extends
 abbrev pub FitsWidths : Registers → Instruction → Type 0
 FitsWidths r (instruction.Binary d operator width x y) = FitsText width y
 FitsWidths r (instruction.Compare d predicate width x y) = Unit {0}
@@ -133,4 +146,5 @@ FitsWidths r (instruction.Call d callee arguments) = Unit {0}
 FitsWidths r (instruction.StartRegion d) = Unit {0}
 
 abbrev pub HasWidths : Program → Frame → Type 0
-HasWidths prog f = (i : Instruction) → item_at prog f.function f.block f.index ≡ Some (Does i) → FitsWidths f.registers i
+HasWidths prog f = (i : Instruction) → item_at prog f.function f.block f.index ≡ Some (Does i) →
+    FitsWidths f.registers i

@@ -14,9 +14,11 @@ use Rattle.laws_phases.specs.facts.Owing.{IsTyped, AreFactsStable}
 -- two phis of a block define two registers, as the rules on names have it
 abbrev pub ArePhisApart : Program → Type 0
 ArePhisApart prog =
-    (f b m n : ℕ) (function : Function) (block : Block) (x y : Phi) → IsBlock prog f b function block → slice_get block.phis m ≡ Some x →
+    (f b m n : ℕ) (function : Function) (block : Block) (x y : Phi) → IsBlock prog f b function block →
+    slice_get block.phis m ≡ Some x →
     slice_get block.phis n ≡ Some y → x.register.0 ≡ y.register.0 → m ≡ n
 
 abbrev pub FactsAreStable : Type 0
-FactsAreStable = (prog : Program) → IsNamed prog → ArePhisApart prog → IsTyped prog → IsGraphRight prog → AreRegionsRight prog → AreUsesDefined prog →
+FactsAreStable = (prog : Program) → IsNamed prog → ArePhisApart prog → IsTyped prog → IsGraphRight prog →
+    AreRegionsRight prog → AreUsesDefined prog →
     AreFactsStable prog

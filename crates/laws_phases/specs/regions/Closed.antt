@@ -21,7 +21,8 @@ pub record IsOpenAt (function : Function) (b r : ℕ) : Type 0 where
 
 -- the region is open at the frame's block
 abbrev pub IsOpenIn : Program → Frame → ℕ → Type 0
-IsOpenIn prog f r = (function : Function) × (slice_get prog.functions f.function ≡ Some function) × IsOpenAt function f.block r
+IsOpenIn prog f r = (function : Function) × (slice_get prog.functions f.function ≡ Some function) ×
+    IsOpenAt function f.block r
 
 -- frames that stand in a block of their task, by a test that says just which regions are open there
 pub record ClosesByPlace (prog : Program) : Type 0 where
@@ -35,4 +36,5 @@ RegionsAreClosed = (prog : Program) → IsNamed prog → IsGraphRight prog → A
 
 -- what they ask of the first frame, where `main` is there
 abbrev pub StartsInPlace : Type 0
-StartsInPlace = (prog : Program) (arguments : List ℤ) → is_some (block_at prog prog.main.0 0) ≡ true → IsPlaced prog (root_frame prog arguments)
+StartsInPlace = (prog : Program) (arguments : List ℤ) → is_some (block_at prog prog.main.0 0) ≡ true →
+    IsPlaced prog (root_frame prog arguments)

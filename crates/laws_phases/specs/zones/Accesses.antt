@@ -15,6 +15,8 @@ use Rattle.laws_phases.specs.zones.Uses.{Uses, StandsIn, KnownHolds, NamesApart,
 abbrev pub AccessesAreLet : Type 0
 AccessesAreLet =
     (prog : Program) (regions : Regions) → AreZonesRightBy prog regions →
-    (p : Path) (f : Frame) (m : Memory) (function : Function) (block : Block) → StandsIn prog f function block → KnownHolds prog f function block →
+    (p : Path) (f : Frame) (m : Memory) (function : Function) (block : Block) → StandsIn prog f function block →
+    KnownHolds prog f function block →
     NamesApart prog f → ElementsHold f block →
-    (e : Effect) → action_of prog p f m ≡ Plain e → (mode : Mode) (c : Cell) → Uses e mode c → MayUse regions f function block mode c
+    (e : Effect) → action_of prog p f m ≡ Plain e → (mode : Mode) (c : Cell) → Uses e mode c →
+    MayUse regions f function block mode c

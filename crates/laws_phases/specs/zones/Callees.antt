@@ -22,9 +22,11 @@ pub record IsOverParameters (n : ℕ) (z : Zone) : Type 0 where
 abbrev pub CalleesAreLet : Type 0
 CalleesAreLet =
     (prog : Program) (regions : Regions) → AreZonesRightBy prog regions →
-    (p : Path) (f : Frame) (m : Memory) (function : Function) (block : Block) → StandsIn prog f function block → KnownHolds prog f function block →
+    (p : Path) (f : Frame) (m : Memory) (function : Function) (block : Block) → StandsIn prog f function block →
+    KnownHolds prog f function block →
     NamesApart prog f →
     (d : Option RegisterId) (callee : ℕ) (values : List Value) → action_of prog p f m ≡ Call d callee values →
-    (called_function : Function) → slice_get prog.functions callee ≡ Some called_function → (z : Zone) → Contains called_function.zones z →
+    (called_function : Function) → slice_get prog.functions callee ≡ Some called_function → (z : Zone) →
+    Contains called_function.zones z →
     IsOverParameters (length values) z →
     (c : Cell) → HoldsCell (called p f callee values) z c → MayUse regions f function block z.mode c

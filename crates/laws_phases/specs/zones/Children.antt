@@ -17,8 +17,10 @@ use Rattle.footprints.specs.Rules.{AreZonesRightBy}
 abbrev pub FeetAreLet : Type 0
 FeetAreLet =
     (prog : Program) (regions : Regions) → AreZonesRightBy prog regions →
-    (p : Path) (f : Frame) (m : Memory) (function : Function) (block : Block) → StandsIn prog f function block → KnownHolds prog f function block →
+    (p : Path) (f : Frame) (m : Memory) (function : Function) (block : Block) → StandsIn prog f function block →
+    KnownHolds prog f function block →
     NamesApart prog f →
     (region body continuation : ℕ) → action_of prog p f m ≡ Detach region body continuation →
-    (z : Zone) → Contains (foot_of (slice_get function.blocks body)) z → (c : Cell) → HoldsCell (detached f region body continuation) z c →
+    (z : Zone) → Contains (foot_of (slice_get function.blocks body)) z → (c : Cell) →
+    HoldsCell (detached f region body continuation) z c →
     MayUse regions f function block z.mode c

@@ -27,21 +27,26 @@ use Rattle.laws_conditions.specs.rules.Costs.{numbers}
 use Rattle.laws_phases.specs.zones.Uses.{StandsIn, IsUsed, HoldsCell}
 use Rattle.footprints.specs.Rules.{AreZonesRightBy}
 
--- g is f behind an edge: its registers are those of f with the moves made, and what its function names stands for the same objects
+-- g is f behind an edge: its registers are those of f with the moves made, and what its function names stands for the
+-- same objects
 pub record GoesAlong (prog : Program) (f g : Frame) (moves : List Move) : Type 0 where
-  pub numbers_are : (x : RegisterId) → numbers g.registers x.0 ≡ operand_value (numbers f.registers) (operand_for moves x)
+  pub numbers_are : (x : RegisterId) →
+      numbers g.registers x.0 ≡ operand_value (numbers f.registers) (operand_for moves x)
   pub objects : (name : ObjectName) → IsUsed prog.functions f.function name → object_at g name ≡ object_at f name
 
 -- a zone that is pending of the region has the cell for such a use
 abbrev pub IsPendingFor : Frame → List Pending → RegisterId → Mode → Cell → Type 0
-IsPendingFor g pending region mode c = Any (λ q. (q.region.0 ≡ region.0) × (HoldsCell g q.zone c × (mode_covers q.zone.mode mode ≡ true))) pending
+IsPendingFor g pending region mode c = Any (λ q. (q.region.0 ≡ region.0) ×
+    (HoldsCell g q.zone c × (mode_covers q.zone.mode mode ≡ true))) pending
 
 -- a cell of what is pending is pending behind each edge that hands its region on
 abbrev pub PendingGoesOn : Type 0
 PendingGoesOn =
     (prog : Program) (regions : Regions) → AreZonesRightBy prog regions →
-    (f g : Frame) (function : Function) (block : Block) (ending : Ending) → StandsIn prog f function block → block.ending ≡ Some ending →
-    (edge : EdgeFacts) → Contains (edges_known prog.functions function f.block block (Some ending)) edge → AllHold (numbers f.registers) edge.facts →
+    (f g : Frame) (function : Function) (block : Block) (ending : Ending) → StandsIn prog f function block →
+    block.ending ≡ Some ending →
+    (edge : EdgeFacts) → Contains (edges_known prog.functions function f.block block (Some ending)) edge →
+    AllHold (numbers f.registers) edge.facts →
     GoesAlong prog f g edge.moves →
     (q : Pending) → Contains block.pending q → hands_on edge.way q.region ≡ true → (c : Cell) → HoldsCell f q.zone c →
     IsPendingFor g (pending_of (slice_get function.blocks edge.to.0)) q.region q.zone.mode c
@@ -50,9 +55,12 @@ PendingGoesOn =
 abbrev pub FeetGoOn : Type 0
 FeetGoOn =
     (prog : Program) (regions : Regions) → AreZonesRightBy prog regions →
-    (f g : Frame) (function : Function) (block : Block) (ending : Ending) → StandsIn prog f function block → block.ending ≡ Some ending →
-    (edge : EdgeFacts) → Contains (edges_known prog.functions function f.block block (Some ending)) edge → AllHold (numbers f.registers) edge.facts →
+    (f g : Frame) (function : Function) (block : Block) (ending : Ending) → StandsIn prog f function block →
+    block.ending ≡ Some ending →
+    (edge : EdgeFacts) → Contains (edges_known prog.functions function f.block block (Some ending)) edge →
+    AllHold (numbers f.registers) edge.facts →
     GoesAlong prog f g edge.moves →
-    (region : RegisterId) (body continuation : BlockId) → ending.terminator ≡ Detach region body continuation → edge.way ≡ Continued →
+    (region : RegisterId) (body continuation : BlockId) → ending.terminator ≡ Detach region body continuation →
+    edge.way ≡ Continued →
     (z : Zone) → Contains (foot_of (slice_get function.blocks body.0)) z → (c : Cell) → HoldsCell f z c →
     IsPendingFor g (pending_of (slice_get function.blocks edge.to.0)) region z.mode c

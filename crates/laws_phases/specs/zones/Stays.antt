@@ -18,5 +18,6 @@ pub record IsUnnamed (d : ℕ) (z : Zone) : Type 0 where
 
 abbrev pub ZonesStay : Type 0
 ZonesStay =
-    (f : Frame) (dest : Option ℕ) (e : Effect) → GoesOn f dest e → (z : Zone) → ((d : ℕ) → dest ≡ Some d → IsUnnamed d z) → (c : Cell) →
+    (f : Frame) (dest : Option ℕ) (e : Effect) → GoesOn f dest e → (z : Zone) →
+    ((d : ℕ) → dest ≡ Some d → IsUnnamed d z) → (c : Cell) →
     HoldsCell f z c ↔ HoldsCell (went f e) z c

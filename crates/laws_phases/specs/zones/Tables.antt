@@ -5,4 +5,5 @@ use Rattle.region_match.specs.declared.tables.FunctionTasks.{FunctionTasks}
 use Rattle.region_match.specs.Tasks.{AreAllTasks}
 
 abbrev pub TasksHaveOneTable : Type 0
-TasksHaveOneTable = (graphs : List FunctionGraph) (a b : List FunctionTasks) → AreAllTasks graphs a → AreAllTasks graphs b → a ≡ b
+TasksHaveOneTable = (graphs : List FunctionGraph) (a b : List FunctionTasks) → AreAllTasks graphs a →
+    AreAllTasks graphs b → a ≡ b

@@ -1,5 +1,6 @@
 -- What an instruction uses of the cells, and what lets a frame use a cell at its place.
-use Rattle.std.specs.Prelude.{◌≡◌, ◌⊎◌, ◌≤ℤ◌, ◌+ℤ◌, pos, ℕ, Bool, true, List, Some, is_some, All, Any, length, slice_get}
+use Rattle.std.specs.Prelude.{◌≡◌, ◌⊎◌, ◌≤ℤ◌, ◌+ℤ◌, pos, ℕ, Bool, true, List, Some, is_some, All, Any, length}
+use Rattle.std.specs.Prelude.{slice_get}
 use Rattle.syntax.specs.declared.operator.Mode.{Mode}
 use Rattle.syntax.specs.declared.operator.Mode.TheVariants.{Reads, Writes, Adds}
 use Rattle.linear.specs.Forms.{value}
@@ -51,7 +52,8 @@ pub record StandsIn (prog : Program) (f : Frame) (function : Function) (block : 
 pub record KnownHolds (prog : Program) (f : Frame) (function : Function) (block : Block) : Type 0 where
   pub at_step : (step : Step) → slice_get block.steps f.index ≡ Some step →
       AllHold (numbers f.registers) (facts_at_step prog.functions function f.block block f.index)
-  pub at_end : f.index ≡ length block.steps → AllHold (numbers f.registers) (facts_at_end prog.functions function f.block block)
+  pub at_end : f.index ≡ length block.steps →
+      AllHold (numbers f.registers) (facts_at_end prog.functions function f.block block)
 
 -- a name that the function's text has, or a global that a function has that it calls
 abbrev pub IsUsed : List Function → ℕ → ObjectName → Type 0
@@ -62,7 +64,8 @@ IsUsed functions f (Parameter register) = IsNamedBy functions f (Parameter regis
 -- two of these names that stand for one object are one name
 abbrev pub NamesApart : Program → Frame → Type 0
 NamesApart prog f =
-    (a b : ObjectName) (o : Object) → IsUsed prog.functions f.function a → IsUsed prog.functions f.function b → object_at f a ≡ Some o →
+    (a b : ObjectName) (o : Object) → IsUsed prog.functions f.function a → IsUsed prog.functions f.function b →
+    object_at f a ≡ Some o →
     object_at f b ≡ Some o → a ≡ b
 
 -- the instruction loads from, stores at or adds at the address
@@ -82,13 +85,15 @@ IsAt (instruction.StartRegion d) address = ⊥
 -- at a use of an element its register holds the cell that the `getelementptr` of the block names, as the registers are
 abbrev pub ElementsHold : Frame → Block → Type 0
 ElementsHold f block =
-    (step : Step) (x : RegisterId) (named : NamedCell) (c : Cell) → slice_get block.steps f.index ≡ Some step → IsAt step.instruction (Element x) →
+    (step : Step) (x : RegisterId) (named : NamedCell) (c : Cell) → slice_get block.steps f.index ≡ Some step →
+    IsAt step.instruction (Element x) →
     pointed x block.steps ≡ Some named → cell_of (f.registers x.0) ≡ Some c →
     (object_at f named.object ≡ Some c.object) × (operand_value (numbers f.registers) named.index ≡ pos c.index)
 
 -- ---- what lets it use a cell
 
--- the zone has the cell: it is of the object that the zone's name stands for in the frame, from the low end to before the high end
+-- the zone has the cell: it is of the object that the zone's name stands for in the frame, from the low end to before
+-- the high end
 pub record HoldsCell (f : Frame) (z : Zone) (c : Cell) : Type 0 where
   pub object : object_at f z.object ≡ Some c.object
   pub from_low : value (numbers f.registers) z.low ≤ℤ pos c.index
@@ -111,6 +116,8 @@ abbrev pub task_of : Regions → Frame → Task
 task_of regions f = task_at (tasks_in (slice_get regions.functions f.function)) f.block
 
 -- what covers the block has the cell for this use, and nothing that is pending is in its way
-pub record MayUse (regions : Regions) (f : Frame) (function : Function) (block : Block) (mode : Mode) (c : Cell) : Type 0 where
-  pub covered : IsOwnCell f (is_own_block (task_of regions f)) c ⊎ IsInOne f (covering_of function (task_of regions f)) mode c
+pub record MayUse (regions : Regions) (f : Frame) (function : Function) (block : Block) (mode : Mode)
+    (c : Cell) : Type 0 where
+  pub covered : IsOwnCell f (is_own_block (task_of regions f)) c ⊎
+      IsInOne f (covering_of function (task_of regions f)) mode c
   pub clear : IsClearOf f block.pending mode c

@@ -1,9 +1,11 @@
 -- What the registers of a frame hold, by their kinds.
-use Rattle.std.specs.Prelude.{◌≡◌, ℕ, suc, List, [], ◌∷◌, Option, Some, None, Bool, true, false, ◌&&◌, ◌==◌, slice_get, ℤ}
+use Rattle.std.specs.Prelude.{◌≡◌, ℕ, suc, List, [], ◌∷◌, Option, Some, None, Bool, true, false, ◌&&◌, ◌==◌, slice_get}
+use Rattle.std.specs.Prelude.{ℤ}
 use Rattle.semantics.specs.Paths.{Path}
 use Rattle.semantics.specs.Cells.{Memory}
 use Rattle.semantics.specs.Arithmetic.{fits}
-use Rattle.semantics.specs.Frames.{Value, Word, Truth, Pointer, Region, Registers, Wait, Free, OnRegion, OnCall, Halted, Frame}
+use Rattle.semantics.specs.Frames.{Value, Word, Truth, Pointer, Region, Registers, Wait, Free, OnRegion, OnCall, Halted}
+use Rattle.semantics.specs.Frames.{Frame}
 use Rattle.linear.specs.declared.form.RegisterId.{RegisterId}
 use Rattle.syntax.specs.declared.operator.Width.{Width}
 use Rattle.syntax.specs.declared.operator.Width.TheVariants.{Bits64, Bits32}
@@ -34,12 +36,15 @@ holds_kind kind (Some value) = is_of_kind kind value
 
 -- each register that has a value holds one of its kind
 abbrev pub HoldKinds : List RegisterKind → Registers → Type 0
-HoldKinds kinds registers = (r : ℕ) (kind : RegisterKind) → slice_get kinds r ≡ Some kind → holds_kind kind (registers r) ≡ true
+HoldKinds kinds registers = (r : ℕ) (kind : RegisterKind) → slice_get kinds r ≡ Some kind →
+    holds_kind kind (registers r) ≡ true
 
 -- so do the registers of the frame's function, and what a call gives goes into one for a number
 pub record HasKindedRegisters (prog : Program) (f : Frame) : Type 0 where
-  pub holds : (function : Function) → slice_get prog.functions f.function ≡ Some function → HoldKinds function.registers f.registers
-  pub awaits : (function : Function) → slice_get prog.functions f.function ≡ Some function → (k : ℕ) (d : Option RegisterId) → f.waits ≡ OnCall k d →
+  pub holds : (function : Function) → slice_get prog.functions f.function ≡ Some function →
+      HoldKinds function.registers f.registers
+  pub awaits : (function : Function) → slice_get prog.functions f.function ≡ Some function →
+      (k : ℕ) (d : Option RegisterId) → f.waits ≡ OnCall k d →
       IsResult function.registers d
 
 abbrev pub Kinded : Program → Path → Frame → Memory → Type 0

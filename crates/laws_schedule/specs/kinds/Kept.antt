@@ -21,11 +21,13 @@ KindsAreKeptSerially = (prog : Program) → IsTyped prog → HasKinds prog → K
 
 -- the first frame, where `main` takes numbers
 abbrev pub StartsKinded : Type 0
-StartsKinded = (prog : Program) → HasKinds prog → TakesNumbers prog prog.main.0 → (arguments : List ℤ) → length arguments ≡ parameters_of prog prog.main.0 →
+StartsKinded = (prog : Program) → HasKinds prog → TakesNumbers prog prog.main.0 → (arguments : List ℤ) →
+    length arguments ≡ parameters_of prog prog.main.0 →
     HasKindedRegisters prog (root_frame prog arguments)
 
 abbrev pub WidthsAreGiven : Type 0
-WidthsAreGiven = (prog : Program) → IsTyped prog → HasKinds prog → HasKindedUses prog → GivesWidths prog (λ p f. HasKindedRegisters prog f)
+WidthsAreGiven = (prog : Program) → IsTyped prog → HasKinds prog → HasKindedUses prog →
+    GivesWidths prog (λ p f. HasKindedRegisters prog f)
 
 -- the test says just that
 pub record IsTested (prog : Program) (f : Frame) : Type 0 where
@@ -37,4 +39,5 @@ KindsAreTested = (prog : Program) (f : Frame) → IsTested prog f
 
 -- the same of conditions that are given by tests
 abbrev pub WidthsAreGivenByTests : Type 0
-WidthsAreGivenByTests = (prog : Program) → IsTyped prog → HasKinds prog → HasKindedUses prog → GivesWidths prog (λ p f. is_kinded prog f ≡ true)
+WidthsAreGivenByTests = (prog : Program) → IsTyped prog → HasKinds prog → HasKindedUses prog →
+    GivesWidths prog (λ p f. is_kinded prog f ≡ true)

@@ -23,8 +23,8 @@ pub record IsReadByRules (prog : Program) : Type 0 where
   pub kinds : HasKinds prog
   pub uses : HasKindedUses prog
 
--- what is kept of a frame: its place, values in the registers that are defined there, of their kinds, values in the cells that it reads, and
--- regions of its own
+-- what is kept of a frame: its place, values in the registers that are defined there, of their kinds, values in the
+-- cells that it reads, and regions of its own
 pub record HoldsAll (prog : Program) (p : Path) (f : Frame) (m : Memory) : Type 0 where
   pub placed : IsPlaced prog f
   pub registers : Registered (IsAlways prog) p f m
@@ -33,4 +33,5 @@ pub record HoldsAll (prog : Program) (p : Path) (f : Frame) (m : Memory) : Type 
   pub regions : UsesOwnRegions prog p f
 
 abbrev pub FramesAreReady : Type 0
-FramesAreReady = (prog : Program) → IsReadByRules prog → (p : Path) (f : Frame) (m : Memory) → HoldsAll prog p f m → IsReady prog p f m
+FramesAreReady = (prog : Program) → IsReadByRules prog → (p : Path) (f : Frame) (m : Memory) → HoldsAll prog p f m →
+    IsReady prog p f m

@@ -29,15 +29,20 @@ address_in other = None
 
 -- each parameter is a number
 abbrev pub TakesNumbers : Program → ℕ → Type 0
-TakesNumbers prog f = (function : Function) → slice_get prog.functions f ≡ Some function → All (λ one. one ≡ parameter.Number) function.parameters
+TakesNumbers prog f = (function : Function) → slice_get prog.functions f ≡ Some function →
+    All (λ one. one ≡ parameter.Number) function.parameters
 
 pub record HasKindedUses (prog : Program) : Type 0 where
   -- an object that is named by a parameter is a pointer's
-  pub objects : (f b i : ℕ) (what : Instruction) (r : RegisterId) (function : Function) → item_at prog f b i ≡ Some (Does what) →
-      slice_get prog.functions f ≡ Some function → InstructionNames what (object.Parameter r) → IsOfKind function.registers r.0 kind.Object
+  pub objects : (f b i : ℕ) (what : Instruction) (r : RegisterId) (function : Function) →
+      item_at prog f b i ≡ Some (Does what) →
+      slice_get prog.functions f ≡ Some function → InstructionNames what (object.Parameter r) →
+      IsOfKind function.registers r.0 kind.Object
   -- an address in a register is that of an element
-  pub elements : (f b i : ℕ) (what : Instruction) (r : RegisterId) (function : Function) → item_at prog f b i ≡ Some (Does what) →
-      slice_get prog.functions f ≡ Some function → address_in what ≡ Some (address.Element r) → IsOfKind function.registers r.0 kind.Element
+  pub elements : (f b i : ℕ) (what : Instruction) (r : RegisterId) (function : Function) →
+      item_at prog f b i ≡ Some (Does what) →
+      slice_get prog.functions f ≡ Some function → address_in what ≡ Some (address.Element r) →
+      IsOfKind function.registers r.0 kind.Element
   -- a number of the text that arithmetic takes fits its width
   pub numbers : (f b i : ℕ) (d : RegisterId) (operator : BinaryOperator) (width : Width) (x : Operand) (z : ℤ) →
       item_at prog f b i ≡ Some (Does (instruction.Binary d operator width x (operand.Number z))) → fits width z ≡ true

@@ -24,11 +24,13 @@ IsName functions f (Parameter register) = register.0 < parameters_at functions f
 -- a state that a run of the program reaches by steps of its frames, in any order
 pub data IsReached (prog : Program) (arguments : List ℤ) (memory : Memory) : State → Type 0 where
   at_start : IsReached prog arguments memory (start_state prog arguments memory)
-  by_step : (p : Path) (s next : State) → IsReached prog arguments memory s → core_step prog p s ≡ Some next → IsReached prog arguments memory next
+  by_step : (p : Path) (s next : State) → IsReached prog arguments memory s → core_step prog p s ≡ Some next →
+      IsReached prog arguments memory next
 
 -- two names of a frame that stand for one object are one name
 abbrev pub NamesAreApart : List Function → Frame → Type 0
-NamesAreApart functions f = (a b : ObjectName) (o : Object) → IsName functions f.function a → IsName functions f.function b → object_at f a ≡ Some o →
+NamesAreApart functions f = (a b : ObjectName) (o : Object) → IsName functions f.function a →
+    IsName functions f.function b → object_at f a ≡ Some o →
     object_at f b ≡ Some o → a ≡ b
 
 -- so it is with each frame of each state that a run of the program reaches
@@ -39,11 +41,13 @@ KeepsNamesApart prog =
 
 -- it is enough that calls keep pointers apart and that parameters keep what they were given
 abbrev pub PointerNamesAreApart : Type 0
-PointerNamesAreApart = (prog : Program) → CallsApart prog.functions → KeepsParameters prog.functions → KeepsNamesApart prog
+PointerNamesAreApart = (prog : Program) → CallsApart prog.functions → KeepsParameters prog.functions →
+    KeepsNamesApart prog
 
 -- the program that a text means keeps names apart
 abbrev pub MeantNamesAreApart : Type 0
-MeantNamesAreApart = (text : List ℕ) (whole : Module) (prog : Program) → Answers text (Ok whole) → Means whole (Ok prog) → KeepsNamesApart prog
+MeantNamesAreApart = (text : List ℕ) (whole : Module) (prog : Program) → Answers text (Ok whole) →
+    Means whole (Ok prog) → KeepsNamesApart prog
 
 -- so does each program that the verifier takes
 abbrev pub AcceptedNamesAreApart : Type 0

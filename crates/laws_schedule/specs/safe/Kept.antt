@@ -16,7 +16,8 @@ OfAll s holds = (p : Path) (f : Frame) → s.frames p ≡ Some f → holds p f
 -- what each step keeps of each frame is so of all frames
 abbrev pub KeepsEverywhere : Program → (Path → Frame → Type 0) → Type 0
 KeepsEverywhere prog holds =
-    IsKeptBySteps prog holds → (workers : ℕ) (m : Machine) → NeverTraps prog workers m → OfAll m.core holds → (events : List Event) →
+    IsKeptBySteps prog holds → (workers : ℕ) (m : Machine) → NeverTraps prog workers m → OfAll m.core holds →
+    (events : List Event) →
     OfAll (replay prog workers events m).core holds
 
 -- for what is told by a test
@@ -32,5 +33,7 @@ pub record IsWithin (n : ℕ) (p : Path) (f : Frame) : Type 0 where
 -- nor above the instructions done
 abbrev pub FramesAreCounted : Type 0
 FramesAreCounted =
-    (prog : Program) (arguments : List ℤ) (memory : Memory) (workers : ℕ) → NeverTraps prog workers (start prog arguments memory) → (events : List Event) →
-    OfAll (replay prog workers events (start prog arguments memory)).core (IsWithin (replay prog workers events (start prog arguments memory)).core.done)
+    (prog : Program) (arguments : List ℤ) (memory : Memory) (workers : ℕ) →
+    NeverTraps prog workers (start prog arguments memory) → (events : List Event) →
+    OfAll (replay prog workers events (start prog arguments memory)).core
+    (IsWithin (replay prog workers events (start prog arguments memory)).core.done)

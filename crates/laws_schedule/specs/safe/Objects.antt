@@ -49,7 +49,8 @@ pub record KnowsObjects (prog : Program) (s : State) (p : Path) (f : Frame) : Ty
       HasCells prog s p (cells_of prog f.function (object.Parameter (record { 0 = k }))) c.object
   -- the steps of its block have pointed to cells that are there
   pub elements : (j : ℕ) (d : RegisterId) (name : ObjectName) (index : Operand) (c : Cell) → j < f.index →
-      item_at prog f.function f.block j ≡ Some (Does (instruction.ElementPointer d name index)) → cell_of (f.registers d.0) ≡ Some c → HasCell prog s p c
+      item_at prog f.function f.block j ≡ Some (Does (instruction.ElementPointer d name index)) →
+      cell_of (f.registers d.0) ≡ Some c → HasCell prog s p c
   pub awaits : (k : ℕ) (d : Option RegisterId) → f.waits ≡ OnCall k d → IsBehindCall prog f d
 
 -- so it is with each frame, in any order of steps
@@ -57,4 +58,5 @@ abbrev pub ObjectsAreKnown : Type 0
 ObjectsAreKnown =
     (prog : Program) → IsNamed prog → NamesObjects prog → (arguments : List ℤ) (memory : Memory) (workers : ℕ) →
     NeverTraps prog workers (start prog arguments memory) → (events : List Event) →
-    OfAll (replay prog workers events (start prog arguments memory)).core (KnowsObjects prog (replay prog workers events (start prog arguments memory)).core)
+    OfAll (replay prog workers events (start prog arguments memory)).core
+    (KnowsObjects prog (replay prog workers events (start prog arguments memory)).core)

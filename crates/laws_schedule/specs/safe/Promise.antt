@@ -21,6 +21,8 @@ pub record IsSafeRun (program : Program) (m : Machine) : Type 0 where
 
 abbrev pub SchedulesAreSafe : Type 0
 SchedulesAreSafe =
-    (text : List ℕ) (program : Program) → IsProgramOf text program → (arguments : List ℤ) (memory : Memory) → AreTaken program arguments →
+    (text : List ℕ) (program : Program) → IsProgramOf text program → (arguments : List ℤ) (memory : Memory) →
+    AreTaken program arguments →
     HasGlobals program memory →
-    (workers : ℕ) → 1 ≤ workers → (events : List Event) → IsSafeRun program (replay program workers events (start program arguments memory))
+    (workers : ℕ) → 1 ≤ workers → (events : List Event) →
+    IsSafeRun program (replay program workers events (start program arguments memory))

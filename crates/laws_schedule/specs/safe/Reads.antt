@@ -47,20 +47,24 @@ InstructionReads (instruction.Load d at) r = AddressReads at r
 InstructionReads (instruction.Store a at) r = AddressReads at r ⊎ OperandReads a r
 InstructionReads (instruction.StoreZeros n name) r = ObjectReads name r
 InstructionReads (instruction.AtomicAdd at a) r = AddressReads at r ⊎ OperandReads a r
-InstructionReads (instruction.Call d callee arguments) r = (k : ℕ) × (one : Argument) × (slice_get arguments k ≡ Some one) × ArgumentReads one r
+InstructionReads (instruction.Call d callee arguments) r = (k : ℕ) × (one : Argument) ×
+    (slice_get arguments k ≡ Some one) × ArgumentReads one r
 InstructionReads (instruction.StartRegion d) r = ⊥
 
 -- the phis of the block to which an edge leads read what they take from the frame's block
 abbrev pub EdgeReads : Program → Frame → ℕ → ℕ → Type 0
-EdgeReads prog f target r = (i : ℕ) × (phi : Phi) × (from : Operand) × (slice_get (phis_at prog f.function target) i ≡ Some phi) ×
+EdgeReads prog f target r = (i : ℕ) × (phi : Phi) × (from : Operand) ×
+    (slice_get (phis_at prog f.function target) i ≡ Some phi) ×
     (entry_for f.block phi.entries ≡ Some from) × OperandReads from r
 
 -- with the phis of the edge that is taken
 abbrev pub TerminatorReads : Program → Frame → Terminator → ℕ → Type 0
 TerminatorReads prog f (terminator.Jump target) r = EdgeReads prog f target.0 r
-TerminatorReads prog f (terminator.Branch test x y) r = (test.0 ≡ r) ⊎ ((b : Bool) × (truth_of (f.registers test.0) ≡ Some b) ×
+TerminatorReads prog f (terminator.Branch test x y) r = (test.0 ≡ r) ⊎ ((b : Bool) ×
+    (truth_of (f.registers test.0) ≡ Some b) ×
     EdgeReads prog f (cond b x.0 y.0) r)
-TerminatorReads prog f (terminator.Switch w a default cases) r = OperandReads a r ⊎ ((z : ℤ) × (word_at f.registers a ≡ Some z) ×
+TerminatorReads prog f (terminator.Switch w a default cases) r = OperandReads a r ⊎
+    ((z : ℤ) × (word_at f.registers a ≡ Some z) ×
     EdgeReads prog f (case_for z default.0 cases) r)
 TerminatorReads prog f (terminator.Return None) r = ⊥
 TerminatorReads prog f (terminator.Return (Some a)) r = OperandReads a r

@@ -1,4 +1,5 @@
--- What holds of the living frames of a run by workers, in any order of steps: what a machine would else have to test at each step.
+-- What holds of the living frames of a run by workers, in any order of steps: what a machine would else have to test at
+-- each step.
 use Rattle.std.specs.Prelude.{◌≡◌, ℕ, ◌<◌, ◌≤◌, [], length, Option, Some, true, is_some, slice_get, ℤ}
 use Rattle.syntax.specs.declared.operator.Mode.{Mode}
 use Rattle.syntax.specs.declared.operator.Mode.TheVariants.{Reads, Writes, Adds}
@@ -22,10 +23,13 @@ use Rattle.laws_schedule.specs.safe.Objects.{HasCell, KnowsObjects}
 use Rattle.laws_schedule.specs.safe.Steps.{IsSteady}
 use Rattle.laws_schedule.specs.safe.Reads.{ItemReads, HoldsKind}
 
--- each register that a step or a phi of the function sets is one of the function's, and a block has no more phis than the function has registers
+-- each register that a step or a phi of the function sets is one of the function's, and a block has no more phis than
+-- the function has registers
 pub record BoundsRegisters (prog : Program) (f : ℕ) (function : Function) : Type 0 where
-  pub steps : (b i d : ℕ) (what : Instruction) → item_at prog f b i ≡ Some (Does what) → dest_of what ≡ Some d → d < length function.registers
-  pub phis : (b k : ℕ) (phi : Phi) → slice_get (phis_at prog f b) k ≡ Some phi → phi.register.0 < length function.registers
+  pub steps : (b i d : ℕ) (what : Instruction) → item_at prog f b i ≡ Some (Does what) → dest_of what ≡ Some d →
+      d < length function.registers
+  pub phis : (b k : ℕ) (phi : Phi) → slice_get (phis_at prog f b) k ≡ Some phi →
+      phi.register.0 < length function.registers
   pub moves : (b : ℕ) → length (phis_at prog f b) ≤ length function.registers
 
 -- the function and the block are there, and so is what stands at the frame's place
@@ -45,12 +49,14 @@ IsHeldFor Adds m c = is_some (m c) ≡ true
 
 -- what a worker's frame does next, it can do
 pub record CanStep (prog : Program) (s : State) (p : Path) (f : Frame) (place : HasPlace prog f) : Type 0 where
-  -- it may go on, does not trap, and all that it reads is there; a region is its own, and where it ends no child is left
+  -- it may go on, does not trap, and all that it reads is there; a region is its own, and where it ends no child is
+  -- left
   pub steady : IsSteady prog s p f
   -- the registers that it reads hold values of their kinds
   pub reads : (r : ℕ) → ItemReads prog f place.item r → HoldsKind place.function f r
   -- the cells that it reads, writes or adds to are there, and those that it reads or adds to hold numbers
-  pub cells : (e : Effect) (mode : Mode) (c : Cell) → action_of prog p f s.memory ≡ Plain e → Uses e mode c → HasCell prog s p c × IsHeldFor mode s.memory c
+  pub cells : (e : Effect) (mode : Mode) (c : Cell) → action_of prog p f s.memory ≡ Plain e → Uses e mode c →
+      HasCell prog s p c × IsHeldFor mode s.memory c
   -- the first frame returns a number
   pub gives : p ≡ [] → (result : Option ℤ) → action_of prog p f s.memory ≡ Return result → is_some result ≡ true
 

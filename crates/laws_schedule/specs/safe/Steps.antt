@@ -59,7 +59,8 @@ pub record IsSteady (prog : Program) (s : State) (p : Path) (f : Frame) : Type 0
 
 abbrev pub HeldFramesAreSteady : Type 0
 HeldFramesAreSteady =
-    (prog : Program) (arguments : List ℤ) (memory : Memory) (workers : ℕ) → NeverTraps prog workers (start prog arguments memory) → (events : List Event) →
+    (prog : Program) (arguments : List ℤ) (memory : Memory) (workers : ℕ) →
+    NeverTraps prog workers (start prog arguments memory) → (events : List Event) →
     (w : ℕ) (p : Path) (f : Frame) → (replay prog workers events (start prog arguments memory)).hands w ≡ Some p →
     (replay prog workers events (start prog arguments memory)).core.frames p ≡ Some f →
     IsSteady prog (replay prog workers events (start prog arguments memory)).core p f
@@ -67,6 +68,11 @@ HeldFramesAreSteady =
 -- no cell of a global loses its value
 abbrev pub GlobalsStay : Type 0
 GlobalsStay =
-    (prog : Program) (arguments : List ℤ) (memory : Memory) (workers : ℕ) → NeverTraps prog workers (start prog arguments memory) → (events : List Event) →
+    (prog : Program) (arguments : List ℤ) (memory : Memory) (workers : ℕ) →
+    NeverTraps prog workers (start prog arguments memory) → (events : List Event) →
     (g i : ℕ) → is_some (memory (record { object = Shared g; index = i })) ≡ true →
-    is_some ((replay prog workers events (start prog arguments memory)).core.memory (record { object = Shared g; index = i })) ≡ true
+    is_some ((replay prog workers events (start prog arguments memory)).core.memory (record {
+      object = Shared g;
+      index =
+          i;
+    })) ≡ true

@@ -53,11 +53,13 @@ IsArgument registers (argument.Object name) = Unit {0}
 abbrev pub IsKinded : List RegisterKind → Instruction → Type 0
 IsKinded registers (instruction.Binary d operator width x y) =
     IsOfKind registers d.0 (kind.Number width) × IsNumber registers width x × IsNumber registers width y
-IsKinded registers (instruction.Compare d predicate width x y) = IsOfKind registers d.0 kind.Truth × IsNumber registers width x × IsNumber registers width y
+IsKinded registers (instruction.Compare d predicate width x y) = IsOfKind registers d.0 kind.Truth ×
+    IsNumber registers width x × IsNumber registers width y
 IsKinded registers (instruction.Convert d conversion x) =
     IsOfKind registers d.0 (kind.Number (target_width conversion)) × IsNumber registers (source_width conversion) x
 IsKinded registers (instruction.Alloca d alloca) = IsOfKind registers d.0 kind.Object
-IsKinded registers (instruction.ElementPointer d base index) = IsOfKind registers d.0 kind.Element × IsNumber registers Bits64 index
+IsKinded registers (instruction.ElementPointer d base index) = IsOfKind registers d.0 kind.Element ×
+    IsNumber registers Bits64 index
 IsKinded registers (instruction.Load d at) = IsOfKind registers d.0 (kind.Number Bits64)
 IsKinded registers (instruction.Store x at) = IsNumber registers Bits64 x
 IsKinded registers (instruction.StoreZeros cells base) = Unit {0}
@@ -93,14 +95,18 @@ parameter_kind (parameter.Pointer cells) = kind.Object
 pub record HasKinds (program : Program) : Type 0 where
   pub parameters : (f i : ℕ) (function : Function) (one : Parameter) → slice_get program.functions f ≡ Some function →
       slice_get function.parameters i ≡ Some one → IsOfKind function.registers i (parameter_kind one)
-  pub passes : (f b i k : ℕ) (d : Option RegisterId) (g : FunctionId) (given : List Argument) (callee : Function) (one : Argument) (wanted : Parameter) →
-      item_at program f b i ≡ Some (Does (instruction.Call d g given)) → slice_get given k ≡ Some one → slice_get program.functions g.0 ≡ Some callee →
+  pub passes : (f b i k : ℕ) (d : Option RegisterId) (g : FunctionId) (given : List Argument) (callee : Function)
+      (one : Argument) (wanted : Parameter) →
+      item_at program f b i ≡ Some (Does (instruction.Call d g given)) → slice_get given k ≡ Some one →
+      slice_get program.functions g.0 ≡ Some callee →
       slice_get callee.parameters k ≡ Some wanted → IsPassed wanted one
   pub steps : (f b i : ℕ) (what : Instruction) (function : Function) → item_at program f b i ≡ Some (Does what) →
       slice_get program.functions f ≡ Some function → IsKinded function.registers what
-  pub ends : (f b i : ℕ) (t : Terminator) (function : Function) → item_at program f b i ≡ Some (Ends t) → slice_get program.functions f ≡ Some function →
+  pub ends : (f b i : ℕ) (t : Terminator) (function : Function) → item_at program f b i ≡ Some (Ends t) →
+      slice_get program.functions f ≡ Some function →
       IsKindedEnd function.registers t
-  pub phis : (f b i : ℕ) (function : Function) (block : Block) (phi : Phi) → slice_get program.functions f ≡ Some function →
+  pub phis : (f b i : ℕ) (function : Function) (block : Block) (phi : Phi) →
+      slice_get program.functions f ≡ Some function →
       slice_get function.blocks b ≡ Some block → slice_get block.phis i ≡ Some phi → IsKindedPhi function.registers phi
 
 -- each program that a module which is read means

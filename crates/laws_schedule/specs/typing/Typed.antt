@@ -1,5 +1,5 @@
--- What the laws on runs ask of names and types, of each program that a module means. Where names have to be defined once, where functions have
--- blocks, phis have entries and arrays have cells, the module is one that is read.
+-- What the laws on runs ask of names and types, of each program that a module means. Where names have to be defined
+-- once, where functions have blocks, phis have entries and arrays have cells, the module is one that is read.
 use Rattle.std.specs.Prelude.{ℕ, ◌<◌, All, Ok}
 use Rattle.linear.specs.declared.form.Term.{Term}
 use Rattle.program.specs.declared.function.Program.{Program}
@@ -17,11 +17,14 @@ use Rattle.laws_phases.specs.facts.Owing.{IsTyped}
 
 -- registers are defined once; labels and callees are there; calls fit their callees; an entry block has no phis
 abbrev pub NamesAreRight : Type 0
-NamesAreRight = (whole : Module) (program : Program) → IsKeptModule whole → Means whole (Ok program) → IsGraphRight program → IsNamed program
+NamesAreRight = (whole : Module) (program : Program) → IsKeptModule whole → Means whole (Ok program) →
+    IsGraphRight program → IsNamed program
 
--- `requires` and `ensures` name parameters and the result; results are taken where there are any; no phi stands behind a detach
+-- `requires` and `ensures` name parameters and the result; results are taken where there are any; no phi stands behind
+-- a detach
 abbrev pub TypesAreRight : Type 0
-TypesAreRight = (whole : Module) (program : Program) → Means whole (Ok program) → IsGraphRight program → AreRegionsRight program → IsTyped program
+TypesAreRight = (whole : Module) (program : Program) → Means whole (Ok program) → IsGraphRight program →
+    AreRegionsRight program → IsTyped program
 
 -- at a call, what the callee's `ensures` name is an argument or the result
 abbrev pub ParametersAreNamed : Type 0
@@ -34,5 +37,6 @@ MeasuresNameParameters = (whole : Module) (program : Program) → Means whole (O
 
 -- objects have the cells that are asked for, and an element's register is defined before it
 abbrev pub ObjectsAreNamed : Type 0
-ObjectsAreNamed = (whole : Module) (program : Program) → IsKeptModule whole → Means whole (Ok program) → IsGraphRight program → AreRegionsRight program →
+ObjectsAreNamed = (whole : Module) (program : Program) → IsKeptModule whole → Means whole (Ok program) →
+    IsGraphRight program → AreRegionsRight program →
     AreUsesDefined program → NamesObjects program

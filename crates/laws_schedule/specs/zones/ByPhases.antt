@@ -27,10 +27,12 @@ use Rattle.laws_phases.specs.facts.Stable.{ArePhisApart}
 use Rattle.laws_phases.specs.footprints.Rules.{AreZonesRightBy}
 use Rattle.laws_phases.specs.zones.Callees.{IsOverParameters}
 
--- what the rules on names give of zones: the parameters that a function's text names are its own, and its head's zones name parameters alone
+-- what the rules on names give of zones: the parameters that a function's text names are its own, and its head's zones
+-- name parameters alone
 pub record NamesZones (prog : Program) : Type 0 where
   pub own : (f : ℕ) (r : RegisterId) → IsNamedBy prog.functions f (Parameter r) → r.0 < parameters_at prog.functions f
-  pub over : (f : ℕ) (function : Function) → slice_get prog.functions f ≡ Some function → (z : Zone) → Contains function.zones z →
+  pub over : (f : ℕ) (function : Function) → slice_get prog.functions f ≡ Some function → (z : Zone) →
+      Contains function.zones z →
       IsOverParameters (length function.parameters) z
 
 -- by all phases: no rule on ranges is broken, and none on zones by the table of the blocks' tasks
@@ -48,18 +50,24 @@ pub record IsJudged (prog : Program) (regions : Regions) : Type 0 where
 
 -- base is kept of each frame by each step, whatever the other frames do
 pub record IsKeptBySteps (prog : Program) (base : Path → Frame → Type 0) : Type 0 where
-  pub plain : (p : Path) (f : Frame) (m : Memory) (e : Effect) → base p f → Going f → action_of prog p f m ≡ Plain e → e.trap ≡ None → base p (went f e)
-  pub child : (p : Path) (f : Frame) (m : Memory) (region body next : ℕ) → base p f → Going f → action_of prog p f m ≡ Detach region body next →
+  pub plain : (p : Path) (f : Frame) (m : Memory) (e : Effect) → base p f → Going f → action_of prog p f m ≡ Plain e →
+      e.trap ≡ None → base p (went f e)
+  pub child : (p : Path) (f : Frame) (m : Memory) (region body next : ℕ) → base p f → Going f →
+      action_of prog p f m ≡ Detach region body next →
       base (f.made ∷ p) (detached f region body next)
-  pub continues : (p : Path) (f : Frame) (m : Memory) (region body next : ℕ) → base p f → Going f → action_of prog p f m ≡ Detach region body next →
+  pub continues : (p : Path) (f : Frame) (m : Memory) (region body next : ℕ) → base p f → Going f →
+      action_of prog p f m ≡ Detach region body next →
       base p (continued f next)
   pub syncs : (p : Path) (f : Frame) (m : Memory) (region block : ℕ) (registers : Registers) → base p f → Going f →
       action_of prog p f m ≡ Sync region block registers → base p (synced f region block registers)
-  pub callee : (p : Path) (f : Frame) (m : Memory) (d : Option RegisterId) (callee : ℕ) (values : List Value) → base p f → Going f →
+  pub callee : (p : Path) (f : Frame) (m : Memory) (d : Option RegisterId) (callee : ℕ) (values : List Value) →
+      base p f → Going f →
       action_of prog p f m ≡ Call d callee values → base (f.made ∷ p) (called p f callee values)
-  pub waits : (p : Path) (f : Frame) (m : Memory) (d : Option RegisterId) (callee : ℕ) (values : List Value) → base p f → Going f →
+  pub waits : (p : Path) (f : Frame) (m : Memory) (d : Option RegisterId) (callee : ℕ) (values : List Value) →
+      base p f → Going f →
       action_of prog p f m ≡ Call d callee values → base p (waiting f d)
-  pub resumes : (p : Path) (f : Frame) (k : ℕ) (d : Option RegisterId) (result : Option ℤ) → base p f → f.waits ≡ OnCall k d → base p (resumed f d result)
+  pub resumes : (p : Path) (f : Frame) (k : ℕ) (d : Option RegisterId) (result : Option ℤ) → base p f →
+      f.waits ≡ OnCall k d → base p (resumed f d result)
 
 -- it says that numbers of i32 fit, so that the facts of arithmetic are true
 pub record GivesWidths (prog : Program) (base : Path → Frame → Type 0) : Type 0 where

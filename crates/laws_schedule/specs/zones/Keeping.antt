@@ -31,8 +31,8 @@ use Rattle.laws_phases.specs.zones.Edges.{IsPendingFor}
 
 -- ---- cells that are kept to
 
--- a frame and those below it: the zones of its task, as the registers of a frame read them. Or the children of a region that a frame has: what
--- is pending of the region
+-- a frame and those below it: the zones of its task, as the registers of a frame read them. Or the children of a region
+-- that a frame has: what is pending of the region
 pub data Keeping : Type 0 where
   OfTask : (f : Frame) (zones : List Zone) (p : Path) → Keeping
   OfRegion : (f : Frame) (pending : List Pending) (region : RegisterId) (p : Path) → Keeping
@@ -69,7 +69,8 @@ LetsUse z Adds c = z.adds c
 abbrev pub ElementsAreKept : Program → Frame → Type 0
 ElementsAreKept prog f =
     (j : ℕ) (d : RegisterId) (name : ObjectName) (index : Operand) (c : Cell) → j < f.index →
-    item_at prog f.function f.block j ≡ Some (Does (instruction.ElementPointer d name index)) → cell_of (f.registers d.0) ≡ Some c →
+    item_at prog f.function f.block j ≡ Some (Does (instruction.ElementPointer d name index)) →
+    cell_of (f.registers d.0) ≡ Some c →
     (object_at f name ≡ Some c.object) × (operand_value (numbers f.registers) index ≡ pos c.index)
 
 -- right behind a call whose result goes into the register
@@ -81,7 +82,8 @@ pub record IsBehindCall (prog : Program) (f : Frame) (d : Option RegisterId) : T
   pub is : item_at prog f.function f.block before ≡ Some (Does (instruction.Call d callee arguments))
 
 -- the frame at p keeps to these cells, and what the phases know of its place is so; base is what others keep of frames
-pub record Fits (prog : Program) (regions : Regions) (base : Path → Frame → Type 0) (p : Path) (f : Frame) (z : Keeping) : Type 0 where
+pub record Fits (prog : Program) (regions : Regions) (base : Path → Frame →
+    Type 0) (p : Path) (f : Frame) (z : Keeping) : Type 0 where
   pub placed : IsPlaced prog f
   pub based : base p f
   pub knows : Going f → KnownHold prog f
@@ -91,13 +93,15 @@ pub record Fits (prog : Program) (regions : Regions) (base : Path → Frame → 
   pub own : is_own_block (task_of regions f) ≡ true → f.home ≡ p
   -- the zones that cover its block lie within
   pub covers : (function : Function) → slice_get prog.functions f.function ≡ Some function → (y : Zone) →
-      Contains (covering_of function (task_of regions f)) y → (c : Cell) → HoldsCell f y c → LetsUse (kept_cells prog z) y.mode c
+      Contains (covering_of function (task_of regions f)) y → (c : Cell) → HoldsCell f y c →
+      LetsUse (kept_cells prog z) y.mode c
   pub owns : (c : Cell) → OwnedBelow p c.object → (kept_cells prog z).reads c × (kept_cells prog z).adds c
   -- what is true of its result is what was promised
   pub returns : (v : Option ℤ) → IsEnsured prog f v → (kept_cells prog z).gives v
   pub awaits : (k : ℕ) (d : Option RegisterId) → f.waits ≡ OnCall k d → IsBehindCall prog f d
 
--- a frame that waits for a call knows, with any result that the callee promised, what its place knows; and what holds then of its own result holds now
+-- a frame that waits for a call knows, with any result that the callee promised, what its place knows; and what holds
+-- then of its own result holds now
 abbrev pub Expects : Program → Frame → Keeping → Type 0
 Expects prog f z =
     (k : ℕ) (d : Option RegisterId) (result : Option ℤ) → f.waits ≡ OnCall k d → (kept_cells prog z).gives result →

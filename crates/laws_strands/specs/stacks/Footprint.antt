@@ -29,7 +29,8 @@ known (Some (Delta z)) read = None
 abbrev pub held : Footprint → Cell → Option ℤ
 held f x = known (f.writes x) (f.reads x)
 
--- A cell that is not held counts as 0 here: a load of it is not done, and an add asks no more than whether there is a value.
+-- A cell that is not held counts as 0 here: a load of it is not done, and an add asks no more than whether there is a
+-- value.
 abbrev pub memory_of : Footprint → Memory
 memory_of f x = Some (or_zero (held f x))
 

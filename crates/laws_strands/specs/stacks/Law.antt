@@ -1,5 +1,6 @@
 -- A strand whose base and reads are those of a machine is steps of the worker that runs the base.
-use Rattle.std.specs.Prelude.{◌≡◌, Bool, ℕ, suc, ◌+◌, ◌<◌, ◌≤◌, max, List, [], ◌∷◌, Option, Some, None, true, cond, is_some, ℤ}
+use Rattle.std.specs.Prelude.{◌≡◌, Bool, ℕ, suc, ◌+◌, ◌<◌, ◌≤◌, max, List, [], ◌∷◌, Option, Some, None, true, cond}
+use Rattle.std.specs.Prelude.{is_some, ℤ}
 use Rattle.std.specs.List.{All}
 use Rattle.semantics.specs.Paths.{Path, same_path}
 use Rattle.semantics.specs.Cells.{Cell, Memory}
@@ -38,7 +39,8 @@ abbrev pub with_frames : List Placed → (Path → Option Frame) → Path → Op
 with_frames [] frames x = frames x
 with_frames (g ∷ more) frames x = cond (same_path g.path x) (Some g.frame) (with_frames more frames x)
 
--- the machine with the strand's frames, writes and count, and the worker on the top frame; deltas are added to what its cells hold
+-- the machine with the strand's frames, writes and count, and the worker on the top frame; deltas are added to what its
+-- cells hold
 abbrev pub absorbed : Machine → ℕ → Strand → Machine
 absorbed m w d =
     record {
@@ -59,7 +61,8 @@ pub record IsSteps (prog : Program) (workers : ℕ) (m : Machine) (w : ℕ) (d :
 
 abbrev pub StrandsAreSteps : Type 0
 StrandsAreSteps =
-    (prog : Program) (workers : ℕ) (m : Machine) (w : ℕ) (d : Strand) → IsStrand prog d → Fits m w d → IsOrderly m → NeverTraps prog workers m →
+    (prog : Program) (workers : ℕ) (m : Machine) (w : ℕ) (d : Strand) → IsStrand prog d → Fits m w d → IsOrderly m →
+    NeverTraps prog workers m →
     IsSteps prog workers m w d
 
 -- ---- with one step more
@@ -73,7 +76,8 @@ pub record IsStepsWithBorder (prog : Program) (workers : ℕ) (m : Machine) (w :
 
 abbrev pub StrandsGoOverBorders : Type 0
 StrandsGoOverBorders =
-    (prog : Program) (workers : ℕ) (m : Machine) (w : ℕ) (d : Strand) → IsStrand prog d → Fits m w d → IsOrderly m → NeverTraps prog workers m →
+    (prog : Program) (workers : ℕ) (m : Machine) (w : ℕ) (d : Strand) → IsStrand prog d → Fits m w d → IsOrderly m →
+    NeverTraps prog workers m →
     IsStepsWithBorder prog workers m w d
 
 -- ---- reads that the machine need not hold yet
@@ -85,7 +89,8 @@ ReadsAgree m d = (x : Cell) (v z : ℤ) → d.footprint.reads x ≡ Some v → m
 -- then it does hold a number: a machine that never traps loads it
 abbrev pub ReadsAreThere : Type 0
 ReadsAreThere =
-    (prog : Program) (workers : ℕ) (m : Machine) (w : ℕ) (d : Strand) → IsStrand prog d → Runs m w d → IsOrderly m → NeverTraps prog workers m →
+    (prog : Program) (workers : ℕ) (m : Machine) (w : ℕ) (d : Strand) → IsStrand prog d → Runs m w d → IsOrderly m →
+    NeverTraps prog workers m →
     ReadsAgree m d → Fits m w d
 
 -- ---- the tasks that are left
@@ -97,7 +102,8 @@ pub record LeavesTasks (workers : ℕ) (m : Machine) (w : ℕ) (d : Strand) : Ty
 
 abbrev pub StrandsLeaveTasks : Type 0
 StrandsLeaveTasks =
-    (prog : Program) (workers : ℕ) (m : Machine) (w : ℕ) (d : Strand) → IsStrand prog d → Runs m w d → IsOrderly m → w < workers →
+    (prog : Program) (workers : ℕ) (m : Machine) (w : ℕ) (d : Strand) → IsStrand prog d → Runs m w d → IsOrderly m →
+    w < workers →
     LeavesTasks workers m w d
 
 -- ---- the children that are counted
@@ -109,7 +115,8 @@ counts_in role region = cond (outside_role region role) 0 1
 abbrev pub no_count : ℕ → ℕ
 no_count region = 0
 
--- each frame of the strand counts the one above it and no other child, but for the base, which counts its older ones too
+-- each frame of the strand counts the one above it and no other child, but for the base, which counts its older ones
+-- too
 abbrev pub CountsAre : Counts → (ℕ → ℕ) → (ℕ → ℕ) → Placed → List Placed → Type 0
 CountsAre counts older newest t [] = (region : ℕ) → counts t.path region ≡ newest region + older region
 CountsAre counts older newest t (g ∷ rest) =
@@ -127,14 +134,16 @@ abbrev pub EndsMatch : Type 0
 EndsMatch =
     (prog : Program) (d : Strand) (g : Placed) (rest : List Placed) → IsStrand prog d → d.below ≡ g ∷ rest →
     ((region : ℕ) → next_action prog d ≡ Reattach region → g.frame.waits ≡ Free) ×
-    ((result : Option ℤ) → next_action prog d ≡ Return result → (k : ℕ) × (register : Option RegisterId) × (g.frame.waits ≡ OnCall k register))
+    ((result : Option ℤ) → next_action prog d ≡ Return result → (k : ℕ) × (register : Option RegisterId) ×
+    (g.frame.waits ≡ OnCall k register))
 
 -- ---- what rests on no memory
 
 -- it holds whatever the cells hold, and each step that does not trap keeps it
 pub record IsKept (prog : Program) (good : State → Type 0) : Type 0 where
   pub memory : (s : State) (memory : Memory) → good s → good (record s { memory = memory })
-  pub steps : (s : State) (p : Path) (c : Change) → good s → change_of prog s p ≡ Some c → c.trap ≡ None → good (apply c s)
+  pub steps : (s : State) (p : Path) (c : Change) → good s → change_of prog s p ≡ Some c → c.trap ≡ None →
+      good (apply c s)
 
 -- then it holds wherever a strand comes, whatever it read
 abbrev pub KeptByStrands : Program → (State → Type 0) → Type 0
@@ -151,4 +160,5 @@ StrandsKeep = (prog : Program) (test : State → Bool) → KeptByStrands prog (�
 abbrev pub ReachedAreOrderly : Type 0
 ReachedAreOrderly =
     (prog : Program) (arguments : List ℤ) (memory : Memory) (workers : ℕ) → 1 ≤ workers → (events : List Event) →
-    (replay prog workers events (start prog arguments memory)).trapped ≡ None → IsOrderly (replay prog workers events (start prog arguments memory))
+    (replay prog workers events (start prog arguments memory)).trapped ≡ None →
+    IsOrderly (replay prog workers events (start prog arguments memory))

@@ -73,9 +73,11 @@ abbrev pub main_function : Function
 main_function =
     function_of (kind.Region ∷ kind.Number Bits64 ∷ []) []
     (block_of (instruction.StartRegion (register 0) ∷ []) (terminator.Detach (register 0) (block 1) (block 2)) ∷
-    block_of (instruction.Call (Some (register 1)) (record { 0 = 1 }) [] ∷ []) (terminator.Reattach (register 0) (block 2)) ∷
+    block_of (instruction.Call (Some (register 1)) (record { 0 = 1 }) [] ∷
+    []) (terminator.Reattach (register 0) (block 2)) ∷
     block_of [] (terminator.Sync (register 0) (block 3)) ∷
-    block_of (instruction.Load (register 1) (address.First (object.Global (record { 0 = 0 }))) ∷ []) (terminator.Return (Some (operand.Register (register 1)))) ∷ [])
+    block_of (instruction.Load (register 1) (address.First (object.Global (record { 0 = 0 }))) ∷
+    []) (terminator.Return (Some (operand.Register (register 1)))) ∷ [])
 
 -- it adds 5 to the global's cell, and stores and loads in a cell of its own
 abbrev pub called_function : Function
@@ -89,7 +91,12 @@ called_function =
 
 abbrev pub sample : Program
 sample =
-    record { globals = record { line = 1; name = codes "a"; cells = 1 } ∷ []; functions = main_function ∷ called_function ∷ []; main = record { 0 = 0 } }
+    record {
+      globals = record { line = 1; name = codes "a"; cells = 1 } ∷ [];
+      functions = main_function ∷
+          called_function ∷ [];
+      main = record { 0 = 0 };
+    }
 
 abbrev pub global_cell : Cell
 global_cell = record { object = Shared 0; index = 0 }
@@ -98,7 +105,8 @@ global_cell = record { object = Shared 0; index = 0 }
 abbrev pub own_cell : Cell
 own_cell = record { object = Local (0 ∷ 0 ∷ []) 0; index = 0 }
 
--- the root's frame stands before its return, after ten instructions; the sum is to be stored, and the called frame's cell is gone with it
+-- the root's frame stands before its return, after ten instructions; the sum is to be stored, and the called frame's
+-- cell is gone with it
 pub record GoesOverBorders (v : ℤ) : Type 0 where
   pub strand : Strand
   pub is : IsStrand sample strand

@@ -49,17 +49,36 @@ if_base (g ∷ below) region synced = synced
 -- ---- how it comes about
 
 abbrev pub loaded : Path → Frame → Strand
-loaded p f = record { base = at p f; top = at p f; below = []; done = 0; deepest = 0; footprint = untouched; synced = [] }
+loaded p f = record {
+  base = at p f;
+  top = at p f;
+  below = [];
+  done = 0;
+  deepest = 0;
+  footprint = untouched;
+  synced =
+      [];
+}
 
 abbrev pub filled : Strand → Cell → ℤ → Strand
 filled d c v = record d { footprint = with_read d.footprint c v }
 
 abbrev pub advanced : Strand → Effect → Strand
-advanced d e = record d { top = at d.top.path (went d.top.frame e); done = suc d.done; footprint = with_writes d.footprint e.writes e.adds }
+advanced d e = record d {
+  top = at d.top.path (went d.top.frame e);
+  done = suc d.done;
+  footprint =
+      with_writes d.footprint e.writes e.adds;
+}
 
 abbrev pub past_sync : Strand → ℕ → ℕ → Registers → Strand
 past_sync d region block registers =
-    record d { top = at d.top.path (synced d.top.frame region block registers); done = suc d.done; synced = if_base d.below region d.synced }
+    record d {
+      top = at d.top.path (synced d.top.frame region block registers);
+      done = suc d.done;
+      synced =
+          if_base d.below region d.synced;
+    }
 
 -- the top frame waits for a new one
 abbrev pub entered : Strand → Frame → Frame → Strand
@@ -83,26 +102,34 @@ returned d g rest register result =
       footprint = with_writes d.footprint (clears d.top.path) no_adds;
     }
 
--- It begins with a loaded frame, is filled with cells that it is to load and does not hold, and goes on by the definitions' actions: a child or callee runs to
--- its end before the frame that made it goes on. It stops anywhere, and before an action that has no case here: where the base ends, where an
--- instruction traps, or where it reads a cell that it does not hold.
+-- It begins with a loaded frame, is filled with cells that it is to load and does not hold, and goes on by the
+-- definitions' actions: a child or callee runs to its end before the frame that made it goes on. It stops anywhere, and
+-- before an action that has no case here: where the base ends, where an instruction traps, or where it reads a cell
+-- that it does not hold.
 pub data IsStrand (prog : Program) : Strand → Type 0 where
   is_loaded : (p : Path) (f : Frame) → IsStrand prog (loaded p f)
-  is_filled : (d : Strand) (c : Cell) (v : ℤ) (e : Effect) → IsStrand prog d → next_action prog d ≡ Plain e → e.trap ≡ None → e.reads c ≡ true →
+  is_filled : (d : Strand) (c : Cell) (v : ℤ) (e : Effect) → IsStrand prog d → next_action prog d ≡ Plain e →
+      e.trap ≡ None → e.reads c ≡ true →
       held d.footprint c ≡ None → d.footprint.reads c ≡ None → IsStrand prog (filled d c v)
-  is_advanced : (d : Strand) (e : Effect) → IsStrand prog d → next_action prog d ≡ Plain e → e.trap ≡ None → Holds d.footprint e →
+  is_advanced : (d : Strand) (e : Effect) → IsStrand prog d → next_action prog d ≡ Plain e → e.trap ≡ None →
+      Holds d.footprint e →
       IsStrand prog (advanced d e)
-  is_past_sync : (d : Strand) (region block : ℕ) (registers : Registers) → IsStrand prog d → next_action prog d ≡ Sync region block registers →
+  is_past_sync : (d : Strand) (region block : ℕ) (registers : Registers) → IsStrand prog d →
+      next_action prog d ≡ Sync region block registers →
       IsStrand prog (past_sync d region block registers)
-  is_detached : (d : Strand) (region body continuation : ℕ) → IsStrand prog d → next_action prog d ≡ Detach region body continuation →
+  is_detached : (d : Strand) (region body continuation : ℕ) → IsStrand prog d →
+      next_action prog d ≡ Detach region body continuation →
       IsStrand prog (entered d (continued d.top.frame continuation) (detached d.top.frame region body continuation))
   is_called : (d : Strand) (register : Option RegisterId) (callee : ℕ) (values : List Value) → IsStrand prog d →
       next_action prog d ≡ Call register callee values →
       IsStrand prog (entered d (waiting d.top.frame register) (called d.top.path d.top.frame callee values))
-  is_reattached : (d : Strand) (region : ℕ) (g : Placed) (rest : List Placed) → IsStrand prog d → next_action prog d ≡ Reattach region →
+  is_reattached : (d : Strand) (region : ℕ) (g : Placed) (rest : List Placed) → IsStrand prog d →
+      next_action prog d ≡ Reattach region →
       d.below ≡ g ∷ rest → g.frame.waits ≡ Free → IsStrand prog (reattached d g rest)
-  is_returned : (d : Strand) (result : Option ℤ) (g : Placed) (rest : List Placed) (k : ℕ) (register : Option RegisterId) → IsStrand prog d →
-      next_action prog d ≡ Return result → d.below ≡ g ∷ rest → g.frame.waits ≡ OnCall k register → IsStrand prog (returned d g rest register result)
+  is_returned : (d : Strand) (result : Option ℤ) (g : Placed) (rest : List Placed) (k : ℕ)
+      (register : Option RegisterId) → IsStrand prog d →
+      next_action prog d ≡ Return result → d.below ≡ g ∷ rest → g.frame.waits ≡ OnCall k register →
+      IsStrand prog (returned d g rest register result)
 
 -- ---- over a whole memory
 
@@ -115,10 +142,12 @@ IsHeld f (Sync region block registers) = ⊤
 IsHeld f (Call register callee values) = ⊤
 IsHeld f (Return result) = ⊤
 
--- what the top frame does with any memory that holds what was read, and into which what was written is put, is the strand's next action
+-- what the top frame does with any memory that holds what was read, and into which what was written is put, is the
+-- strand's next action
 abbrev pub AnyMemoryServes : Type 0
 AnyMemoryServes =
-    (prog : Program) (d : Strand) (m : Memory) → ((x : Cell) (v : ℤ) → d.footprint.reads x ≡ Some v → m x ≡ Some v) → (a : Action) →
+    (prog : Program) (d : Strand) (m : Memory) → ((x : Cell) (v : ℤ) → d.footprint.reads x ≡ Some v → m x ≡ Some v) →
+    (a : Action) →
     action_of prog d.top.path d.top.frame (seen m d.footprint) ≡ a → IsHeld d.footprint a → next_action prog d ≡ a
 
 -- and it leaves the memory into which what is written after it is put

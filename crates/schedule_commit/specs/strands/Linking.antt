@@ -1,24 +1,6 @@
 -- The frames above the base, as they are to stand in the cactus.
-use Rattle.std.specs.Prelude.{
-  ◌≡◌,
-  ℕ,
-  suc,
-  ◌-◌,
-  ◌<◌,
-  List,
-  [],
-  ◌∷◌,
-  ◌++◌,
-  length,
-  map,
-  take,
-  Option,
-  Some,
-  None,
-  cond,
-  eqb,
-  slice_get,
-}
+use Rattle.std.specs.Prelude.{◌≡◌, ℕ, suc, ◌-◌, ◌<◌, List, [], ◌∷◌, ◌++◌, length, map, take, Option, Some, None, cond}
+use Rattle.std.specs.Prelude.{eqb, slice_get}
 use Rattle.linear.specs.declared.form.RegisterId.{RegisterId}
 use Rattle.program.specs.declared.identifier.BlockId.{BlockId}
 use Rattle.frame.specs.declared.frame.Role.{Role}

@@ -1,25 +1,7 @@
 -- A run that shows a state to which a schedule leads stands safely, shows such a state again after each event, and
 -- keeps the schedule theorem.
-use Rattle.std.specs.Prelude.{
-  ◌≡◌,
-  ◌↔◌,
-  ℕ,
-  ◌<◌,
-  ◌≤◌,
-  List,
-  [],
-  ◌∷◌,
-  ◌++◌,
-  length,
-  Some,
-  None,
-  IsSome,
-  Bool,
-  ℤ,
-  pos,
-  ◌+ℤ◌,
-  slice_get,
-}
+use Rattle.std.specs.Prelude.{◌≡◌, ◌↔◌, ℕ, ◌<◌, ◌≤◌, List, [], ◌∷◌, ◌++◌, length, Some, None, IsSome, Bool, ℤ, pos}
+use Rattle.std.specs.Prelude.{◌+ℤ◌, slice_get}
 use Rattle.syntax.specs.declared.operator.Width.TheVariants.{Bits64}
 use Rattle.semantics.specs.Cells.{Shared, Memory}
 use Rattle.semantics.specs.Arithmetic.{wrapped}

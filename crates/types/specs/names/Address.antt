@@ -38,7 +38,8 @@ as_object line holding.Region = Err (breaks 202 line)
 -- a pointer that has to name a whole object
 abbrev pub object_of : Items → Scope → ℕ → AddressText → Result WholeObject TypeFault
 object_of items scope line (text.Global name) = as_global line (look_up items name)
-object_of items scope line (text.Register name) = and_then (register_of scope line name) (λ register. as_object line register.holding)
+object_of items scope line (text.Register name) =
+    and_then (register_of scope line name) (λ register. as_object line register.holding)
 
 -- a cell: of an object the first, or the one that a `getelementptr` of the same block gave, else 204
 abbrev pub as_address : ℕ → ℕ → Register → Holding → Result Address TypeFault
@@ -51,6 +52,7 @@ as_address block line register holding.Region = Err (breaks 202 line)
 
 -- the address of a load, a store or an atomic add in a block
 abbrev pub address_of : Items → Scope → ℕ → ℕ → AddressText → Result Address TypeFault
-address_of items scope block line (text.Global name) = made_of (λ found. address.First found.name) (as_global line (look_up items name))
+address_of items scope block line (text.Global name) =
+    made_of (λ found. address.First found.name) (as_global line (look_up items name))
 address_of items scope block line (text.Register name) =
     and_then (register_of scope line name) (λ register. as_address block line register register.holding)

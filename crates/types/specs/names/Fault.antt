@@ -33,7 +33,8 @@ abbrev pub joined_of : {A : Type 0} → Result (List A) TypeFault → Result A T
 joined_of list part = made_of (λ p. p.0 ++ p.1 ∷ []) (both_of list part)
 
 -- what each element means, by its place, behind what is done already
-abbrev pub all_from : {A B : Type 0} → (ℕ → A → Result B TypeFault) → ℕ → Result (List B) TypeFault → List A → Result (List B) TypeFault
+abbrev pub all_from : {A B : Type 0} → (ℕ → A → Result B TypeFault) → ℕ → Result (List B) TypeFault → List A →
+    Result (List B) TypeFault
 all_from f place done [] = done
 all_from f place done (x ∷ xs) = all_from f (place + 1) (joined_of done (f place x)) xs
 

@@ -1,5 +1,6 @@
 -- Forms of annotations, and what they may name.
-use Rattle.std.specs.Prelude.{ℕ, ◌+◌, ℤ, pos, negsuc, ◌-ℤ◌, int_le, int_lt, nat_eq, nat_le, Bool, ◌&&◌, ◌||◌, not, codes, List, [], ◌∷◌, length}
+use Rattle.std.specs.Prelude.{ℕ, ◌+◌, ℤ, pos, negsuc, ◌-ℤ◌, int_le, int_lt, nat_eq, nat_le, Bool, ◌&&◌, ◌||◌, not}
+use Rattle.std.specs.Prelude.{codes, List, [], ◌∷◌, length}
 use Rattle.std.specs.Prelude.{count_by, Option, Some, None, if◌then◌else◌, Result, Ok, Err}
 use Rattle.std.specs.List.{list_all}
 use Rattle.std.specs.Str.{bytes_eq}
@@ -30,7 +31,8 @@ use Rattle.types.specs.names.Table.{look_up}
 abbrev pub as_parameter : ℕ → Option Named → Result Register TypeFault
 as_parameter line None = Err (breaks 201 line)
 as_parameter line (Some (named.Label block)) = Err (breaks 201 line)
-as_parameter line (Some (named.Register register)) = made_of (λ _. register) (unless_of (is_parameter register.origin) (breaks 201 line))
+as_parameter line (Some (named.Register register)) =
+    made_of (λ _. register) (unless_of (is_parameter register.origin) (breaks 201 line))
 
 abbrev pub parameter_of : Scope → ℕ → List ℕ → Result Register TypeFault
 parameter_of scope line name = as_parameter line (look_up scope name)
@@ -51,7 +53,8 @@ guarantee_term_of scope line outcome name =
 -- a register that holds a number of either width, else 202
 abbrev pub number_of : Scope → ℕ → List ℕ → Result Register TypeFault
 number_of scope line name =
-    and_then (register_of scope line name) (λ register. made_of (λ _. register) (unless_of (is_number register.holding) (breaks 202 line)))
+    and_then (register_of scope line name)
+    (λ register. made_of (λ _. register) (unless_of (is_number register.holding) (breaks 202 line)))
 
 -- 206: an instruction of the block itself defines the register
 abbrev pub made_before : ℕ → ℕ → Register → Result (Unit {0}) TypeFault
@@ -72,7 +75,8 @@ is_small_coefficient coefficient = int_le (negsuc 999999) coefficient && int_le 
 abbrev pub term_of : Scope → AnnotationPlace → ℕ → TermText → Result Term TypeFault
 term_of scope place line term =
     made_of (λ p. record { register = p.0; coefficient = term.coefficient })
-    (both_of (term_register_of scope place line term.register) (unless_of (is_small_coefficient term.coefficient) (breaks 206 line)))
+    (both_of (term_register_of scope place line term.register) (unless_of (is_small_coefficient term.coefficient)
+    (breaks 206 line)))
 
 -- the number of registers and the constant of a form keep their limits
 abbrev pub keeps_limits : FormText → Bool
@@ -99,13 +103,15 @@ ordered_form line terms constant = with_all line (constant_form constant) terms
 -- `F`
 abbrev pub form_in_scope : Scope → AnnotationPlace → ℕ → FormText → Result Form TypeFault
 form_in_scope scope place line form =
-    and_then (both_of (all_of (λ _. term_of scope place line) form.terms) (unless_of (keeps_limits form) (breaks 206 line)))
+    and_then (both_of (all_of (λ _. term_of scope place line) form.terms)
+    (unless_of (keeps_limits form) (breaks 206 line)))
     (λ p. ordered_form line p.0 form.constant)
 
 -- what a register is multiplied by
 abbrev pub coefficient_in : List Term → RegisterId → ℤ
 coefficient_in [] register = pos 0
-coefficient_in (term ∷ terms) register = if nat_eq term.register.0 register.0 then term.coefficient else coefficient_in terms register
+coefficient_in (term ∷ terms) register =
+    if nat_eq term.register.0 register.0 then term.coefficient else coefficient_in terms register
 
 abbrev pub differs : ℤ → ℤ → Bool
 differs a b = int_lt a b || int_lt b a
@@ -142,12 +148,14 @@ inequality_between line AtLeast left right = record { line = line; low = right; 
 abbrev pub limited_inequality : InequalityText → Form → Form → Result Inequality TypeFault
 limited_inequality text left right =
     made_of (λ _. inequality_between text.line text.relation left right)
-    (unless_of (is_difference_within left.terms text.left.constant right.terms text.right.constant) (breaks 206 text.line))
+    (unless_of (is_difference_within left.terms text.left.constant right.terms text.right.constant)
+    (breaks 206 text.line))
 
 -- `F R F`
 abbrev pub inequality_of : Scope → AnnotationPlace → InequalityText → Result Inequality TypeFault
 inequality_of scope place text =
-    and_then (both_of (form_in_scope scope place text.line text.left) (form_in_scope scope place text.line text.right)) (λ p. limited_inequality text p.0 p.1)
+    and_then (both_of (form_in_scope scope place text.line text.left) (form_in_scope scope place text.line text.right))
+    (λ p. limited_inequality text p.0 p.1)
 
 abbrev pub inequalities_of : Scope → AnnotationPlace → List InequalityText → Result (List Inequality) TypeFault
 inequalities_of scope place texts = all_of (λ _. inequality_of scope place) texts

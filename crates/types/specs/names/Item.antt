@@ -9,11 +9,13 @@ use Rattle.types.specs.names.Table.{with_name}
 
 abbrev pub with_globals : ℕ → Items → List GlobalText → Items
 with_globals place items [] = items
-with_globals place items (global ∷ globals) = with_globals (place + 1) (with_name items global.name (item.Global (record { 0 = place }) global.cells)) globals
+with_globals place items (global ∷ globals) =
+    with_globals (place + 1) (with_name items global.name (item.Global (record { 0 = place }) global.cells)) globals
 
 abbrev pub with_functions : ℕ → Items → List FunctionText → Items
 with_functions place items [] = items
-with_functions place items (function ∷ functions) = with_functions (place + 1) (with_name items function.name (item.Function (record { 0 = place }))) functions
+with_functions place items (function ∷ functions) =
+    with_functions (place + 1) (with_name items function.name (item.Function (record { 0 = place }))) functions
 
 -- globals and functions share one name space; a name that is defined twice keeps its first meaning
 abbrev pub items_of : Module → Items

@@ -40,7 +40,12 @@ target_width ZeroExtend = Bits64
 -- with the next register
 abbrev pub with_register : Layout → List ℕ → Holding → Origin → Layout
 with_register layout name held from = record {
-  scope = with_name layout.scope name (named.Register (record { id = record { 0 = length layout.registers }; holding = held; origin = from }));
+  scope = with_name layout.scope name (named.Register (record {
+    id = record { 0 = length layout.registers };
+    holding =
+        held;
+    origin = from;
+  }));
   registers = layout.registers ++ kind_of held ∷ [];
   allocas = layout.allocas;
 }
@@ -48,7 +53,8 @@ with_register layout name held from = record {
 abbrev pub with_parameter : Layout → ParameterText → Layout
 with_parameter layout (parameter.Number name) = with_register layout name (holding.Number Bits64) origin.Parameter
 with_parameter layout (parameter.Pointer name cells) =
-    with_register layout name (holding.Object (object.Parameter (record { 0 = length layout.registers })) cells) origin.Parameter
+    with_register layout name (holding.Object (object.Parameter (record { 0 = length layout.registers })) cells)
+    origin.Parameter
 
 abbrev pub with_phi : Layout → PhiText → Layout
 with_phi layout phi = with_register layout phi.register (holding.Number phi.width) origin.Phi
@@ -56,8 +62,15 @@ with_phi layout phi = with_register layout phi.register (holding.Number phi.widt
 -- the next alloca, with its register
 abbrev pub with_alloca : Layout → ℕ → List ℕ → ℕ → Origin → Layout
 with_alloca layout line name cells from =
-    let made : Layout = with_register layout name (holding.Object (object.Alloca (record { 0 = length layout.allocas })) cells) from in
-    record made { allocas = layout.allocas ++ record { line = line; register = record { 0 = length layout.registers }; cells = cells } ∷ [] }
+    let made : Layout = with_register layout name
+    (holding.Object (object.Alloca (record { 0 = length layout.allocas })) cells) from in
+    record made {
+      allocas = layout.allocas ++ record {
+        line = line;
+        register = record { 0 = length layout.registers };
+        cells = cells;
+      } ∷ [];
+    }
 
 abbrev pub with_call : Layout → Option (List ℕ) → Origin → Layout
 with_call layout None from = layout
@@ -65,12 +78,17 @@ with_call layout (Some name) from = with_register layout name (holding.Number Bi
 
 -- what an instruction of this block on this line defines
 abbrev pub with_instruction : Layout → ℕ → Origin → InstructionText → Layout
-with_instruction layout line from (text.Binary register operator width left right) = with_register layout register (holding.Number width) from
-with_instruction layout line from (text.Compare register predicate width left right) = with_register layout register holding.Truth from
-with_instruction layout line from (text.Convert register conversion value) = with_register layout register (holding.Number (target_width conversion)) from
+with_instruction layout line from (text.Binary register operator width left right) =
+    with_register layout register (holding.Number width) from
+with_instruction layout line from (text.Compare register predicate width left right) =
+    with_register layout register holding.Truth from
+with_instruction layout line from (text.Convert register conversion value) =
+    with_register layout register (holding.Number (target_width conversion)) from
 with_instruction layout line from (text.Alloca register size) = with_alloca layout line register (size_cells size) from
-with_instruction layout line from (text.ElementPointer register base index) = with_register layout register holding.Element from
-with_instruction layout line from (text.Load register address) = with_register layout register (holding.Number Bits64) from
+with_instruction layout line from (text.ElementPointer register base index) =
+    with_register layout register holding.Element from
+with_instruction layout line from (text.Load register address) =
+    with_register layout register (holding.Number Bits64) from
 with_instruction layout line from (text.Store value address) = layout
 with_instruction layout line from (text.StoreZeros cells address) = layout
 with_instruction layout line from (text.AtomicAdd address value) = layout
@@ -100,7 +118,8 @@ with_blocks place layout [] = layout
 with_blocks place layout (block ∷ blocks) = with_blocks (place + 1) (with_block place layout block) blocks
 
 abbrev pub with_label : ℕ → Layout → BlockText → Layout
-with_label place layout block = record layout { scope = with_name layout.scope block.label (named.Label (record { 0 = place })) }
+with_label place layout block =
+    record layout { scope = with_name layout.scope block.label (named.Label (record { 0 = place })) }
 
 abbrev pub with_labels : ℕ → Layout → List BlockText → Layout
 with_labels place layout [] = layout
@@ -111,4 +130,5 @@ no_layout = record { scope = []; registers = []; allocas = [] }
 
 -- the parameters come first, then the other registers in the order of the text, then the labels
 abbrev pub layout_of : FunctionText → Layout
-layout_of function = with_labels 0 (with_blocks 0 (with_parameters no_layout function.parameters) function.blocks) function.blocks
+layout_of function = with_labels 0 (with_blocks 0 (with_parameters no_layout function.parameters) function.blocks)
+    function.blocks

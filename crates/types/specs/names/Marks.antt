@@ -4,4 +4,5 @@ use Rattle.std.specs.Prelude.{◌≡◌, ◌⊎◌, ◌↔◌, ℕ, ◌<◌, Boo
 -- the marks of these places are set, as far as there are such, and no other is turned
 pub record SetsMarks (places : List ℕ) (marks marks' : List Bool) : Type 0 where
   pub size : length marks' ≡ length marks
-  pub exact : (n : ℕ) → (slice_index_or marks' n false ≡ true) ↔ ((slice_index_or marks n false ≡ true) ⊎ (Contains places n × (n < length marks)))
+  pub exact : (n : ℕ) → (slice_index_or marks' n false ≡ true) ↔ ((slice_index_or marks n false ≡ true) ⊎
+      (Contains places n × (n < length marks)))

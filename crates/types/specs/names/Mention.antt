@@ -1,5 +1,6 @@
 -- Which globals a function's text names, itself or by the functions that it calls, directly or through others.
-use Rattle.std.specs.Prelude.{◌≡◌, ◌↔◌, ℕ, ◌<◌, Bool, true, false, List, [], ◌∷◌, ◌++◌, length, slice_index_or, Contains, Option, Some, None}
+use Rattle.std.specs.Prelude.{◌≡◌, ◌↔◌, ℕ, ◌<◌, Bool, true, false, List, [], ◌∷◌, ◌++◌, length, slice_index_or}
+use Rattle.std.specs.Prelude.{Contains, Option, Some, None}
 use Rattle.reachability.specs.Ways.{nexts_at, IsWay}
 use Rattle.syntax.specs.declared.annotation.FunctionNotes.{FunctionNotes}
 use Rattle.syntax.specs.declared.annotation.Pending.{Pending as PendingText}
@@ -53,7 +54,8 @@ with_instruction items found (text.Load register address) = with_address items f
 with_instruction items found (text.Store value address) = with_address items found address
 with_instruction items found (text.StoreZeros cells address) = with_address items found address
 with_instruction items found (text.AtomicAdd address value) = with_address items found address
-with_instruction items found (text.Call register callee arguments) = with_arguments items (with_callee found (look_up items callee)) arguments
+with_instruction items found (text.Call register callee arguments) =
+    with_arguments items (with_callee found (look_up items callee)) arguments
 with_instruction items found (text.StartRegion register) = found
 
 abbrev pub with_steps : Items → Mentions → List StepText → Mentions
@@ -69,14 +71,16 @@ with_pending items found [] = found
 with_pending items found (line ∷ lines) = with_pending items (with_address items found line.zone.object) lines
 
 abbrev pub with_block : Items → Mentions → BlockText → Mentions
-with_block items found block = with_steps items (with_zones items (with_pending items found block.notes.pending) block.notes.foot) block.steps
+with_block items found block =
+    with_steps items (with_zones items (with_pending items found block.notes.pending) block.notes.foot) block.steps
 
 abbrev pub with_blocks : Items → Mentions → List BlockText → Mentions
 with_blocks items found [] = found
 with_blocks items found (block ∷ blocks) = with_blocks items (with_block items found block) blocks
 
 abbrev pub with_notes : Items → Mentions → FunctionNotes → Mentions
-with_notes items found notes = with_zones items (with_zones items (with_zones items found notes.reads) notes.writes) notes.adds
+with_notes items found notes =
+    with_zones items (with_zones items (with_zones items found notes.reads) notes.writes) notes.adds
 
 abbrev pub no_mentions : Mentions
 no_mentions = record { globals = []; callees = [] }
@@ -95,11 +99,13 @@ globals_at mentions place = nexts_at (λ m. m.globals) mentions place
 
 -- the function names the global, itself or by those that it calls, directly or through others
 abbrev pub ReachesGlobal : List Mentions → ℕ → ℕ → Type 0
-ReachesGlobal mentions from global = (to : ℕ) × (callers : List ℕ) × IsWay (callees_at mentions) from callers to × Contains (globals_at mentions to) global
+ReachesGlobal mentions from global = (to : ℕ) × (callers : List ℕ) × IsWay (callees_at mentions) from callers to ×
+    Contains (globals_at mentions to) global
 
 -- the marks are just the globals that the function names, itself or by those that it calls
 abbrev pub NamesExactly : List Mentions → ℕ → ℕ → List Bool → Type 0
-NamesExactly mentions globals from marks = (global : ℕ) → (slice_index_or marks global false ≡ true) ↔ ((global < globals) × ReachesGlobal mentions from global)
+NamesExactly mentions globals from marks = (global : ℕ) → (slice_index_or marks global false ≡ true) ↔
+    ((global < globals) × ReachesGlobal mentions from global)
 
 -- for each function just the globals that it names, itself or by those that it calls
 pub record IsNamedTable (mentions : List Mentions) (globals : ℕ) (named : List (List Bool)) : Type 0 where

@@ -64,7 +64,8 @@ zone_of items scope place zone =
     (both_of (form_in_scope scope place zone.line zone.low) (form_in_scope scope place zone.line zone.high)))
 
 -- the zones of one kind behind those before
-abbrev pub more_zones : Items → Scope → AnnotationPlace → Result (List Zone) TypeFault → List ZoneText → Result (List Zone) TypeFault
+abbrev pub more_zones : Items → Scope → AnnotationPlace → Result (List Zone) TypeFault → List ZoneText →
+    Result (List Zone) TypeFault
 more_zones items scope place before zones = all_from (λ _. zone_of items scope place) 0 before zones
 
 abbrev pub zones_of : Items → Scope → AnnotationPlace → List ZoneText → Result (List Zone) TypeFault
@@ -80,7 +81,8 @@ pending_region_of scope block line name =
 abbrev pub pending_of : Items → Scope → ℕ → PendingText → Result Pending TypeFault
 pending_of items scope block pending =
     made_of (λ p. record { region = p.0; zone = p.1 })
-    (both_of (pending_region_of scope block pending.zone.line pending.region) (zone_of items scope (place.Start block) pending.zone))
+    (both_of (pending_region_of scope block pending.zone.line pending.region)
+    (zone_of items scope (place.Start block) pending.zone))
 
 abbrev pub all_pending_of : Items → Scope → ℕ → List PendingText → Result (List Pending) TypeFault
 all_pending_of items scope block lines = all_of (λ _. pending_of items scope block) lines
@@ -89,9 +91,11 @@ all_pending_of items scope block lines = all_of (λ _. pending_of items scope bl
 abbrev pub left_of : Scope → ℕ → LeftText → Result Left TypeFault
 left_of scope block left =
     made_of (λ p. record { line = left.line; self_calls = p.0; instructions = p.1 })
-    (both_of (form_in_scope scope (place.Start block) left.line left.self_calls) (form_in_scope scope (place.Start block) left.line left.instructions))
+    (both_of (form_in_scope scope (place.Start block) left.line left.self_calls)
+    (form_in_scope scope (place.Start block) left.line left.instructions))
 
 -- `measure F max N`
 abbrev pub measure_of : Scope → MeasureText → Result Measure TypeFault
 measure_of scope measure =
-    made_of (λ form. record { line = measure.line; form = form; bound = measure.bound }) (form_in_scope scope place.Head measure.line measure.form)
+    made_of (λ form. record { line = measure.line; form = form; bound = measure.bound })
+    (form_in_scope scope place.Head measure.line measure.form)

@@ -21,7 +21,11 @@ abbrev pub earlier_answer : Refused → Refused → Refused
 earlier_answer Memory other = Memory
 earlier_answer (Fault number line) Memory = Memory
 earlier_answer (Fault number line) (Fault number' line') =
-    let first = earlier_of (record { line = line; number = number }) (record { line = line'; number = number' }) in Fault first.number first.line
+    let first = earlier_of (record { line = line; number = number }) (record {
+      line = line';
+      number =
+          number';
+    }) in Fault first.number first.line
 
 -- both answers, else the earlier of their refusals
 abbrev pub both_answers : {A B : Type 0} → Result A Refused → Result B Refused → Result (A × B) Refused
