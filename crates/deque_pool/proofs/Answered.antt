@@ -13,7 +13,7 @@ use Rattle.shared_run.specs.store.Cells.{NamedCells}
 use Rattle.shared_run.specs.Answer.{IsSerialAnswer}
 use Rattle.shared_run.specs.Story.{origin}
 use Rattle.lone_run.specs.UnderWay.{IsRefusal}
-use Rattle.lone_run.specs.serial_machine.Promise.{EndsWithinBudget}
+use Rattle.lone_run.specs.serial_machine.SerialPromise.{EndsWithinBudget}
 
 pub answered : (program : Program) (arguments : List ℤ) (memory : List NamedCells) (workers : ℕ) (done : Finished) → EndsWithinBudget program arguments memory done → IsSerialAnswer (origin program arguments memory workers) done
 answered program arguments memory workers done e = record {

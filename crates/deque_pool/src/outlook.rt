@@ -5,7 +5,7 @@ ghost use Rattle.deque_pool.specs.Leaving.{is_starved, is_stopped, outlook_of};
 
 /// Why a worker left its work.
 #[derive(Clone, Copy)]
-pub(crate) enum Left {
+pub(crate) enum Quit {
     /// It was refused memory.
     Starved,
     /// The gate stopped the run.
@@ -25,32 +25,32 @@ pub(crate) enum Outlook {
     Stopped,
 }
 
-fn is_starved(left: &Left) -> bool
+fn is_starved(left: &Quit) -> bool
     ensures { result ≡ is_starved left.now }
 {
-    matches!(left, Left::Starved)
+    matches!(left, Quit::Starved)
 }
 
-fn is_stopped(left: &Left) -> bool
+fn is_stopped(left: &Quit) -> bool
     ensures { result ≡ is_stopped left.now }
 {
-    matches!(left, Left::Stopped)
+    matches!(left, Quit::Stopped)
 }
 
-fn any_starved(left: &[Left]) -> bool
+fn any_starved(left: &[Quit]) -> bool
     ensures { result ≡ list_any is_starved left.now }
 {
     left.iter().any(is_starved)
 }
 
-fn any_stopped(left: &[Left]) -> bool
+fn any_stopped(left: &[Quit]) -> bool
     ensures { result ≡ list_any is_stopped left.now }
 {
     left.iter().any(is_stopped)
 }
 
 /// What becomes of a run that has not ended, by why each worker left.
-pub(crate) fn what_next(left: &[Left]) -> Outlook
+pub(crate) fn what_next(left: &[Quit]) -> Outlook
     ensures { result ≡ outlook_of left.now }
 {
     if any_starved(left) {

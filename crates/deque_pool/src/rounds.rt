@@ -10,7 +10,7 @@ ghost use Rattle.shared_run.specs.Story.{origin};
 use crate::demand::Demand;
 use crate::figures::Figures;
 use crate::gate::Gate;
-use crate::outlook::{Left, Outlook, what_next};
+use crate::outlook::{Outlook, Quit, what_next};
 use crate::recorded::Recorded;
 use crate::work::{work, work_alone};
 use crate::workers::{Worker, crew_of, disband};
@@ -93,7 +93,7 @@ fn round<L: Bench + Send + Sync, G: Gate + Sync, R: Threads + Wait + Clock + Syn
     seats: Vec<Seat<L>>,
     figures: &mut [Figures],
     gate: &G,
-) -> Result<(Vec<Seat<L>>, Vec<Left>), OutOfMemory>
+) -> Result<(Vec<Seat<L>>, Vec<Quit>), OutOfMemory>
     requires code { verified.now ≡ L.code }
     requires decoded { IsCodeOf verified.now code.now }
     ensures seats { IfOk result (λ back. vec_len back.0 ≡ vec_len seats) }

@@ -4,7 +4,7 @@ ghost use Rattle.std.specs.Prelude.{◌≡◌, ◌↔◌};
 use crate::demand::Demand;
 use crate::gate::{Gate, Go, pass};
 use crate::locking::pause;
-use crate::outlook::Left;
+use crate::outlook::Quit;
 use crate::turns::met;
 use crate::workers::Worker;
 use shared_run::turns::{Met, turn};
@@ -40,7 +40,7 @@ enum Next {
         /// How often the bell was rung before the search.
         heard: u64,
     },
-    Leave(Left),
+    Leave(Quit),
 }
 
 /// More meetings than a strand has: one for each page that it lacks, and one at its end.
@@ -68,7 +68,7 @@ pub(crate) fn work<L: Bench, G: Gate, R: Wait>(
                 rests = 0;
                 next = match pass(gate, me, worker.figures.count_strand()) {
                     Go::On => do_strand(rt, shared, demand, worker),
-                    Go::Stop => Next::Leave(Left::Stopped),
+                    Go::Stop => Next::Leave(Quit::Stopped),
                 };
             }
             Next::Search => next = search(rt, shared, demand, worker, rests),
@@ -133,13 +133,13 @@ fn do_strand<L: Bench, R: Wait>(
 
 /// What comes after a meeting.
 fn after(met: Met, heard: u64) -> Next
-    ensures { (result ≡ Next.Leave Left.Starved) ↔ (met ≡ Met.OutOfMemory) }
+    ensures { (result ≡ Next.Leave Quit.Starved) ↔ (met ≡ Met.OutOfMemory) }
 {
     match met {
         Met::Work => Next::FrameStrand,
         Met::Idle => Next::Rest { heard },
-        Met::Ended => Next::Leave(Left::Over),
-        Met::OutOfMemory => Next::Leave(Left::Starved),
+        Met::Ended => Next::Leave(Quit::Over),
+        Met::OutOfMemory => Next::Leave(Quit::Starved),
     }
 }
 

@@ -3,7 +3,7 @@ ghost use Rattle.std.specs.Prelude.{◌≡◌, vec_len, vec_capacity, ◌≤◌,
 ghost use Rattle.shared_run.specs.serial_machine.Decoding.{IsCodeOf};
 
 use crate::figures::Figures;
-use crate::outlook::Left;
+use crate::outlook::Quit;
 use deque_pool_tickets::{Hands, Thief};
 use lists::OutOfMemory;
 use shared_run::turns::Habits;
@@ -20,7 +20,7 @@ pub(crate) struct Worker<'p, L: Bench> {
     pub(crate) thieves: Vec<Thief>,
     pub(crate) habits: Habits,
     pub(crate) figures: Figures,
-    pub(crate) left: Left,
+    pub(crate) left: Quit,
 }
 
 /// A worker for each seat, each in a lock for its thread, and in the opposite order, so that worker 0 is the last. They have done what `figures` say.
@@ -53,7 +53,7 @@ pub(crate) fn crew_of<'p, L: Bench>(
             thieves,
             habits: Habits::new(alloc),
             figures,
-            left: Left::Over,
+            left: Quit::Over,
         }))?;
     }
     Ok(crew)
@@ -94,9 +94,9 @@ fn thieves_from(
 pub(crate) fn disband<L: Bench>(
     mut crew: Vec<Mutex<Worker<'_, L>>>,
     mut room: Vec<Seat<L>>,
-    mut left: Vec<Left>,
+    mut left: Vec<Quit>,
     figures: &mut [Figures],
-) -> (Vec<Seat<L>>, Vec<Left>)
+) -> (Vec<Seat<L>>, Vec<Quit>)
     requires room { (vec_len room ≡ 0) × (vec_len crew ≤ vec_capacity room) }
     requires left { (vec_len left ≡ 0) × (vec_len crew ≤ vec_capacity left) }
     ensures seats { vec_len result.0 ≡ vec_len crew.entry }

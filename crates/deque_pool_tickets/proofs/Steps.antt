@@ -7,7 +7,7 @@ use mathlib.Core.Option.{some, some-ne-none, some-injective}
 use lib.ListN.{get_elem?}
 use Rattle.crossbeam_deque.specs.Tasks.{Pushes, Takes, Pops, Admits, Finds, FindsFew, Learns, Merges}
 use Rattle.crossbeam_deque.proofs.Lists.{at_set}
-use Rattle.shared_run.specs.schedule_core.declared.ready.Spot.{Spot as Ticket}
+use Rattle.shared_run.specs.schedule_core.declared.ready.Ticket.{Ticket}
 use Rattle.deque_pool_tickets.specs.declared.ticket_list.Move.{Move}
 use Rattle.deque_pool_tickets.specs.declared.ticket_list.Move.TheVariants.{Offer, Newest, Oldest}
 use Rattle.deque_pool_tickets.specs.declared.ticket_list.View.{View}

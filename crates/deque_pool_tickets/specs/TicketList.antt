@@ -3,7 +3,7 @@ use Rattle.std.specs.Prelude.{◌≡◌, ◌≢◌, ℕ, ◌==◌, ◌+◌, ◌�
 use Rattle.std.specs.Prelude.{sum_by, if◌then◌else◌}
 use mathlib.Core.Option.{some}
 use lib.ListN.{get_elem?}
-use Rattle.shared_run.specs.schedule_core.declared.ready.Spot.{Spot as Ticket}
+use Rattle.shared_run.specs.schedule_core.declared.ready.Ticket.{Ticket}
 use Rattle.deque_pool_tickets.specs.declared.ticket_list.Move.{Move}
 use Rattle.deque_pool_tickets.specs.declared.ticket_list.Move.TheVariants.{Offer, Newest, Oldest}
 use Rattle.deque_pool_tickets.specs.declared.ticket_list.View.{View}

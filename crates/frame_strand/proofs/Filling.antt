@@ -22,8 +22,8 @@ use Rattle.frame_strand.specs.Showing.{AreApart}
 use Rattle.frame_strand.specs.Standing.{ShowsFrameStrand}
 use Rattle.frame_strand.specs.declared.standing.Course.{Course}
 use Rattle.frame_engine.specs.Shows.{Layout, IsIn, address}
-use Rattle.frame_strand.specs.declared.standing.Pause.{Pause}
-use Rattle.frame_strand.specs.declared.standing.Pause.TheVariants.{Need}
+use Rattle.frame_strand.specs.declared.standing.FrameStrandPause.{FrameStrandPause}
+use Rattle.frame_strand.specs.declared.standing.FrameStrandPause.TheVariants.{Need}
 use Rattle.frame_strand.proofs.Pausing.{stands_free}
 use Rattle.frame_strand.proofs.Showing.{held_is}
 
@@ -144,7 +144,7 @@ module _ (prog : Program) (places : Places) (x : Course) (at : ℤ) (going : IsG
           stands_free prog l (frame_strands.filled a.strand n.cell value) (free_after prog a.strand n.cell n.pauses value);
     }
 
-pub needed_going : (prog : Program) (places : Places) (x : Course) (pause : Option Pause) (at : ℤ) → pause ≡ Some (Need at) → IsFrameStrandKept prog places x pause → IsGoing prog places x (Some (Need at))
+pub needed_going : (prog : Program) (places : Places) (x : Course) (pause : Option FrameStrandPause) (at : ℤ) → pause ≡ Some (Need at) → IsFrameStrandKept prog places x pause → IsGoing prog places x (Some (Need at))
 needed_going prog places x pause at is kept = subst (IsGoing prog places x) is (kept.going (λ e. let bad = sym is ∙ e in cc))
 
 pub same_need : (at other : ℤ) → Some (Need at) ≡ Some (Need other) → at ≡ other

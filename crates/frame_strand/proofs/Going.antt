@@ -26,9 +26,9 @@ use Rattle.frame_strand.specs.Gone.{Gone, named}
 use Rattle.frame_strand.specs.Keeping.{AreDifferent}
 use Rattle.frame_strand.specs.Showing.{read_of}
 use Rattle.frame_strand.specs.declared.cells.Read.{Read}
-use Rattle.frame_strand.specs.declared.cells.Stop.{Stop}
+use Rattle.frame_strand.specs.declared.cells.CellStop.{CellStop}
 use Rattle.frame_strand.specs.declared.standing.Course.{Course}
-use Rattle.frame_strand.specs.declared.standing.Pause.TheVariants.{Border}
+use Rattle.frame_strand.specs.declared.standing.FrameStrandPause.TheVariants.{Border}
 use Rattle.frame_strand.proofs.Advancing as advancing
 use Rattle.frame_strand.proofs.Alone.{stays_safe}
 use Rattle.frame_strand.proofs.Borders.{pauses_there}
@@ -83,7 +83,7 @@ module _ (prog : Program) (places : Places) (x : Course) (differ : AreDifferent 
       (l : Layout) (p : Path) (g : Frame) (k : Memory) → ShowsFrame l places p g x.present → ShowsCells l (any_address x.cells) (may_hold x.cells) k →
       StaysSafe prog l p g k → TouchedOn BuffersDo prog l p g k x.done d x.cells b
 
-  abbrev pub Refusing : ℕ → Buffers → Stop → Type 0
+  abbrev pub Refusing : ℕ → Buffers → CellStop → Type 0
   Refusing d b q =
       (l : Layout) (p : Path) (g : Frame) (k : Memory) → ShowsFrame l places p g x.present → ShowsCells l (any_address x.cells) (may_hold x.cells) k →
       StaysSafe prog l p g k → RefusedOn BuffersRefuse prog l p g k x.done d b q
@@ -132,7 +132,7 @@ module _ (prog : Program) (places : Places) (x : Course) (differ : AreDifferent 
       few : d ≢ limit → went.strand.done < 65536
       few other = let e = along_on.shown.done in omega (arith, room, most, other, e)
 
-      refused_here : (q : Stop) → Refusing d b q → RefusedItem BuffersRefuse l went.strand.present b q (next_of prog went.strand.present)
+      refused_here : (q : CellStop) → Refusing d b q → RefusedItem BuffersRefuse l went.strand.present b q (next_of prog went.strand.present)
       refused_here q refuses =
           let o = refuses l (s l g goes).path (s l g goes).present (seen l g goes) (along l g goes).shown.present (cells l g goes) (stays l g goes) in
           let same : o.count ≡ way_on.count = let u = o.counted in let v = way_on.counted in omega (arith, u, v) in
@@ -140,9 +140,9 @@ module _ (prog : Program) (places : Places) (x : Course) (differ : AreDifferent 
           let there = (one_way prog (s l g goes).path (s l g goes).present (seen l g goes) way_on.count o.refused.frame o.refused.memory steps way_on.frame way_on.memory way_on.steps).0 in
           subst (λ (h : Frame). RefusedItem BuffersRefuse l h b q (item_at prog h.function h.block h.index)) (there ∙ sym went.present) o.refused.item
 
-      pub pauses_on : (r : engine.Pause Stop) → IfBorder r (IsBorderItem (item_at prog f.function.0 f.place.block.0 f.place.index)) → IfLimit r (d ≡ limit) → IfStopped r (Refusing d b) → d ≢ limit → PausesAt prog l went.strand (Some (named r))
+      pub pauses_on : (r : engine.Pause CellStop) → IfBorder r (IsBorderItem (item_at prog f.function.0 f.place.block.0 f.place.index)) → IfLimit r (d ≡ limit) → IfStopped r (Refusing d b) → d ≢ limit → PausesAt prog l went.strand (Some (named r))
       pauses_on engine_pause.Border at all refuses other =
-          stands_at prog l went.strand frame_strands.Border Border (pauses_there {S = Stop} prog l places went.strand f engine_pause.Border along_on.shown.present at) refl tt
+          stands_at prog l went.strand frame_strands.Border Border (pauses_there {S = CellStop} prog l places went.strand f engine_pause.Border along_on.shown.present at) refl tt
       pauses_on engine_pause.Limit at all refuses other = absurd (other all)
       pauses_on (engine_pause.Stopped q) at all refuses other = stopped_at prog l goes.apart went.strand b went.shown (few other) q (refused_here q refuses)
 
@@ -152,7 +152,7 @@ module _ (prog : Program) (places : Places) (x : Course) (differ : AreDifferent 
     pub grown : x.done ≤ d
     grown = let k = (way_on way.started.layout way.started.frame way.started.goes).counted in omega (arith, k)
 
-    pub gone : (r : engine.Pause Stop) → FrameFits prog f → IfBorder r (IsBorderItem (item_at prog f.function.0 f.place.block.0 f.place.index)) → IfLimit r (d ≡ limit) → IfStopped r (Refusing d b) → Gone prog places after r limit
+    pub gone : (r : engine.Pause CellStop) → FrameFits prog f → IfBorder r (IsBorderItem (item_at prog f.function.0 f.place.block.0 f.place.index)) → IfLimit r (d ≡ limit) → IfStopped r (Refusing d b) → Gone prog places after r limit
     gone r fits at all refuses = record {
       way = record { stands = fits; room = omega (arith, room, most); started = record { layout = way.started.layout; frame = way.started.frame; goes = way.started.goes }; along = along_on };
       pauses = λ other l g goes. pauses_on l g goes r at all refuses other;

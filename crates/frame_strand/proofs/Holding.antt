@@ -7,8 +7,8 @@ use Rattle.semantics.specs.Arithmetic.{cell_sum}
 use Rattle.frame_strand.specs.Buffers.{Buffers, IsPut, change_in, held_in, known_value, raised_change, value_in}
 use Rattle.frame_strand.specs.declared.cells.Change.{Change}
 use Rattle.frame_strand.specs.declared.cells.Change.TheVariants.{Stored, Delta}
-use Rattle.frame_strand.specs.declared.cells.Stop.{Stop}
-use Rattle.frame_strand.proofs.Kept.{change_with, int_tells}
+use Rattle.frame_strand.specs.declared.cells.CellStop.{CellStop}
+use Rattle.frame_strand.proofs.CellsKept.{change_with, int_tells}
 
 put_here : (b after : Buffers) (a : ℤ) (u : Change) → IsPut b a u after → held_in after a ≡ known_value (Some u) (value_in b.reads a)
 put_here b after a u p = ap (λ (x : Buffers). held_in x a) p.is ∙ ap (λ o. known_value o (value_in b.reads a)) (change_with b.writes a u a ∙ here)
@@ -23,11 +23,11 @@ put_there b after a u x p other = ap (λ (y : Buffers). held_in y x) p.is ∙ ap
     there = elim (int_tells x a) [ inl q ↦ absurd (other q.1) | inr q ↦ ap (λ t. cond t (Some u) (change_in b.writes x)) q.0 ]
 
 module _ (b after : Buffers) (a : ℤ) where
-  pub stored_here : (r : Result (Unit {0}) Stop) (z : ℤ) → OnOk r (IsPut b a (Stored z) after) → OnOk r ((v : ℤ) → held_in after a ≡ Some v → v ≡ z)
+  pub stored_here : (r : Result (Unit {0}) CellStop) (z : ℤ) → OnOk r (IsPut b a (Stored z) after) → OnOk r ((v : ℤ) → held_in after a ≡ Some v → v ≡ z)
   stored_here (Ok u) z p = λ v h. same_Some v z (sym h ∙ put_here b after a (Stored z) p)
   stored_here (Err s) z p = tt
 
-  pub put_others : (r : Result (Unit {0}) Stop) (u : Change) → OnOk r (IsPut b a u after) → OnErr r (after ≡ b) → (x z : ℤ) → ((v : ℤ) → held_in b x ≡ Some v → v ≡ z) → x ≢ a → (v : ℤ) → held_in after x ≡ Some v → v ≡ z
+  pub put_others : (r : Result (Unit {0}) CellStop) (u : Change) → OnOk r (IsPut b a u after) → OnErr r (after ≡ b) → (x z : ℤ) → ((v : ℤ) → held_in b x ≡ Some v → v ≡ z) → x ≢ a → (v : ℤ) → held_in after x ≡ Some v → v ≡ z
   put_others (Ok i) u p e x z old other v h = old v (sym (put_there b after a u x p other) ∙ h)
   put_others (Err s) u p e x z old other v h = old v (ap (λ (y : Buffers). held_in y x) (sym e) ∙ h)
 
@@ -37,6 +37,6 @@ module _ (b after : Buffers) (a : ℤ) where
   summed n z None (Some y) old v h = same_Some v (cell_sum y n) (sym h) ∙ ap (λ k. cell_sum k n) (old y refl)
   summed n z None None old v h = absurd cc
 
-  pub added_here : (r : Result (Unit {0}) Stop) (n : ℤ) → OnOk r (IsPut b a (raised_change n (change_in b.writes a) (value_in b.reads a)) after) → OnOk r ((z : ℤ) → ((v : ℤ) → held_in b a ≡ Some v → v ≡ z) → (v : ℤ) → held_in after a ≡ Some v → v ≡ cell_sum z n)
+  pub added_here : (r : Result (Unit {0}) CellStop) (n : ℤ) → OnOk r (IsPut b a (raised_change n (change_in b.writes a) (value_in b.reads a)) after) → OnOk r ((z : ℤ) → ((v : ℤ) → held_in b a ≡ Some v → v ≡ z) → (v : ℤ) → held_in after a ≡ Some v → v ≡ cell_sum z n)
   added_here (Ok i) n p = λ z old v h. summed n z (change_in b.writes a) (value_in b.reads a) old v (sym (put_here b after a (raised_change n (change_in b.writes a) (value_in b.reads a)) p) ∙ h)
   added_here (Err s) n p = tt

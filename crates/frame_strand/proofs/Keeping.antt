@@ -8,7 +8,7 @@ use Rattle.frame_engine.specs.declared.activation.Places.{Places}
 use Rattle.frame_engine.proofs.Turns.{there_is}
 use Rattle.frame_strand.specs.Along.{HasRegisters, HasRoom, IsGoing, IsFrameStrandKept}
 use Rattle.frame_strand.specs.declared.standing.Course.{Course}
-use Rattle.frame_strand.specs.declared.standing.Pause.{Pause}
+use Rattle.frame_strand.specs.declared.standing.FrameStrandPause.{FrameStrandPause}
 
 pub frame_room : (prog : Program) (f : Frame) (n : ℕ) → FrameFits prog f → HasRegisters prog n → length f.registers.items ≤ n
 frame_room prog f n fits has =

@@ -9,7 +9,7 @@ use Rattle.frame_strand.specs.declared.cells.Written.{Written}
 use Rattle.frame_strand.specs.declared.cells.Change.{Change}
 use Rattle.frame_strand.specs.declared.cells.Change.TheVariants.{Stored, Delta}
 use Rattle.frame_strand.specs.declared.cells.FrameStrandCells.TheInside.{Inside}
-use Rattle.frame_strand.proofs.Kept.{int_tells, different_push, keys_set, keys_push, set_changes, push_changes, change_with, change_unlisted, value_unlisted, value_push}
+use Rattle.frame_strand.proofs.CellsKept.{int_tells, different_push, keys_set, keys_push, set_changes, push_changes, change_with, change_unlisted, value_unlisted, value_push}
 
 -- the deltas after a change
 deltas_with : (ws : List Written) (rs : List Read) (a : ℤ) (u : Change) → ((b z : ℤ) → change_in ws b ≡ Some (Delta z) → value_in rs b ≡ None) → ((z : ℤ) → u ≡ Delta z → value_in rs a ≡ None) →

@@ -1,6 +1,6 @@
 mod Refilled
 pub mod Chained
-pub mod Kept
+pub mod CellsKept
 pub mod Keeps
 pub mod Holding
 pub mod Showing

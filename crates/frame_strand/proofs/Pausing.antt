@@ -18,19 +18,19 @@ use Rattle.frame_strand.specs.Along.{NeedsLiving, PausesAt, pause_in}
 use Rattle.frame_strand.specs.Buffers.{Buffers, BuffersRefuse, LacksPlace, change_in, held_in}
 use Rattle.frame_strand.specs.Gone.{named}
 use Rattle.frame_strand.specs.Showing.{AreApart, ShowsFootprint, change_of}
-use Rattle.frame_strand.specs.declared.cells.Stop.{Stop}
-use Rattle.frame_strand.specs.declared.cells.Stop.TheVariants as stop
-use Rattle.frame_strand.specs.declared.standing.Pause.{Pause}
-use Rattle.frame_strand.specs.declared.standing.Pause.TheVariants.{Border, Full, Limit, Need}
+use Rattle.frame_strand.specs.declared.cells.CellStop.{CellStop}
+use Rattle.frame_strand.specs.declared.cells.CellStop.TheVariants as stop
+use Rattle.frame_strand.specs.declared.standing.FrameStrandPause.{FrameStrandPause}
+use Rattle.frame_strand.specs.declared.standing.FrameStrandPause.TheVariants.{Border, Full, Limit, Need}
 use Rattle.frame_engine.specs.declared.turning.Pause.TheVariants as engine_pause
 use Rattle.frame_strand.proofs.Advancing.{less}
 use Rattle.frame_strand.proofs.Showing.{change_is, held_is}
 
 -- ---- one pause is shown
 
-pub stands_at : (prog : Program) (l : Layout) (t : FrameStrand) (p : frame_strands.Pause) (q : Pause) → pause_of prog t ≡ Some p → pause_in l p ≡ q → NeedsLiving l (Some p) → PausesAt prog l t (Some q)
+pub stands_at : (prog : Program) (l : Layout) (t : FrameStrand) (p : frame_strands.Pause) (q : FrameStrandPause) → pause_of prog t ≡ Some p → pause_in l p ≡ q → NeedsLiving l (Some p) → PausesAt prog l t (Some q)
 stands_at prog l t p q is same living = record {
-  is = ap (option_map (pause_in l)) is ∙ ap (λ (x : Pause). Some x) same;
+  is = ap (option_map (pause_in l)) is ∙ ap (λ (x : FrameStrandPause). Some x) same;
   living = subst (NeedsLiving l) (sym is) living;
 }
 
@@ -65,10 +65,10 @@ module _ (prog : Program) (l : Layout) (apart : AreApart l) (t : FrameStrand) (b
       let asked : need t.footprint (item_access t.present o) ≡ Some (frame_strands.Need c) = ap (need t.footprint) at ∙ (rw unheld refl) in
       rw (border, early, free) asked
 
-  abbrev StopsAt : Option Item → Stop → Type 0
+  abbrev StopsAt : Option Item → CellStop → Type 0
   StopsAt o q = (p : frame_strands.Pause) × (pause_at t.footprint t.done o (item_access t.present o) ≡ Some p) × (pause_in l p ≡ named (engine_pause.Stopped q)) × NeedsLiving l (Some p)
 
-  read_stop : (o : Option Item) (c : Cell) (q : Stop) → is_border o ≡ false → IsIn l c → item_access t.present o ≡ frame_strands.Loads c → BuffersRefuse b (Loads (address l c)) q → StopsAt o q
+  read_stop : (o : Option Item) (c : Cell) (q : CellStop) → is_border o ≡ false → IsIn l c → item_access t.present o ≡ frame_strands.Loads c → BuffersRefuse b (Loads (address l c)) q → StopsAt o q
   read_stop o c q border here at (unheld, is) = from (nat_le 256 (length b.reads)) refl is
     where
       unknown : held t.footprint c ≡ None
@@ -85,17 +85,17 @@ module _ (prog : Program) (l : Layout) (apart : AreApart l) (t : FrameStrand) (b
   unmapped None e = refl
   unmapped (Some u) e = absurd cc
 
-  write_full : (c : Cell) (q : Stop) → IsIn l c → LacksPlace b (address l c) q → is_none (write_at t.footprint c) && nat_le 256 (length t.footprint.writes) ≡ true
+  write_full : (c : Cell) (q : CellStop) → IsIn l c → LacksPlace b (address l c) q → is_none (write_at t.footprint c) && nat_le 256 (length t.footprint.writes) ≡ true
   write_full c q here lacks =
       let new : write_at t.footprint c ≡ None = unmapped (write_at t.footprint c) (sym (change_is l apart c here t.footprint b s) ∙ lacks.new) in
       let as_many : length b.writes ≡ length t.footprint.writes = ap (λ xs. length xs) s.writes ∙ length-map t.footprint.writes _ in
       let many : nat_le 256 (length t.footprint.writes) ≡ true = elim (leb_tells 256 (length t.footprint.writes)) [ inl z ↦ z.0 | inr z ↦ absurd (let r = z.1 in let m = lacks.full in omega (arith, r, m, as_many)) ] in
       rw (new, many) refl
 
-  write_stop : (o : Option Item) (a : Access) (c : Cell) (q : Stop) → is_border o ≡ false → IsIn l c → item_access t.present o ≡ a → is_full t.footprint a ≡ is_none (write_at t.footprint c) && nat_le 256 (length t.footprint.writes) → LacksPlace b (address l c) q → StopsAt o q
+  write_stop : (o : Option Item) (a : Access) (c : Cell) (q : CellStop) → is_border o ≡ false → IsIn l c → item_access t.present o ≡ a → is_full t.footprint a ≡ is_none (write_at t.footprint c) && nat_le 256 (length t.footprint.writes) → LacksPlace b (address l c) q → StopsAt o q
   write_stop o a c q border here at kind lacks = (frame_strands.Full, full_pause o a border at (kind ∙ write_full c q here lacks), ap (λ x. named (engine_pause.Stopped x)) (sym lacks.is), tt)
 
-  refused_stop : (o : Option Item) (q : Stop) → RefusedItem BuffersRefuse l t.present b q o → StopsAt o q
+  refused_stop : (o : Option Item) (q : CellStop) → RefusedItem BuffersRefuse l t.present b q o → StopsAt o q
   refused_stop None q h = absurd h
   refused_stop (Some (Ends e)) q h = absurd h
   refused_stop (Some (Does (instruction.Load r a))) q (c, here, is, refuses) = read_stop (Some (Does (instruction.Load r a))) c q refl here (ap (to_cell frame_strands.Loads) is) refuses
@@ -110,7 +110,7 @@ module _ (prog : Program) (l : Layout) (apart : AreApart l) (t : FrameStrand) (b
   refused_stop (Some (Does (instruction.ElementPointer r name i))) q h = absurd h
   refused_stop (Some (Does (instruction.StartRegion r))) q h = absurd h
 
-  pub stopped_at : (q : Stop) → RefusedItem BuffersRefuse l t.present b q (next_of prog t.present) → PausesAt prog l t (Some (named (engine_pause.Stopped q)))
+  pub stopped_at : (q : CellStop) → RefusedItem BuffersRefuse l t.present b q (next_of prog t.present) → PausesAt prog l t (Some (named (engine_pause.Stopped q)))
   stopped_at q h =
       let (p, is, same, living) = refused_stop (next_of prog t.present) q h in
       stands_at prog l t p (named (engine_pause.Stopped q)) is same living

@@ -20,7 +20,7 @@ use Rattle.frame_strand.specs.Buffers.{Buffers, any_address, may_hold, value_in}
 use Rattle.frame_strand.specs.Keeping.{AreDifferent}
 use Rattle.frame_strand.specs.Showing.{AreApart, ShowsFootprint, read_of}
 use Rattle.frame_strand.specs.declared.cells.Read.{Read}
-use Rattle.frame_strand.proofs.Kept.{value_at}
+use Rattle.frame_strand.proofs.CellsKept.{value_at}
 use Rattle.frame_strand.proofs.Showing.{held_is, value_is}
 
 all_from : {X : Type 0} (P : X → Type 0) (xs : List X) → ((i : ℕ) (x : X) → slice_get xs i ≡ Some x → P x) → All P xs

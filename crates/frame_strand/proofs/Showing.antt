@@ -20,8 +20,8 @@ use Rattle.frame_strand.specs.Showing.{AreApart, Becomes, ShowsFootprint, change
 use Rattle.frame_strand.specs.declared.cells.Read.{Read}
 use Rattle.frame_strand.specs.declared.cells.Written.{Written}
 use Rattle.frame_strand.specs.declared.cells.Change.TheVariants.{Stored}
-use Rattle.frame_strand.specs.declared.cells.Stop.{Stop}
-use Rattle.frame_strand.proofs.Kept.{int_tells}
+use Rattle.frame_strand.specs.declared.cells.CellStop.{CellStop}
+use Rattle.frame_strand.proofs.CellsKept.{int_tells}
 
 module _ (l : Layout) (apart : AreApart l) (c : Cell) (here : IsIn l c) where
   key_same : (d : Cell) → IsIn l d → int_eq (address l c) (address l d) ≡ same_cell c d
@@ -135,11 +135,11 @@ module _ (l : Layout) (apart : AreApart l) (c : Cell) (here : IsIn l c) where
 
 -- ---- by what became of an access
 
-pub became_stored : (r : Result (Unit {0}) Stop) (b after : Buffers) (a z : ℤ) → OnOk r (IsPut b a (Stored z) after) → OnOk r (Becomes (with_store z) b a after)
+pub became_stored : (r : Result (Unit {0}) CellStop) (b after : Buffers) (a z : ℤ) → OnOk r (IsPut b a (Stored z) after) → OnOk r (Becomes (with_store z) b a after)
 became_stored (Err stop) b after a z p = tt
 became_stored (Ok u) b after a z p = λ l f c apart here is s. shown_store l apart c here f b s after z (subst (λ (x : ℤ). IsPut b x (Stored z) after) is p)
 
-pub became_added : (r : Result (Unit {0}) Stop) (b after : Buffers) (a z : ℤ) → OnOk r (IsPut b a (raised_change z (change_in b.writes a) (value_in b.reads a)) after) → OnOk r (Becomes (with_add z) b a after)
+pub became_added : (r : Result (Unit {0}) CellStop) (b after : Buffers) (a z : ℤ) → OnOk r (IsPut b a (raised_change z (change_in b.writes a) (value_in b.reads a)) after) → OnOk r (Becomes (with_add z) b a after)
 became_added (Err stop) b after a z p = tt
 became_added (Ok u) b after a z p = λ l f c apart here is s. shown_add l apart c here f b s after z (subst (λ (x : ℤ). IsPut b x (raised_change z (change_in b.writes x) (value_in b.reads x)) after) is p)
 

@@ -14,15 +14,15 @@ use Rattle.frame_engine.specs.declared.activation.Places.{Places}
 use Rattle.frame_strand.specs.Alone.{GoesAlone}
 use Rattle.frame_strand.specs.Standing.{ShowsFrameStrand}
 use Rattle.frame_strand.specs.declared.standing.Course.{Course}
-use Rattle.frame_strand.specs.declared.standing.Pause.{Pause}
-use Rattle.frame_strand.specs.declared.standing.Pause.TheVariants.{Blank, Border, Limit, Full, Need}
+use Rattle.frame_strand.specs.declared.standing.FrameStrandPause.{FrameStrandPause}
+use Rattle.frame_strand.specs.declared.standing.FrameStrandPause.TheVariants.{Blank, Border, Limit, Full, Need}
 
 -- as many registers as the largest function has
 abbrev pub HasRegisters : Program → ℕ → Type 0
 HasRegisters prog n = (k : ℕ) (f : Function) → slice_get prog.functions k ≡ Some f → length f.registers ≤ n
 
 -- the pause, its cell by address
-abbrev pub pause_in : Layout → frame_strands.Pause → Pause
+abbrev pub pause_in : Layout → frame_strands.Pause → FrameStrandPause
 pause_in l frame_strands.Blank = Blank
 pause_in l frame_strands.Border = Border
 pause_in l frame_strands.Limit = Limit
@@ -39,7 +39,7 @@ NeedsLiving l (Some frame_strands.Full) = ⊤
 NeedsLiving l (Some (frame_strands.Need c)) = IsIn l c
 
 -- the strand stands at this pause; None where it can go on
-pub record PausesAt (prog : Program) (l : Layout) (s : frame_strands.FrameStrand) (pause : Option Pause) : Type 0 where
+pub record PausesAt (prog : Program) (l : Layout) (s : frame_strands.FrameStrand) (pause : Option FrameStrandPause) : Type 0 where
   pub is : option_map (pause_in l) (pause_of prog s) ≡ pause
   pub living : NeedsLiving l (pause_of prog s)
 
@@ -72,7 +72,7 @@ pub record IsUnderWay (prog : Program) (places : Places) (x : Course) : Type 0 w
       IsAlong prog places l (reverse x.path.items) g x
 
 -- and it stands at this pause
-pub record IsGoing (prog : Program) (places : Places) (x : Course) (pause : Option Pause) : Type 0 where
+pub record IsGoing (prog : Program) (places : Places) (x : Course) (pause : Option FrameStrandPause) : Type 0 where
   pub way : IsUnderWay prog places x
   pub pauses : (l : Layout) (g : Frame) (goes : GoesAlone prog places l (reverse x.path.items) g x.loaded) →
       PausesAt prog l (way.along l g goes).strand pause
@@ -83,6 +83,6 @@ pub record HasRoom (prog : Program) (places : Places) (x : Course) : Type 0 wher
   pub loaded : HasRegisters prog (vec_capacity x.loaded.registers)
   pub present : HasRegisters prog (vec_capacity x.present.registers)
 
-pub record IsFrameStrandKept (prog : Program) (places : Places) (x : Course) (pause : Option Pause) : Type 0 where
+pub record IsFrameStrandKept (prog : Program) (places : Places) (x : Course) (pause : Option FrameStrandPause) : Type 0 where
   pub room : HasRoom prog places x
   pub going : pause ≢ Some Blank → IsGoing prog places x pause

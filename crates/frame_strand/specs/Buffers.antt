@@ -8,8 +8,8 @@ use Rattle.frame_engine.specs.Access.{Access, Loads, Stores, Adds}
 use Rattle.frame_strand.specs.declared.cells.Read.{Read}
 use Rattle.frame_strand.specs.declared.cells.Written.{Written}
 use Rattle.frame_strand.specs.declared.cells.Change.{Change}
-use Rattle.frame_strand.specs.declared.cells.Stop.{Stop}
-use Rattle.frame_strand.specs.declared.cells.Stop.TheVariants.{Full, Need}
+use Rattle.frame_strand.specs.declared.cells.CellStop.{CellStop}
+use Rattle.frame_strand.specs.declared.cells.CellStop.TheVariants.{Full, Need}
 use Rattle.frame_strand.specs.declared.cells.Change.TheVariants.{Stored, Delta}
 
 pub record Buffers : Type 0 where
@@ -62,7 +62,7 @@ pub record IsPut (b : Buffers) (a : ℤ) (u : Change) (after : Buffers) : Type 0
   pub is : after ≡ record b { writes = with_change b.writes a u }
 
 -- the cell is a new one, and there is no place for it
-pub record LacksPlace (b : Buffers) (a : ℤ) (stop : Stop) : Type 0 where
+pub record LacksPlace (b : Buffers) (a : ℤ) (stop : CellStop) : Type 0 where
   pub is : stop ≡ Full
   pub new : change_in b.writes a ≡ None
   pub full : 256 ≤ length b.writes
@@ -74,7 +74,7 @@ BuffersDo b (Stores a z) after = IsPut b a (Stored z) after
 BuffersDo b (Adds a z) after = IsPut b a (raised_change z (change_in b.writes a) (value_in b.reads a)) after
 
 -- why an access is not done
-abbrev pub BuffersRefuse : Buffers → Access → Stop → Type 0
+abbrev pub BuffersRefuse : Buffers → Access → CellStop → Type 0
 BuffersRefuse b (Loads a) stop = (held_in b a ≡ None) × (stop ≡ cond (nat_le 256 (length b.reads)) Full (Need a))
 BuffersRefuse b (Stores a z) stop = LacksPlace b a stop
 BuffersRefuse b (Adds a z) stop = LacksPlace b a stop

@@ -1,10 +1,10 @@
 ghost use Rattle.frame_strand.specs.Buffers.{BuffersDo, BuffersRefuse, any_address, may_hold};
 
-use crate::cells::{Change, FrameStrandCells, Stop};
+use crate::cells::{CellStop, Change, FrameStrandCells};
 use frame_engine::Cells;
 
 impl Cells for FrameStrandCells {
-    type Stop = Stop;
+    type Stop = CellStop;
 
     ghost reaches = { any_address };
 
@@ -14,7 +14,7 @@ impl Cells for FrameStrandCells {
 
     ghost refuses = { BuffersRefuse };
 
-    fn load(&mut self, at: i64) -> Result<i64, Stop> {
+    fn load(&mut self, at: i64) -> Result<i64, CellStop> {
         match self.change(&at) {
             Some((_, Change::Stored(number))) => Ok(number),
             Some((_, Change::Delta(_))) => Err(self.unread(&at)),
@@ -25,11 +25,11 @@ impl Cells for FrameStrandCells {
         }
     }
 
-    fn store(&mut self, at: i64, number: i64) -> Result<(), Stop> {
+    fn store(&mut self, at: i64, number: i64) -> Result<(), CellStop> {
         self.store_at(&at, &number)
     }
 
-    fn add(&mut self, at: i64, number: i64) -> Result<(), Stop> {
+    fn add(&mut self, at: i64, number: i64) -> Result<(), CellStop> {
         self.add_at(&at, &number)
     }
 }

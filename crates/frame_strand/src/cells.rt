@@ -36,7 +36,7 @@ pub struct Written {
 
 /// Why a strand cannot go on with a cell.
 #[derive(Clone, Copy)]
-pub enum Stop {
+pub enum CellStop {
     /// It needs to know what the cell at this address holds.
     Need { at: i64 },
     /// It needs a place in a buffer that holds 256 cells.
@@ -166,7 +166,12 @@ impl FrameStrandCells {
     /// # Errors
     ///
     /// The cell is a new one, and there is no place for it: nothing has changed.
-    fn put(&mut self, at: &i64, found: Option<(usize, Change)>, change: Change) -> Result<(), Stop>
+    fn put(
+        &mut self,
+        at: &i64,
+        found: Option<(usize, Change)>,
+        change: Change,
+    ) -> Result<(), CellStop>
         requires found { IfSome found (λ old. slice_get self.old.writes old.0 ≡ Some (record { at = at.now; change = old.1 })) }
         requires change { IfSome found (λ old. change_in self.old.writes at.now ≡ Some old.1) }
         requires absent { IfNone found (change_in self.old.writes at.now ≡ None) }
@@ -182,7 +187,7 @@ impl FrameStrandCells {
             }
             None => {
                 if self.writes.len() >= PLACES {
-                    return Err(Stop::Full);
+                    return Err(CellStop::Full);
                 }
                 self.write_places.push(at);
                 self.writes.push_reserved(Written { at: *at, change });
@@ -192,7 +197,7 @@ impl FrameStrandCells {
     }
 
     /// The cell is to hold the number; a delta is forgotten.
-    pub(crate) fn store_at(&mut self, at: &i64, number: &i64) -> Result<(), Stop>
+    pub(crate) fn store_at(&mut self, at: &i64, number: &i64) -> Result<(), CellStop>
         ensures done { OnOk result (IsPut self.old at.now (Change.Stored number.now) self.new) }
         ensures shown { OnOk result (Becomes (with_store number.now) self.old at.now self.new) }
         ensures refused { IfErr result (λ stop. LacksPlace self.old at.now stop) }
@@ -203,7 +208,7 @@ impl FrameStrandCells {
     }
 
     /// The number is added to what the cell holds.
-    pub(crate) fn add_at(&mut self, at: &i64, number: &i64) -> Result<(), Stop>
+    pub(crate) fn add_at(&mut self, at: &i64, number: &i64) -> Result<(), CellStop>
         ensures done { OnOk result (IsPut self.old at.now
             (raised_change number.now (change_in self.old.writes at.now) (value_in self.old.reads at.now)) self.new) }
         ensures shown { OnOk result (Becomes (with_add number.now) self.old at.now self.new) }
@@ -216,13 +221,13 @@ impl FrameStrandCells {
     }
 
     /// Why a cell that is not held cannot be loaded.
-    pub(crate) fn unread(&self, at: &i64) -> Stop
-        ensures { result ≡ (if nat_le 256 (length self.now.reads) then Stop.Full else Stop.Need at.now) }
+    pub(crate) fn unread(&self, at: &i64) -> CellStop
+        ensures { result ≡ (if nat_le 256 (length self.now.reads) then CellStop.Full else CellStop.Need at.now) }
     {
         if self.reads.len() >= PLACES {
-            Stop::Full
+            CellStop::Full
         } else {
-            Stop::Need { at: *at }
+            CellStop::Need { at: *at }
         }
     }
 

@@ -11,7 +11,7 @@ mod law;
 mod outside;
 mod standing;
 
-pub use cells::{Change, FrameStrandCells, Read, Stop, Written};
+pub use cells::{CellStop, Change, FrameStrandCells, Read, Written};
 pub use law::accesses_are_frame_strands;
 pub use outside::FrameStrand;
-pub use standing::{Course, MOST, Pause, copy_frame};
+pub use standing::{Course, FrameStrandPause, MOST, copy_frame};

@@ -5,7 +5,7 @@ ghost use Rattle.frame_strand.specs.Keeping.{AreDifferent};
 ghost use Rattle.frame_strand.specs.Standing.{IsCopy};
 
 use crate::cells::{Read, Written};
-use crate::standing::{Course, Pause};
+use crate::standing::{Course, FrameStrandPause};
 use frame_engine::{Frame, Places};
 use lists::OutOfMemory;
 use program::Program;
@@ -17,7 +17,7 @@ pub struct FrameStrand<'p> {
     pub(crate) places: &'p Places,
     pub(crate) course: Course,
     /// Where it stands; None where it can go on.
-    pub(crate) pause: Option<Pause>,
+    pub(crate) pause: Option<FrameStrandPause>,
     pub ghost kept: { ∥ IsFrameStrandKept program.now places.now course pause ∥₁ },
 }
 
@@ -59,7 +59,7 @@ impl<'p> FrameStrand<'p> {
         requires { (moves : ℕ) → HasRegisters program.now moves → ProgramFits program.now places.now moves }
         ensures program { IfOk result (λ s. s.program.now ≡ program.now) }
         ensures places { IfOk result (λ s. s.places.now ≡ places.now) }
-        ensures blank { IfOk result (λ s. s.pause ≡ Some Pause.Blank) }
+        ensures blank { IfOk result (λ s. s.pause ≡ Some FrameStrandPause.Blank) }
         ensures depth { IfOk result (λ s. vec_capacity s.course.path ≡ depth) }
     {
         let registers = most_registers(program);
@@ -68,13 +68,13 @@ impl<'p> FrameStrand<'p> {
             program,
             places,
             course,
-            pause: Some(Pause::Blank),
+            pause: Some(FrameStrandPause::Blank),
         })
     }
 
     /// Begins with a copy of a frame at a path, which has the root's number first; it takes no memory.
     pub fn load(&mut self, frame: &Frame, path: &[u64])
-        requires blank { self.old.pause ≡ Some Pause.Blank }
+        requires blank { self.old.pause ≡ Some FrameStrandPause.Blank }
         requires room { length path.now ≤ vec_capacity self.old.course.path }
         requires stands { FrameFits self.old.program.now frame.now }
         requires goes { ∥ MayBegin self.old.program.now self.old.places.now path.now frame.now ∥₁ }
@@ -91,7 +91,7 @@ impl<'p> FrameStrand<'p> {
     }
 
     /// Goes on by plain instructions to a pause; at one it stays.
-    pub fn advance(&mut self) -> Pause
+    pub fn advance(&mut self) -> FrameStrandPause
         ensures pause { self.new.pause ≡ Some result }
         ensures stays { self.old.pause ≢ None → self.old.pause ≡ Some result }
         ensures program { self.new.program.now ≡ self.old.program.now }
@@ -100,7 +100,7 @@ impl<'p> FrameStrand<'p> {
         ensures loaded { self.new.course.loaded ≡ self.old.course.loaded }
         ensures reads { self.new.course.cells.reads ≡ self.old.course.cells.reads }
         ensures done { self.old.course.done ≤ self.new.course.done }
-        ensures going { self.old.pause ≢ Some Pause.Blank → ∥ IsGoing self.new.program.now self.new.places.now self.new.course (Some result) ∥₁ }
+        ensures going { self.old.pause ≢ Some FrameStrandPause.Blank → ∥ IsGoing self.new.program.now self.new.places.now self.new.course (Some result) ∥₁ }
     {
         match self.pause {
             Some(pause) => pause,
@@ -114,20 +114,20 @@ impl<'p> FrameStrand<'p> {
 
     /// The cell that it needs holds the value.
     pub fn fill(&mut self, value: i64)
-        requires { (at : ℤ) × (self.old.pause ≡ Some (Pause.Need at)) }
+        requires { (at : ℤ) × (self.old.pause ≡ Some (FrameStrandPause.Need at)) }
         ensures program { self.new.program.now ≡ self.old.program.now }
         ensures places { self.new.places.now ≡ self.old.places.now }
         ensures path { self.new.course.path ≡ self.old.course.path }
         ensures loaded { self.new.course.loaded ≡ self.old.course.loaded }
         ensures present { self.new.course.present ≡ self.old.course.present }
         ensures done { self.new.course.done ≡ self.old.course.done }
-        ensures reads { (at : ℤ) → self.old.pause ≡ Some (Pause.Need at)
+        ensures reads { (at : ℤ) → self.old.pause ≡ Some (FrameStrandPause.Need at)
             → self.new.course.cells.reads ≡ self.old.course.cells.reads ++ record { at = at; value = value } ∷ [] }
         ensures goes_on { self.new.pause ≡ None }
         ensures going { ∥ IsGoing self.new.program.now self.new.places.now self.new.course None ∥₁ }
     {
         match self.pause {
-            Some(Pause::Need { at }) => {
+            Some(FrameStrandPause::Need { at }) => {
                 self.course.fill(&at, &value);
                 self.pause = None;
             }
@@ -139,14 +139,14 @@ impl<'p> FrameStrand<'p> {
     pub fn clear(&mut self)
         ensures program { self.new.program.now ≡ self.old.program.now }
         ensures places { self.new.places.now ≡ self.old.places.now }
-        ensures blank { self.new.pause ≡ Some Pause.Blank }
+        ensures blank { self.new.pause ≡ Some FrameStrandPause.Blank }
         ensures depth { vec_capacity self.new.course.path ≡ vec_capacity self.old.course.path }
     {
-        self.pause = Some(Pause::Blank);
+        self.pause = Some(FrameStrandPause::Blank);
     }
 
     /// Where it stands; None where it can go on.
-    pub fn pause(&self) -> Option<Pause>
+    pub fn pause(&self) -> Option<FrameStrandPause>
         ensures { result ≡ self.now.pause }
     {
         self.pause

@@ -5,7 +5,7 @@ use Rattle.semantics.specs.SerialMeaning.{Gave}
 use Rattle.store.specs.Cells.{NamedCells}
 use Rattle.store.specs.Serially.{memory_of_globals}
 use Rattle.store.specs.declared.outcome.Finished.{Finished}
-use Rattle.serial_machine.specs.Promise.{EndsWithinBudget, TakesMore}
+use Rattle.serial_machine.specs.SerialPromise.{EndsWithinBudget, TakesMore}
 use Rattle.lone_run.specs.UnderWay.{IsRunOf, IsUnderWay}
 use Rattle.lone_run.specs.declared.run.LoneRun.{LoneRun}
 use Rattle.kernel_calls.specs.Told.{ExceedsProgram, RunsProgram}

@@ -9,7 +9,7 @@ use Rattle.store.specs.Cells.{NamedCells, zeros}
 use Rattle.store.specs.Rows.{refilled, row_of}
 use Rattle.store.specs.Requirements.{unmet_in}
 use Rattle.store.specs.declared.outcome.Finished.{Finished}
-use Rattle.serial_machine.specs.Promise.{EndsWithinBudget, TakesMore}
+use Rattle.serial_machine.specs.SerialPromise.{EndsWithinBudget, TakesMore}
 use Rattle.kernel_calls.specs.declared.told.Outcome.{Outcome}
 use Rattle.kernel_calls.specs.declared.told.Verdict.{Verdict}
 

@@ -2,7 +2,7 @@
 use Rattle.std.specs.Prelude.{◌≡◌, ◌⊎◌, ⊤, ℕ, ℤ, ◌≤◌, List}
 use Rattle.program.specs.declared.function.Program.{Program}
 use Rattle.store.specs.Cells.{NamedCells}
-use Rattle.serial_machine.specs.Promise.{EndsWithinBudget, TakesMore}
+use Rattle.serial_machine.specs.SerialPromise.{EndsWithinBudget, TakesMore}
 use Rattle.kernel_calls.specs.Told.{done, other_cells, out_of_fuel, out_of_memory, stopped}
 use Rattle.kernel_calls.specs.declared.until.Watched.{Watched}
 use Rattle.kernel_calls.specs.declared.until.Watched.TheVariants.{Finished, OutOfFuel, Stopped, OutOfMemory}

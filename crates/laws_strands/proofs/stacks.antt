@@ -6,7 +6,7 @@ pub mod Stepping
 pub mod Law
 pub mod Tasks
 pub mod Memories
-pub mod Kept
+pub mod StrandsKept
 pub mod Sample
 pub mod Counting
 pub mod Reached

@@ -7,7 +7,7 @@ use Rattle.store.specs.declared.outcome.Finished.{Finished}
 use Rattle.store.specs.declared.outcome.RunFault.{RunFault}
 use Rattle.store.specs.declared.outcome.RunFault.TheVariants.{BadArguments, BadWorkers, OutOfMemory, Stopped}
 use Rattle.store.specs.Cells.{NamedCells}
-use Rattle.serial_machine.specs.Promise.{EndsOrLacksMemory, EndsWithinBudget}
+use Rattle.serial_machine.specs.SerialPromise.{EndsOrLacksMemory, EndsWithinBudget}
 use Rattle.lone_run.specs.UnderWay.{IsRefusal}
 
 module _ (program : Program) (arguments : List ℤ) (memory : List NamedCells) where

@@ -9,11 +9,11 @@ use Rattle.store.specs.verifier.Budgets.{budget_of}
 use Rattle.frame_engine.specs.Activation.{FrameFits}
 use Rattle.frame_engine.specs.declared.activation.Places.{Places}
 use Rattle.serial_stack.specs.Runs.{HasWalked}
-use Rattle.serial_stack.specs.Shown.{Advances, HasNumbers, Returns, RunsSafely, StandsSafely, StaysSafely, TextFits}
+use Rattle.serial_stack.specs.StackShown.{Advances, HasNumbers, Returns, RunsSafely, StandsSafely, StaysSafely, TextFits}
 use Rattle.serial_stack.specs.Steps.{Run}
 use Rattle.serial_stack.specs.declared.stack.Stack.{Stack}
 use Rattle.serial_stack.proofs.Turning.{fits_prop, goes_on_here, may_go_on, numbers_here, no_less, numbers_prop, stands_here, stays_here, turned, walked_on, within_here}
-use Rattle.serial_machine.specs.Promise.{EndsWithinBudget, TakesMore}
+use Rattle.serial_machine.specs.SerialPromise.{EndsWithinBudget, TakesMore}
 use Rattle.serial_machine.proofs.Engine.{ends, globals, safe, start, takes_more, walked}
 use Rattle.lone_run.specs.UnderWay.{IsOnWay}
 

@@ -14,7 +14,7 @@ use Rattle.frame.specs.code.Codes.{program_codes}
 use Rattle.frame_engine.specs.Starts.{alloca_starts, starts_from}
 use Rattle.frame_engine.specs.declared.activation.Places.{Places}
 use Rattle.serial_stack.specs.Runs.{GoesSafely, HasWalked}
-use Rattle.serial_stack.specs.Shown.{RunsSafely, TextFits}
+use Rattle.serial_stack.specs.StackShown.{RunsSafely, TextFits}
 use Rattle.serial_stack.specs.Starts.{Begins}
 use Rattle.serial_stack.specs.Steps.{Run}
 use Rattle.serial_stack.specs.declared.stack.Stack.{Stack}

@@ -3,7 +3,7 @@ ghost use Rattle.store.specs.Requirements.{unmet_in};
 ghost use Rattle.store.specs.Made.{HasGlobalCells, IsMadeFor};
 ghost use Rattle.store.specs.verifier.Accepted.{IsAccepted};
 ghost use Rattle.store.specs.verifier.Budgets.{budget_of};
-ghost use Rattle.serial_machine.specs.Promise.{EndsWithinBudget, TakesMore};
+ghost use Rattle.serial_machine.specs.SerialPromise.{EndsWithinBudget, TakesMore};
 ghost use Rattle.lone_run.specs.UnderWay.{GetsOn, IsRefusal, IsRunOf, IsUnderWay};
 
 use crate::counted::CountedCells;

@@ -13,7 +13,7 @@ use Rattle.laws_strands.specs.FrameStrands.{Access, Nowhere, Loads, Stores, Adds
 use Rattle.frame_engine.specs.Border.{IsBorder, IsBorderEnding, IsBorderItem}
 use Rattle.frame_engine.specs.Shows.{Layout}
 use Rattle.frame_strand.specs.Along.{PausesAt, pause_in}
-use Rattle.frame_strand.specs.declared.standing.Pause.TheVariants.{Border}
+use Rattle.frame_strand.specs.declared.standing.FrameStrandPause.TheVariants.{Border}
 
 does_border : (i : Instruction) → is_border (Some (Does i)) ≡ true → IsBorder i
 does_border (instruction.Call r callee arguments) h = tt

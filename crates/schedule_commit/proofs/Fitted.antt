@@ -31,13 +31,13 @@ use Rattle.frame_strand.specs.Along.{IsAlong, IsGoing, PausesAt}
 use Rattle.frame_strand.specs.Showing.{read_of, written_of}
 use Rattle.frame_strand.specs.declared.cells.Written.{Written}
 use Rattle.frame_strand.specs.declared.outside.FrameStrand.{FrameStrand}
-use Rattle.frame_strand.specs.declared.standing.Pause.TheVariants.{Border}
+use Rattle.frame_strand.specs.declared.standing.FrameStrandPause.TheVariants.{Border}
 use Rattle.frame_strand.proofs.Beginning.{copy_back, copy_shows}
 use Rattle.schedule_workers.specs.declared.activation.Activation.{Activation}
 use Rattle.schedule_workers.specs.declared.run.Run.{Run}
 use Rattle.schedule_workers.specs.Going.{RunsSafely}
 use Rattle.schedule_workers.specs.Layouts.{layout_of, object_at}
-use Rattle.schedule_workers.specs.Shown.{IsShown, item_here, place_of}
+use Rattle.schedule_workers.specs.RunShown.{IsShown, item_here, place_of}
 use Rattle.schedule_workers.proofs.Onward.{free_callee, seen, standing}
 use Rattle.schedule_workers.proofs.Standing.{can_step, may_go_on}
 use Rattle.schedule_workers.proofs.Views.{hand_seen}

@@ -13,13 +13,13 @@ use Rattle.cactus.proofs.FramesLemmas.{node_at-with_frame}
 use Rattle.frame_engine.specs.declared.activation.Places.{Places}
 use Rattle.frame_strand.specs.Along.{IsGoing}
 use Rattle.frame_strand.specs.declared.outside.FrameStrand.{FrameStrand}
-use Rattle.frame_strand.specs.declared.standing.Pause.TheVariants.{Border}
+use Rattle.frame_strand.specs.declared.standing.FrameStrandPause.TheVariants.{Border}
 use Rattle.schedule_workers.specs.declared.activation.Activation.{Activation}
 use Rattle.schedule_workers.specs.declared.run.Run.{Run}
 use Rattle.schedule_workers.specs.Events.{LeavesStalls}
 use Rattle.schedule_workers.specs.Follows.{KeepsUses}
 use Rattle.schedule_workers.specs.Going.{DoesStep, RunsSafely, Stands}
-use Rattle.schedule_workers.specs.Shown.{IsShown, item_here}
+use Rattle.schedule_workers.specs.RunShown.{IsShown, item_here}
 use Rattle.schedule_workers.specs.Stalls.{Blocks, StallsAgree, if_enabled, last_blocks, noted}
 use Rattle.schedule_workers.proofs.Standing.{safe_next}
 use Rattle.schedule_workers.proofs.Uses.{same_uses, written_uses}

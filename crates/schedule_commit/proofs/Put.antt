@@ -25,7 +25,7 @@ use Rattle.frame_strand.specs.declared.outside.FrameStrand.{FrameStrand}
 use Rattle.schedule_workers.specs.declared.activation.Activation.{Activation}
 use Rattle.schedule_workers.specs.declared.run.Run.{Run}
 use Rattle.schedule_workers.specs.Going.{RunsSafely}
-use Rattle.schedule_workers.specs.Shown.{CalleeStands, HasTaker, IsShown, item_here, place_of}
+use Rattle.schedule_workers.specs.RunShown.{CalleeStands, HasTaker, IsShown, item_here, place_of}
 use Rattle.schedule_workers.specs.Stalls.{Blocks, IsStalledIn, StallsAgree, last_blocks}
 use Rattle.schedule_workers.proofs.Noted.{ready_free}
 use Rattle.schedule_workers.proofs.Onward.{hands_agree}

@@ -7,7 +7,7 @@ use Rattle.frame_engine.specs.Flat.{cell_in, is_cell}
 use Rattle.frame_strand.specs.Buffers.{change_in}
 use Rattle.frame_strand.specs.Keeping.{AreDifferent}
 use Rattle.frame_strand.specs.declared.cells.Written.{Written}
-use Rattle.frame_strand.proofs.Kept.{change_absent, int_tells}
+use Rattle.frame_strand.proofs.CellsKept.{change_absent, int_tells}
 use Rattle.schedule_commit.specs.Putting.{IsPutInto, put_change}
 
 pub kept_cell : (old new : List ℤ) → length new ≡ length old → (a : ℤ) → IsTrue (is_cell old a) → IsTrue (is_cell new a)

@@ -12,7 +12,7 @@ use Rattle.frame_strand.specs.Buffers.{change_in}
 use Rattle.frame_strand.specs.Keeping.{AreDifferent}
 use Rattle.frame_strand.specs.declared.cells.Change.{Change}
 use Rattle.frame_strand.specs.declared.cells.Written.{Written}
-use Rattle.frame_strand.proofs.Kept.{int_tells}
+use Rattle.frame_strand.proofs.CellsKept.{int_tells}
 use Rattle.schedule_commit.specs.Putting.{IsPutInto, put_change}
 use Rattle.schedule_commit.specs.TakingBack.{AreNumbersOf, IsRestored}
 use Rattle.schedule_commit.proofs.Puts.{change_beside, change_last, fresh_next, slice_mapped, take_more}

@@ -12,14 +12,14 @@ use Rattle.frame_engine.specs.declared.activation.Places.{Places}
 use Rattle.frame_strand.specs.Along.{IsGoing}
 use Rattle.frame_strand.specs.declared.cells.Written.{Written}
 use Rattle.frame_strand.specs.declared.outside.FrameStrand.{FrameStrand}
-use Rattle.frame_strand.specs.declared.standing.Pause.{Pause}
-use Rattle.frame_strand.specs.declared.standing.Pause.TheVariants.{Blank, Border, Full, Limit, Need}
+use Rattle.frame_strand.specs.declared.standing.FrameStrandPause.{FrameStrandPause}
+use Rattle.frame_strand.specs.declared.standing.FrameStrandPause.TheVariants.{Blank, Border, Full, Limit, Need}
 use Rattle.schedule_workers.specs.declared.activation.Activation.{Activation}
 use Rattle.schedule_workers.specs.declared.run.Run.{Run}
 use Rattle.semantics.specs.Events.{Step}
 use Rattle.schedule_workers.specs.Events.{LeavesStalls}
 use Rattle.schedule_workers.specs.Going.{DoesStep, StandsSafely}
-use Rattle.schedule_workers.specs.Shown.{item_here}
+use Rattle.schedule_workers.specs.RunShown.{item_here}
 use Rattle.schedule_commit.specs.Absorbing.{DoesSteps, KeepsHand, LeavesStallsBy, StandsAlone, steps_in}
 use Rattle.schedule_commit.specs.Fitting.{FitsRun}
 use Rattle.schedule_commit.specs.Putting.{IsPut}
@@ -28,7 +28,7 @@ use Rattle.schedule_commit.proofs.Bordering.{item_border}
 use Rattle.schedule_commit.proofs.Goes.{border_stands, does_more, does_steps, hands_stay, keeps_hand, leaves_stalls, stalls_more, stands_then}
 
 -- short of a border the strand's instructions are all
-pub steps_before : (pause : Option Pause) (done : ℕ) → pause ≢ Some Border → steps_in pause done ≡ done
+pub steps_before : (pause : Option FrameStrandPause) (done : ℕ) → pause ≢ Some Border → steps_in pause done ≡ done
 steps_before None done off = refl
 steps_before (Some Blank) done off = refl
 steps_before (Some Border) done off = absurd (off refl)

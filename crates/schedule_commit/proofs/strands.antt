@@ -11,7 +11,7 @@ mod Ready
 mod Seats
 mod Levels
 mod Others
-mod Shown
+mod CommitShown
 mod Following
 mod Noting
 mod Does

@@ -11,12 +11,12 @@ use Rattle.laws_strands.specs.Law.{Happen, steps_by}
 use Rattle.frame_engine.specs.declared.activation.Places.{Places}
 use Rattle.frame_strand.specs.Alone.{StaysSafeAlone}
 use Rattle.frame_strand.specs.declared.outside.FrameStrand.{FrameStrand}
-use Rattle.frame_strand.specs.declared.standing.Pause.{Pause}
-use Rattle.frame_strand.specs.declared.standing.Pause.TheVariants.{Blank, Border, Limit, Full, Need}
+use Rattle.frame_strand.specs.declared.standing.FrameStrandPause.{FrameStrandPause}
+use Rattle.frame_strand.specs.declared.standing.FrameStrandPause.TheVariants.{Blank, Border, Limit, Full, Need}
 use Rattle.schedule_workers.specs.declared.run.Run.{Run}
 use Rattle.schedule_workers.specs.Going.{RunsSafely}
 use Rattle.schedule_workers.specs.Layouts.{living}
-use Rattle.schedule_workers.specs.Shown.{IsShown}
+use Rattle.schedule_workers.specs.RunShown.{IsShown}
 use Rattle.schedule_workers.specs.Stalls.{Blocks, StallsAgree, last_blocks}
 
 -- whatever a worker's frame does by itself is safe, with other numbers in the cells of living objects at each step
@@ -34,7 +34,7 @@ pub record StandsAlone (prog : Program) (places : Places) (k : Run) : Type 0 whe
   pub alone : GoesAloneIn prog machine
 
 -- its instructions, and the border's where it stands at one
-abbrev pub steps_in : Option Pause → ℕ → ℕ
+abbrev pub steps_in : Option FrameStrandPause → ℕ → ℕ
 steps_in None done = done
 steps_in (Some Blank) done = done
 steps_in (Some Border) done = suc done

@@ -10,7 +10,7 @@ mod taking_back;
 
 pub use cells::{cell, put_writes};
 pub use fitting::{fitting_slot, hold_reads, is_same, same_numbers};
-pub use frame_strand::{FrameStrand, Pause};
-pub use strand::{Pause as StrandPause, Strand, page_around};
+pub use frame_strand::{FrameStrand, FrameStrandPause};
+pub use strand::{Strand, StrandPause, page_around};
 pub use strands::{fitting_base, has_no_child, publish};
 pub use taking::absorb;

@@ -10,7 +10,7 @@ ghost use Rattle.schedule_workers.specs.Left.{LeavesAsShown};
 ghost use Rattle.schedule_workers.specs.Rooms.{IsRoomier};
 ghost use Rattle.schedule_workers.specs.declared.run.Run.{Run as ShownRun};
 ghost use Rattle.frame_strand.specs.declared.cells.Written.{Written as ShownWritten};
-ghost use Rattle.frame_strand.specs.declared.standing.Pause.TheVariants.{Blank, Border};
+ghost use Rattle.frame_strand.specs.declared.standing.FrameStrandPause.TheVariants.{Blank, Border};
 ghost use Rattle.schedule_commit.specs.Absorbing.{DoesSteps, DoesFrameStrand, KeepsHand, LeavesStallsBy, StandsAlone, steps_in};
 ghost use Rattle.schedule_commit.specs.Fitting.{FitsRun};
 ghost use Rattle.schedule_commit.specs.Putting.{IsPut};
@@ -21,7 +21,7 @@ use crate::fitting::fitting_slot;
 use crate::taking_back::{numbers_before, take_back};
 use frame::Wait;
 use frame_engine::{Frame, Place, Places};
-use frame_strand::{FrameStrand, Pause};
+use frame_strand::{FrameStrand, FrameStrandPause};
 use lists::OutOfMemory;
 use program::Program;
 use schedule_workers::Run;
@@ -63,7 +63,7 @@ fn put_frame_strand(run: &mut Run, slot: usize, strand: &FrameStrand)
 }
 
 /// Whether the strand stands at the pause.
-fn is_at(strand: &FrameStrand, pause: Pause) -> bool
+fn is_at(strand: &FrameStrand, pause: FrameStrandPause) -> bool
     ensures { IsTrue result ↔ (strand.now.pause ≡ Some pause) }
 {
     strand.pause() == Some(pause)
@@ -160,13 +160,13 @@ pub fn absorb(
     ensures workers { length run.new.hands.items ≡ length run.old.hands.items }
     ensures moves { length run.new.moves.items ≡ length run.old.moves.items }
 {
-    if is_at(strand, Pause::Blank) {
+    if is_at(strand, FrameStrandPause::Blank) {
         return Ok(false);
     }
     let Some(slot) = fitting_slot(run, worker, strand) else {
         return Ok(false);
     };
-    if is_at(strand, Pause::Border) {
+    if is_at(strand, FrameStrandPause::Border) {
         go_over(run, program, places, worker, slot, strand)?;
     } else {
         go_on(run, slot, strand);

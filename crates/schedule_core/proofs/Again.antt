@@ -30,7 +30,7 @@ use Rattle.schedule_workers.specs.Layouts.{layout_of}
 use Rattle.schedule_workers.specs.Lent.{place_at}
 use Rattle.schedule_workers.proofs.Onward.{fits_prop}
 use Rattle.schedule_workers.proofs.Returned.{has_result_prop}
-use Rattle.schedule_workers.specs.Shown.{Agrees, AreBeside, BlocksStand, CalleeStands, HasTaker, IsBlockOf, IsShown, LiesWithin, NodeFits, ShowsAt, ShowsMachine, ShowsNode, cells_in}
+use Rattle.schedule_workers.specs.RunShown.{Agrees, AreBeside, BlocksStand, CalleeStands, HasTaker, IsBlockOf, IsShown, LiesWithin, NodeFits, ShowsAt, ShowsMachine, ShowsNode, cells_in}
 
 absurd_again : {A : Type 0} → ∥ ⊥ ∥₁ → A
 absurd_again t = absurd (∥∥₁_elim t (Prim.hlevel (props, ⊎_set, ℕ_set, ℤ_set)) (λ h. h))

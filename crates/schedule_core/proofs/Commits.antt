@@ -20,7 +20,7 @@ use Rattle.schedule_commit.specs.laws_strands.Law.{Happen, steps_by}
 use Rattle.schedule_workers.specs.declared.run.Run.{Run}
 use Rattle.schedule_workers.specs.Follows.{Follows}
 use Rattle.schedule_workers.specs.Left.{LeavesAsShown}
-use Rattle.schedule_workers.specs.Shown.{IsShown}
+use Rattle.schedule_workers.specs.RunShown.{IsShown}
 use Rattle.schedule_workers.specs.Starts.{ArePlaces}
 use Rattle.schedule_workers.specs.Stalls.{Blocks, StallsAgree, if_enabled, last_blocks, no_blocks, noted}
 use Rattle.frame_engine.specs.declared.activation.Places.{Places}

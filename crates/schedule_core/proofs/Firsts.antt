@@ -23,7 +23,7 @@ use Rattle.slab.specs.Slab.{entries_from}
 use Rattle.slab.proofs.SlabLemmas.{Contains-entries}
 use Rattle.schedule_workers.specs.declared.activation.Activation.{Activation}
 use Rattle.schedule_workers.specs.Lowest.{IsLowestBelow, lowest, under}
-use Rattle.schedule_workers.specs.Shown.{CalleeStands, place_of}
+use Rattle.schedule_workers.specs.RunShown.{CalleeStands, place_of}
 use Rattle.schedule_workers.specs.Tasks.{IsLowest, IsReady}
 use Rattle.schedule_workers.proofs.Topmost.{holder_is}
 use Rattle.schedule_core.specs.declared.stage.Stage.{Stage}
@@ -31,7 +31,7 @@ use Rattle.schedule_core.specs.Stages.{IsState, program_of, workers_of}
 use Rattle.schedule_core.specs.Viewed.{status_in, Advances, IsAtMost, IsNamedBelow, IsReadyAt, IsLesser, IsFirstReady, IsNoneReady}
 use Rattle.schedule_core.proofs.Spots.{same_node}
 use Rattle.schedule_core.proofs.TaskPlaces.{here_at, parts, lowest_is_task, lowest_of, slot_of, top_of_slots}
-use Rattle.schedule_core.proofs.Shown.{lowest_low, status_of_slots}
+use Rattle.schedule_core.proofs.TasksShown.{lowest_low, status_of_slots}
 
 -- ---- the order of paths
 

@@ -9,7 +9,7 @@ use Rattle.cactus.specs.ByPath.{IsTree}
 use Rattle.schedule_workers.specs.declared.activation.Activation.{Activation}
 use Rattle.schedule_workers.specs.Lowest.{IsLowestBelow}
 use Rattle.schedule_workers.specs.Scheduling.{hand_of}
-use Rattle.schedule_workers.specs.Shown.{place_of}
+use Rattle.schedule_workers.specs.RunShown.{place_of}
 use Rattle.schedule_workers.specs.Tasks.{FindsTop, nobody, no_task, task, top_within}
 use Rattle.schedule_workers.proofs.Stealing.{top_place}
 use Rattle.schedule_workers.proofs.Topmost.{TopIs, ended_at}
@@ -17,7 +17,7 @@ use Rattle.schedule_core.specs.declared.stage.Stage.{Stage}
 use Rattle.schedule_core.specs.declared.task.TaskView.{TaskView}
 use Rattle.schedule_core.specs.Stages.{IsState, program_of}
 use Rattle.schedule_core.specs.Viewed.{IsRunBy, IsTask, Shows}
-use Rattle.schedule_core.proofs.Shown.{low_lives, run_shown, task_shown}
+use Rattle.schedule_core.proofs.TasksShown.{low_lives, run_shown, task_shown}
 use Rattle.schedule_core.proofs.Views.{has_node}
 
 pub lives_by : (frames : Frames Activation) (slot : ℕ) (node : Node Activation) → node_at frames slot ≡ Some node → Lives frames slot

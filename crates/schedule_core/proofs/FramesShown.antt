@@ -19,7 +19,7 @@ use Rattle.frame_engine.specs.declared.activation.Frame as machine
 use Rattle.cactus.specs.declared.node.Node.{Node}
 use Rattle.cactus.specs.Frames.{node_at, HasPath}
 use Rattle.schedule_workers.specs.declared.activation.Activation.{Activation}
-use Rattle.schedule_workers.specs.Shown.{ShowsNode, place_of}
+use Rattle.schedule_workers.specs.RunShown.{ShowsNode, place_of}
 use Rattle.schedule_workers.proofs.Onward.{seen}
 use Rattle.schedule_core.specs.declared.frames.FrameView.{FrameView}
 use Rattle.schedule_core.specs.declared.stage.Stage.{Stage}

@@ -17,9 +17,9 @@ use Rattle.serial_machine.proofs.Globals.{globals_given}
 use Rattle.serial_machine.proofs.laws_schedule.Promise.{accepted_programs_keep_their_promise}
 use Rattle.serial_machine.proofs.laws_schedule.safe.Safe.{schedules_are_safe}
 use Rattle.schedule_core.specs.laws_workers.Safe.{StartFits}
-use Rattle.schedule_core.proofs.laws_workers.Going.{runs_are_safe}
+use Rattle.schedule_core.proofs.laws_workers.Going.{workers_runs_are_safe}
 use Rattle.schedule_core.proofs.laws_workers.Texts.{texts_fit, starts_fit}
-use Rattle.schedule_core.specs.laws_workers.strands.Promise.{StaysSafeAsStrands}
+use Rattle.schedule_core.specs.laws_workers.strands.StrandsPromise.{StaysSafeAsStrands}
 use Rattle.schedule_core.proofs.laws_workers.strands.Law.{frames_go_as_strands}
 use Rattle.schedule_workers.specs.Going.{RunsSafely, TextFits}
 use Rattle.frame_engine.specs.Fits.{HasMoves}
@@ -86,7 +86,7 @@ module _ (program : Program) (a : IsAccepted program) (arguments : List ℤ) (no
 
     from : FromStart program arguments globals workers
     from = record {
-      safe = runs_are_safe a.text program a.means arguments (given globals) taken valued workers some;
+      safe = workers_runs_are_safe a.text program a.means arguments (given globals) taken valued workers some;
       strands = λ events. frames_go_as_strands a.text program a.means arguments (given globals) taken valued workers some events;
       full = λ events g i global is low.
           (schedules_are_safe a.text program a.means arguments (given globals) taken valued workers some events).globals g i (subst (λ o. i < global_cells o) (sym is) low);

@@ -15,7 +15,7 @@ use Rattle.frame.specs.declared.frame.Wait.TheVariants as wait
 use Rattle.frame.specs.declared.path.Path.{Path}
 use Rattle.serial_machine.specs.store.Cells.{NamedCells}
 use Rattle.frame_engine.specs.declared.activation.Frame.{Frame}
-use Rattle.schedule_workers.specs.Shown.{place_of}
+use Rattle.schedule_workers.specs.RunShown.{place_of}
 use Rattle.schedule_workers.specs.Stalls.{Blocks, StallsAgree, last_blocks, no_blocks}
 use Rattle.schedule_workers.proofs.Onward.{seen}
 use Rattle.frame.specs.declared.event.Event.{Event}

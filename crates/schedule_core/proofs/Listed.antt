@@ -14,7 +14,7 @@ use Rattle.cactus.specs.ByPath.{named}
 use Rattle.cactus.proofs.ByPathLemmas.{FoundAt, named_found}
 use Rattle.schedule_workers.specs.declared.activation.Activation.{Activation}
 use Rattle.schedule_workers.specs.Layouts.{layout_of}
-use Rattle.schedule_workers.specs.Shown.{ShowsAt}
+use Rattle.schedule_workers.specs.RunShown.{ShowsAt}
 use Rattle.schedule_workers.proofs.Onward.{seen}
 use Rattle.schedule_core.specs.declared.stage.Stage.{Stage}
 use Rattle.schedule_core.specs.FrameViews.{AreLiving}

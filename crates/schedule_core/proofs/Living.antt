@@ -13,7 +13,7 @@ use Rattle.cactus.specs.declared.node.Node.{Node}
 use Rattle.cactus.specs.Frames.{Frames}
 use Rattle.cactus.specs.ByPath.{first_named, named}
 use Rattle.schedule_workers.specs.declared.activation.Activation.{Activation}
-use Rattle.schedule_workers.specs.Shown.{ShowsAt, place_of}
+use Rattle.schedule_workers.specs.RunShown.{ShowsAt, place_of}
 use Rattle.frame_engine.specs.declared.activation.Places.{Places}
 use Rattle.frame_engine.specs.Shows.{Layout}
 use Rattle.semantics.specs.Events.{Machine}

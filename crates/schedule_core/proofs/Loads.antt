@@ -20,8 +20,8 @@ use Rattle.schedule_commit.specs.frame_strand.Standing.{IsCopy}
 use Rattle.schedule_commit.specs.frame_strand.declared.cells.Read.{Read}
 use Rattle.schedule_commit.specs.frame_strand.declared.outside.FrameStrand.{FrameStrand}
 use Rattle.schedule_commit.specs.frame_strand.declared.standing.Course.{Course}
-use Rattle.schedule_commit.specs.frame_strand.declared.standing.Pause.{Pause}
-use Rattle.schedule_commit.specs.frame_strand.declared.standing.Pause.TheVariants.{Blank}
+use Rattle.schedule_commit.specs.frame_strand.declared.standing.FrameStrandPause.{FrameStrandPause}
+use Rattle.schedule_commit.specs.frame_strand.declared.standing.FrameStrandPause.TheVariants.{Blank}
 use Rattle.schedule_commit.specs.laws_strands.Footprint.{Footprint, held}
 use Rattle.schedule_commit.specs.laws_strands.FrameStrands as frame_strands
 use Rattle.schedule_commit.specs.laws_strands.FrameStrands.{Access, Nowhere, Loads, Stores, Adds, access_of, is_border, is_full, most_done, need, next_of, pause_of}
@@ -29,7 +29,7 @@ use Rattle.std.specs.Prelude.{is_some, nat_le}
 use Rattle.schedule_workers.specs.declared.activation.Activation.{Activation}
 use Rattle.schedule_workers.specs.Layouts.{layout_of, object_at}
 use Rattle.schedule_workers.specs.Scheduling.{hand_of}
-use Rattle.schedule_workers.specs.Shown.{place_of}
+use Rattle.schedule_workers.specs.RunShown.{place_of}
 use Rattle.schedule_workers.proofs.Onward.{fits_prop, seen}
 use Rattle.schedule_core.proofs.laws_workers.strands.Law.{alone_too}
 use Rattle.schedule_core.specs.declared.stage.Stage.{Stage}
@@ -104,7 +104,7 @@ pause_never prog s = by (is_border (next_of prog s.present)) (nat_le most_done s
     by false false true e = cc
     by false false false e = need_never s.footprint (access_of prog s.present) e
 
-pub going_not_blank : (prog : Program) (places : Places) (x : Course) (pause : Option Pause) → ∥ IsGoing prog places x pause ∥₁ → pause ≢ Some Blank
+pub going_not_blank : (prog : Program) (places : Places) (x : Course) (pause : Option FrameStrandPause) → ∥ IsGoing prog places x pause ∥₁ → pause ≢ Some Blank
 going_not_blank prog places x pause going blank =
     ∥∥₁_elim going (Prim.hlevel (props, ⊎_set, ℕ_set, ℤ_set)) (λ g.
     let start : MayGo prog places x = g.way.started in

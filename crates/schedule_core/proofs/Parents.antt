@@ -15,9 +15,9 @@ use Rattle.cactus.specs.Frames.{node_at}
 use Rattle.schedule_workers.specs.declared.activation.Activation.{Activation}
 use Rattle.schedule_workers.specs.declared.run.Run.{Run}
 use Rattle.schedule_workers.specs.Scheduling.{hand_of}
-use Rattle.schedule_workers.specs.Shown.{place_of}
+use Rattle.schedule_workers.specs.RunShown.{place_of}
 use Rattle.schedule_workers.proofs.Topmost.{hand_found}
-use Rattle.schedule_core.specs.declared.ready.Spot.{Spot}
+use Rattle.schedule_core.specs.declared.ready.Ticket.{Ticket}
 use Rattle.schedule_core.specs.declared.stage.Stage.{Stage}
 use Rattle.schedule_core.specs.ReadyBelow.{IsNotReady, IsSpotOf}
 use Rattle.schedule_core.specs.Parents.{HasNoParentSlot, HasNoReadyParent, IsParentSlot, IsReadyParent}
@@ -43,7 +43,7 @@ slot_if m worker top child region continuation (Some slot) hand stands is at =
     record { top = top; hand = hand; child = child; stands = stands; role = λ e. (let f : role.Child region continuation ≡ role.Body = sym is ∙ e in cc); parent = at }
 
 module _ (stage : Stage) (m : Machine) (state : IsState stage m) (worker : ℕ) where
-  pub shown : (slot : ℕ) (spot : Spot) → IsParentSlot stage.run worker slot → IsSpotOf stage.run.cactus slot spot → IsReadyParent stage.run m worker spot.slot spot.generation
+  pub shown : (slot : ℕ) (spot : Ticket) → IsParentSlot stage.run worker slot → IsSpotOf stage.run.cactus slot spot → IsReadyParent stage.run m worker spot.slot spot.generation
   shown slot spot p is =
       let (above, number, there, place) = below_place stage m state p.top slot p.child p.stands p.parent in
       let t = ready_top stage m state slot above there spot is in

@@ -9,7 +9,7 @@ use Rattle.schedule_workers.specs.declared.run.Run.{Run}
 use Rattle.schedule_workers.specs.Events.{DoesEvent, LeavesStalls}
 use Rattle.schedule_workers.specs.Going as crew
 use Rattle.schedule_workers.specs.Left.{LeavesAsShown}
-use Rattle.schedule_workers.specs.Shown.{IsShown}
+use Rattle.schedule_workers.specs.RunShown.{IsShown}
 use Rattle.schedule_workers.specs.Stalls.{Blocks, StallsAgree, if_enabled, last_blocks, no_blocks, noted}
 use Rattle.frame.specs.declared.event.Event.{Event}
 use Rattle.schedule_core.specs.declared.stage.Stage.{Stage}

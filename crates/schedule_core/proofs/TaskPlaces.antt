@@ -22,7 +22,7 @@ use Rattle.cactus.proofs.ByPathLemmas.{FoundAt, named_found}
 use Rattle.schedule_workers.specs.declared.activation.Activation.{Activation}
 use Rattle.schedule_workers.specs.Layouts.{layout_of}
 use Rattle.schedule_workers.specs.Lowest.{IsLowestBelow, lowest, under}
-use Rattle.schedule_workers.specs.Shown.{CalleeStands, ShowsAt, place_of}
+use Rattle.schedule_workers.specs.RunShown.{CalleeStands, ShowsAt, place_of}
 use Rattle.schedule_workers.specs.Tasks.{IsLowest}
 use Rattle.schedule_workers.proofs.Onward.{seen}
 use Rattle.schedule_workers.proofs.Stealing.{task_tells}

@@ -21,7 +21,7 @@ use Rattle.cactus.proofs.ByPathLemmas.{not_named}
 use Rattle.schedule_workers.specs.declared.activation.Activation.{Activation}
 use Rattle.schedule_workers.specs.Layouts.{layout_of}
 use Rattle.schedule_workers.specs.Scheduling.{hand_of}
-use Rattle.schedule_workers.specs.Shown.{ShowsAt, place_of}
+use Rattle.schedule_workers.specs.RunShown.{ShowsAt, place_of}
 use Rattle.schedule_workers.proofs.Onward.{seen}
 use Rattle.schedule_workers.proofs.Views.{hand_seen, node_tells}
 use Rattle.schedule_core.specs.declared.stage.Stage.{Stage}

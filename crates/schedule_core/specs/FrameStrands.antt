@@ -6,7 +6,7 @@ use Rattle.program.specs.declared.function.Program.{Program}
 use Rattle.schedule_commit.specs.Absorbing.{steps_in}
 use Rattle.schedule_commit.specs.Fitting.{FitsRun}
 use Rattle.schedule_commit.specs.frame_strand.declared.outside.FrameStrand.{FrameStrand}
-use Rattle.schedule_commit.specs.frame_strand.declared.standing.Pause.TheVariants.{Blank}
+use Rattle.schedule_commit.specs.frame_strand.declared.standing.FrameStrandPause.TheVariants.{Blank}
 use Rattle.schedule_commit.specs.laws_strands.Law.{steps_by}
 use Rattle.schedule_workers.specs.Starts.{ArePlaces}
 use Rattle.serial_machine.specs.verifier.Budgets.{IsDepthOf}

@@ -12,7 +12,7 @@ use Rattle.frame_engine.specs.declared.activation.Places.{Places}
 use Rattle.frame_engine.specs.declared.activation.Frame as machine
 use Rattle.frame_engine.specs.Shows.{Layout, address}
 use Rattle.schedule_workers.specs.Layouts.{layout_of}
-use Rattle.schedule_workers.specs.Shown.{ShowsNode}
+use Rattle.schedule_workers.specs.RunShown.{ShowsNode}
 use Rattle.schedule_core.specs.Stages.{program_of}
 use Rattle.schedule_core.specs.Viewed.{place_in}
 use Rattle.schedule_core.specs.declared.stage.Stage.{Stage}

@@ -8,9 +8,9 @@ use Rattle.program.specs.declared.function.Global.{Global}
 use Rattle.program.specs.declared.function.Program.{Program}
 use Rattle.serial_machine.specs.store.Cells.{NamedCells, cell_at, number_of}
 use Rattle.serial_machine.specs.store.Rows.{sizes_of}
-use Rattle.schedule_core.specs.laws_workers.strands.Promise.{StaysSafeAsStrands}
+use Rattle.schedule_core.specs.laws_workers.strands.StrandsPromise.{StaysSafeAsStrands}
 use Rattle.schedule_workers.specs.Going.{RunsSafely}
-use Rattle.schedule_workers.specs.Shown.{IsShown}
+use Rattle.schedule_workers.specs.RunShown.{IsShown}
 use Rattle.schedule_core.specs.declared.stage.Stage.{Stage}
 
 -- ---- parts of a stage

@@ -15,7 +15,7 @@ use Rattle.cactus.specs.ByPath.{IsTree}
 use Rattle.schedule_workers.specs.declared.activation.Activation.{Activation}
 use Rattle.schedule_workers.specs.Tasks.{IsReady}
 use Rattle.schedule_workers.specs.Layouts.{layout_of}
-use Rattle.schedule_workers.specs.Shown.{ShowsNode}
+use Rattle.schedule_workers.specs.RunShown.{ShowsNode}
 use Rattle.schedule_workers.specs.Lowest.{IsLowestBelow}
 use Rattle.schedule_core.specs.Stages.{program_of, workers_of}
 use Rattle.schedule_core.specs.declared.stage.Stage.{Stage}

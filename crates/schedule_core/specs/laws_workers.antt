@@ -1,3 +1,3 @@
 pub mod Safe
-pub mod Promise
+pub mod RunsPromise
 pub mod strands

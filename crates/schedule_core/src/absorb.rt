@@ -5,7 +5,7 @@ ghost use Rattle.semantics.specs.Events.{Machine as RunningMachine};
 ghost use Rattle.frame_engine.specs.Flat.{cell_in};
 ghost use Rattle.frame_engine.specs.Shows.{address};
 ghost use Rattle.schedule_commit.specs.Absorbing.{steps_in};
-ghost use Rattle.schedule_commit.specs.frame_strand.declared.standing.Pause.TheVariants.{Blank};
+ghost use Rattle.schedule_commit.specs.frame_strand.declared.standing.FrameStrandPause.TheVariants.{Blank};
 ghost use Rattle.schedule_workers.specs.Follows.{Follows};
 ghost use Rattle.schedule_workers.specs.Layouts.{layout_of};
 ghost use Rattle.schedule_workers.specs.Starts.{ArePlaces};
@@ -18,7 +18,7 @@ use crate::machine::Machine;
 use crate::stage::Stage;
 use frame_engine::Places;
 use lists::OutOfMemory;
-use schedule_commit::{FrameStrand, Pause, absorb, cell};
+use schedule_commit::{FrameStrand, FrameStrandPause, absorb, cell};
 use serial_machine::Verified;
 use std::alloc::Global;
 
@@ -38,7 +38,7 @@ pub fn steps_of(strand: &FrameStrand<'_>) -> u64
     ensures { result ≡ steps_in strand.now.pause strand.now.course.done }
 {
     match strand.pause() {
-        Some(Pause::Border) => strand.done() + 1,
+        Some(FrameStrandPause::Border) => strand.done() + 1,
         _ => strand.done(),
     }
 }

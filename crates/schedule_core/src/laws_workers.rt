@@ -1,13 +1,13 @@
 //! What the workers' machine on the engine rests on is true of each program that `verify` takes, so it makes no test. There is no code to
 //! run here.
 //!
-//! - `Safe`: wherever a schedule leads, each worker's frame can do its next step (`runs_are_safe`), and what the text names is there (`texts_fit`).
+//! - `Safe`: wherever a schedule leads, each worker's frame can do its next step (`workers_runs_are_safe`), and what the text names is there (`texts_fit`).
 //! - `Promise`: so a run that shows a state to which a schedule leads stands safely, shows such a state again after each event, and keeps the
 //!   schedule theorem.
 //! - `strands`: a worker's frame may go on apart from the machine, alone or over borders (`frames_go_alone`, `frames_go_as_strands`).
 
-ghost use Rattle.schedule_core.specs.laws_workers.Promise.{RunsHoldGlobals, RunsKeepTheirSchedules, RunsStandSafely, RunsStayScheduled};
-ghost use Rattle.schedule_core.specs.laws_workers.Safe.{RunsAreSafe, StartsFit, TextsFit};
+ghost use Rattle.schedule_core.specs.laws_workers.RunsPromise.{RunsHoldGlobals, RunsKeepTheirSchedules, RunsStandSafely, RunsStayScheduled};
+ghost use Rattle.schedule_core.specs.laws_workers.Safe.{WorkersRunsAreSafe, StartsFit, TextsFit};
 
 pub mod strands;
 
@@ -15,8 +15,8 @@ pub use strands::{frames_go_alone, frames_go_as_strands, loaded_frames_go_as_str
 
 /// Of a program that `verify` takes, with arguments that `main` takes and globals that have values: wherever a schedule leads, each worker's
 /// frame can do its next step. It does not trap, the cells that it stores or adds to are there wherever objects lie, and its numbers fit.
-pub fn runs_are_safe()
-    ensures { RunsAreSafe }
+pub fn workers_runs_are_safe()
+    ensures { WorkersRunsAreSafe }
 {}
 
 /// What the text of such a program names is there: blocks, registers, objects, and room for the moves of each edge.

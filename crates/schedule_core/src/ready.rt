@@ -9,14 +9,14 @@ use crate::machine::Machine;
 
 /// Names a task: the use of a slot in which its lowest frame stands.
 #[derive(Clone, Copy)]
-pub struct Spot {
+pub struct Ticket {
     pub slot: usize,
     pub generation: u64,
 }
 
 impl Machine<'_> {
     /// The ready task of which the slot's frame is the top.
-    pub(crate) fn ready_spot(&self, slot: usize) -> Option<Spot>
+    pub(crate) fn ready_spot(&self, slot: usize) -> Option<Ticket>
         ensures has { IfSome result (IsSpotOf self.now.stage.run.cactus slot) }
         ensures none { IsTree self.now.stage.run.cactus → IfNone result (IsNotReady self.now.stage.run.cactus slot) }
     {
@@ -26,7 +26,7 @@ impl Machine<'_> {
         }
         let lowest = self.stage.run.lowest_below(slot)?;
         let node = self.stage.run.cactus.node(lowest)?;
-        Some(Spot {
+        Some(Ticket {
             slot: lowest,
             generation: node.generation,
         })
@@ -40,7 +40,7 @@ impl Machine<'_> {
     }
 
     /// Adds the task of which the slot's frame is the top, if it is ready.
-    fn note(&self, slot: Option<usize>, spots: &mut Vec<Spot>)
+    fn note(&self, slot: Option<usize>, spots: &mut Vec<Ticket>)
         requires room { vec_len spots.old < vec_capacity spots.old }
         ensures notes { IsTree self.now.stage.run.cactus → Notes self.now.stage.run.cactus slot spots.old.items spots.new.items }
         ensures one { vec_len spots.new ≤ vec_len spots.old + 1 }
@@ -57,7 +57,7 @@ impl Machine<'_> {
 
     /// The ready tasks whose tops are among so many frames below the one that the worker runs next, the outermost first; it takes no memory.
     /// After a strand's steps these are the tasks that its detaches left, where it had so many frames below its top.
-    pub fn ready_below(&self, worker: u8, levels: usize, spots: &mut Vec<Spot>)
+    pub fn ready_below(&self, worker: u8, levels: usize, spots: &mut Vec<Ticket>)
         requires empty { spots.old.items ≡ [] }
         requires room { levels ≤ vec_capacity spots.old }
         ensures { (m : running.Machine) → IsState self.now.stage m → AreReadyBelow self.now.stage m worker levels (reverse spots.new.items) }

@@ -7,7 +7,7 @@ ghost use Rattle.schedule_commit.specs.strand.strand_pages.Tables.{log_of};
 ghost use Rattle.schedule_commit.specs.strand.Along.{IsUnderWay};
 ghost use Rattle.schedule_commit.specs.strand.Boards.{NeedsBoard};
 ghost use Rattle.schedule_commit.specs.strand.Going.{IsGoing};
-ghost use Rattle.schedule_commit.specs.strand.serial_stack.Shown.{item_here};
+ghost use Rattle.schedule_commit.specs.strand.serial_stack.StackShown.{item_here};
 ghost use Rattle.schedule_core.specs.Strands.{StrandFits, HasRoomFor, IsBegun, IsStrandOf, RunsNothing};
 ghost use Rattle.schedule_core.specs.Spots.{KeepsSpots};
 ghost use Rattle.schedule_core.specs.Stages.{program_of};
@@ -16,7 +16,7 @@ ghost use Rattle.schedule_core.specs.FrameStrands.{TakesSteps};
 use crate::machine::Machine;
 use frame_engine::{Places, most_moves};
 use lists::OutOfMemory;
-use schedule_commit::{Strand, StrandPause as Pause, has_no_child, page_around, publish};
+use schedule_commit::{Strand, StrandPause, has_no_child, page_around, publish};
 use serial_machine::{Decoded, Verified};
 use std::alloc::Global;
 
@@ -41,7 +41,7 @@ pub fn advance_strand(
     verified: &Verified,
     code: &Decoded,
     limit: u64,
-) -> Result<Pause, OutOfMemory>
+) -> Result<StrandPause, OutOfMemory>
     requires code { IsCodeOf verified.now code.now }
     requires moves { HasRoomFor verified.now strand.old }
     requires way { ∥ IsUnderWay verified.now code.now.places strand.old ∥₁ }
@@ -51,8 +51,8 @@ pub fn advance_strand(
     ensures base { OnOk result (strand.new.base ≡ strand.old.base) }
     ensures room { OnOk result (strand.new.done ≤ limit) }
     ensures more { OnOk result (strand.old.done ≤ strand.new.done) }
-    ensures board { IfOk result (λ pause. pause ≡ Pause.Border → NeedsBoard verified.now code.now.places strand.new (item_here verified.now strand.new.top.value)) }
-    ensures limit { IfOk result (λ pause. (pause ≡ Pause.Limit) ↔ (strand.new.done ≡ limit)) }
+    ensures board { IfOk result (λ pause. pause ≡ StrandPause.Border → NeedsBoard verified.now code.now.places strand.new (item_here verified.now strand.new.top.value)) }
+    ensures limit { IfOk result (λ pause. (pause ≡ StrandPause.Limit) ↔ (strand.new.done ≡ limit)) }
     ensures going { IfOk result (λ pause. ∥ IsGoing verified.now code.now.places strand.new pause ∥₁) }
 {
     strand.go(verified.program(), code.places(), code.tables(), limit)
@@ -61,7 +61,7 @@ pub fn advance_strand(
 /// The page of the address, whose cell the strand needs, holds these values.
 pub fn fill_strand(strand: &mut Strand, verified: &Verified, places: &Places, at: i64, page: &[i64])
     requires few { length page.now ≤ 64 }
-    requires going { ∥ IsGoing verified.now places.now strand.old (Pause.Need at) ∥₁ }
+    requires going { ∥ IsGoing verified.now places.now strand.old (StrandPause.Need at) ∥₁ }
     ensures only { strand.new ≡ record strand.old { cells = strand.new.cells } }
     ensures filled { log_of strand.new.cells.log ≡ filled_log (log_of strand.old.cells.log) at page.now }
     ensures way { ∥ IsUnderWay verified.now places.now strand.new ∥₁ }

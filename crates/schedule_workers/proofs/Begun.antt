@@ -9,7 +9,7 @@ use Rattle.cactus.specs.Frames.{Frames, node_at, AddsChild}
 use Rattle.cactus.specs.ByPath.{named, child_node, IsTree, Binds, GrowsMap}
 use Rattle.cactus.specs.Lending.{with_frame}
 use Rattle.schedule_workers.specs.declared.activation.Activation.{Activation}
-use Rattle.schedule_workers.specs.Shown.{place_of}
+use Rattle.schedule_workers.specs.RunShown.{place_of}
 use Rattle.schedule_workers.proofs.Views.{named_written, still, stood, tree_after}
 
 pub back_down : (numbers : List ℕ) (number : ℕ) → reverse (number ∷ reverse numbers) ≡ numbers ++ number ∷ []

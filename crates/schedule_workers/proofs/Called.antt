@@ -29,7 +29,7 @@ use Rattle.schedule_workers.specs.Calls.{IsCallee, waiting_on}
 use Rattle.schedule_workers.specs.Going.{DoesStep, RunsSafely, TextFits}
 use Rattle.schedule_workers.specs.Rooms.{IsRoom, IsRoomier}
 use Rattle.schedule_workers.specs.Scheduling.{hand_of}
-use Rattle.schedule_workers.specs.Shown.{IsShown, cells_in, item_here, place_of}
+use Rattle.schedule_workers.specs.RunShown.{IsShown, cells_in, item_here, place_of}
 use Rattle.schedule_workers.proofs.Callee.{called_shown}
 use Rattle.schedule_workers.proofs.Onward.{seen, standing}
 use Rattle.schedule_workers.proofs.Roomy.{roomy_shown}

@@ -53,7 +53,7 @@ use Rattle.schedule_workers.specs.Rooms.{IsRoom}
 use Rattle.schedule_workers.specs.Scheduling.{hand_of, counted_in}
 use Rattle.schedule_workers.specs.Layouts.{alloca_at, alloca_cells, layout_of, number_in, object_at, own_at}
 use Rattle.schedule_workers.specs.Going.{PointsUp, RunsSafely, TextFits}
-use Rattle.schedule_workers.specs.Shown.{Agrees, AreBeside, BlocksStand, CalleeStands, HasBlock, HasTaker, IsBlockOf, IsPlaced, IsShown, NodeFits, ShowsAt, ShowsMachine, cells_in, item_here, place_of, hands_of}
+use Rattle.schedule_workers.specs.RunShown.{Agrees, AreBeside, BlocksStand, CalleeStands, HasBlock, HasTaker, IsBlockOf, IsPlaced, IsShown, NodeFits, ShowsAt, ShowsMachine, cells_in, item_here, place_of, hands_of}
 use Rattle.schedule_workers.proofs.Begun.{back_down, NamedNow, StoodNow, the_caller, the_callee, another, as_caller, as_callee, as_before}
 use Rattle.schedule_workers.proofs.Begun as now
 use Rattle.schedule_workers.proofs.Calling as step

@@ -18,7 +18,7 @@ use Rattle.schedule_workers.specs.declared.activation.Activation.{Activation}
 use Rattle.schedule_workers.specs.declared.run.Run.{Run}
 use Rattle.schedule_workers.specs.Scheduling.{hand_of, counted_in}
 use Rattle.schedule_workers.specs.Layouts.{alloca_at, alloca_cells, layout_of, living, object_at}
-use Rattle.schedule_workers.specs.Shown.{Agrees, CalleeStands, HasBlock, IsShown, NodeFits, ShowsAt, ShowsMachine, place_of, hands_of}
+use Rattle.schedule_workers.specs.RunShown.{Agrees, CalleeStands, HasBlock, IsShown, NodeFits, ShowsAt, ShowsMachine, place_of, hands_of}
 
 module _ (prog : Program) (places : Places) (m next : Machine) (k : Run) (frames : Frames Activation) (peak : ℕ) (hands : Vec (Option ℕ) Global) where
   abbrev pub changed : Run

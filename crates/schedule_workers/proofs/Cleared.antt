@@ -21,7 +21,7 @@ use Rattle.schedule_workers.specs.declared.run.Run.{Run}
 use Rattle.schedule_workers.specs.Scheduling.{hand_of}
 use Rattle.schedule_workers.specs.Layouts.{alloca_cells, layout_of}
 use Rattle.schedule_workers.specs.Going.{PointsUp}
-use Rattle.schedule_workers.specs.Shown.{Agrees, IsShown, ShowsAt, ShowsMachine, place_of, hands_of}
+use Rattle.schedule_workers.specs.RunShown.{Agrees, IsShown, ShowsAt, ShowsMachine, place_of, hands_of}
 use Rattle.schedule_workers.proofs.Changed.{Holds, Told, told_at, told_cells, told_shown}
 use Rattle.schedule_workers.proofs.Pointing.{IsAlike, IsApart, address_apart, living_shown, whose}
 

@@ -33,7 +33,7 @@ use Rattle.schedule_workers.specs.Copying.{IsFrameCopy, IsActivationCopy, HoldsS
 use Rattle.schedule_workers.specs.Follows.{AreGiven, Follows}
 use Rattle.schedule_workers.specs.Layouts.{alloca_at, layout_of, living, number_in, object_at, own_at}
 use Rattle.schedule_workers.specs.Scheduling.{counted_in, hand_of}
-use Rattle.schedule_workers.specs.Shown.{Agrees, BlocksStand, CalleeStands, HasTaker, IsBlockOf, IsPlaced, IsShown, NodeFits, ShowsAt, ShowsMachine, cells_in, hands_of, place_of}
+use Rattle.schedule_workers.specs.RunShown.{Agrees, BlocksStand, CalleeStands, HasTaker, IsBlockOf, IsPlaced, IsShown, NodeFits, ShowsAt, ShowsMachine, cells_in, hands_of, place_of}
 use Rattle.schedule_workers.specs.Stalls.{IsStalledIn, KeepsStalls}
 
 -- ---- a frame

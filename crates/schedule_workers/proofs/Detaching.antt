@@ -39,7 +39,7 @@ use Rattle.schedule_workers.specs.declared.activation.Activation.{Activation}
 use Rattle.schedule_workers.specs.declared.run.Run.{Run}
 use Rattle.schedule_workers.specs.Scheduling.{hand_of, counted_in}
 use Rattle.schedule_workers.specs.Layouts.{alloca_at, alloca_cells, layout_of, number_in, object_at, own_at}
-use Rattle.schedule_workers.specs.Shown.{CalleeStands, HasTaker, IsShown, ShowsAt, cells_in, item_here, place_of}
+use Rattle.schedule_workers.specs.RunShown.{CalleeStands, HasTaker, IsShown, ShowsAt, cells_in, item_here, place_of}
 use Rattle.schedule_workers.specs.Forking.{IsChildFrame}
 use Rattle.schedule_workers.specs.Going.{CanStep, RunsSafely, TextFits}
 use Rattle.schedule_workers.proofs.Onward.{free_callee, seen, standing}

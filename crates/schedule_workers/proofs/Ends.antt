@@ -13,7 +13,7 @@ use Rattle.schedule_workers.specs.declared.run.Block.{Block}
 use Rattle.schedule_workers.specs.declared.run.Run.{Run}
 use Rattle.schedule_workers.specs.Lent.{IsAtEnd, IsFree, IsPartFor, IsVacant, own_block, piece_of}
 use Rattle.schedule_workers.specs.Pieces.{Covers, HasFrame, HoldsUsable, IsTaken, IsUsable, IsWithFrame, Touches, own_end}
-use Rattle.schedule_workers.specs.Shown.{AreBeside, LiesWithin}
+use Rattle.schedule_workers.specs.RunShown.{AreBeside, LiesWithin}
 
 no_more : (a b : ℕ) → (0 < a → a ≤ b) → a ≤ b
 no_more a b more = elim (leb_tells a 0) [ inl z ↦ (let low = z.1 in omega (arith, low)) | inr s ↦ more s.1 ]

@@ -22,7 +22,7 @@ use Rattle.schedule_workers.specs.Events.{Grows, GrowsAtStep, MakesFrame}
 use Rattle.schedule_workers.specs.Going.{RunsSafely}
 use Rattle.schedule_workers.specs.Layouts.{object_at}
 use Rattle.schedule_workers.specs.Scheduling.{hand_of}
-use Rattle.schedule_workers.specs.Shown.{IsShown, item_here, place_of}
+use Rattle.schedule_workers.specs.RunShown.{IsShown, item_here, place_of}
 use Rattle.schedule_workers.proofs.Calling.{act}
 use Rattle.schedule_workers.proofs.Onward.{seen, standing}
 use Rattle.schedule_workers.proofs.Standing.{can_step}

@@ -15,7 +15,7 @@ use Rattle.frame_engine.specs.declared.activation.Places.{Places}
 use Rattle.schedule_workers.specs.declared.activation.Activation.{Activation}
 use Rattle.schedule_workers.specs.declared.run.Run.{Run}
 use Rattle.schedule_workers.specs.Scheduling.{hand_of}
-use Rattle.schedule_workers.specs.Shown.{IsShown, place_of, hands_of}
+use Rattle.schedule_workers.specs.RunShown.{IsShown, place_of, hands_of}
 
 abbrev pub seen_at : Frames Activation → Option ℕ → Option Path
 seen_at frames o = option_and_then (λ s. option_map place_of (node_at frames s)) o

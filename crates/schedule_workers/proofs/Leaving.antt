@@ -15,7 +15,7 @@ use Rattle.cactus.specs.ByPath.{IsBelow, IsLeaf}
 use Rattle.frame_engine.specs.declared.activation.Places.{Places}
 use Rattle.schedule_workers.specs.declared.activation.Activation.{Activation}
 use Rattle.schedule_workers.specs.declared.run.Run.{Run}
-use Rattle.schedule_workers.specs.Shown.{IsShown, place_of}
+use Rattle.schedule_workers.specs.RunShown.{IsShown, place_of}
 use Rattle.schedule_workers.proofs.Onward.{seen}
 pub use Rattle.schedule_workers.proofs.Uses.{remains}
 use Rattle.schedule_workers.proofs.Topmost.{reverse_last}

@@ -17,7 +17,7 @@ use Rattle.schedule_workers.specs.Layouts.{layout_of}
 use Rattle.schedule_workers.specs.Left.{LeavesAsShown}
 use Rattle.schedule_workers.specs.Rooms.{IsRoomier}
 use Rattle.schedule_workers.specs.Lent.{IsFree, IsVacant, place_at}
-use Rattle.schedule_workers.specs.Shown.{HasBlock, IsShown}
+use Rattle.schedule_workers.specs.RunShown.{HasBlock, IsShown}
 use Rattle.schedule_workers.proofs.Lying.{InBlock, InGlobals, lies}
 use Rattle.schedule_workers.proofs.Roomy.{room_shown, vec_small}
 use Rattle.schedule_workers.proofs.Stepping.{roomier_leaves, same_room}

@@ -26,7 +26,7 @@ use Rattle.schedule_workers.specs.declared.run.Block.{Block}
 use Rattle.schedule_workers.specs.declared.run.Run.{Run}
 use Rattle.schedule_workers.specs.Layouts.{alloca_at, alloca_cells, layout_of, number_in, own_at, own_cells}
 use Rattle.schedule_workers.specs.Going.{TextFits}
-use Rattle.schedule_workers.specs.Shown.{IsBlockOf, IsPlaced, IsShown, ShowsAt, cells_in}
+use Rattle.schedule_workers.specs.RunShown.{IsBlockOf, IsPlaced, IsShown, ShowsAt, cells_in}
 use Rattle.schedule_workers.proofs.Rows.{cells_are, first_row_address, global_size, row_address, same_place, size_in, size_is, sizes_of, start_below, start_in, starts_are}
 
 -- ---- the allocas of one frame

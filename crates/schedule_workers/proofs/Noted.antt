@@ -20,7 +20,7 @@ use Rattle.frame_engine.specs.declared.activation.Places.{Places}
 use Rattle.schedule_workers.specs.declared.activation.Activation.{Activation}
 use Rattle.schedule_workers.specs.declared.run.Run.{Run}
 use Rattle.schedule_workers.specs.Scheduling.{hand_of}
-use Rattle.schedule_workers.specs.Shown.{IsShown, place_of}
+use Rattle.schedule_workers.specs.RunShown.{IsShown, place_of}
 use Rattle.schedule_workers.specs.Stalls.{Blocks, IsStalledIn, KeepsStalls, NotesStalls, block_of, noted}
 use Rattle.schedule_workers.proofs.Onward.{seen}
 use Rattle.schedule_workers.proofs.Uses.{added_is, found, remains}

@@ -24,7 +24,7 @@ use Rattle.schedule_workers.specs.declared.activation.Activation.{Activation}
 use Rattle.schedule_workers.specs.declared.run.Run.{Run}
 use Rattle.schedule_workers.specs.Scheduling.{hand_of}
 use Rattle.schedule_workers.specs.Layouts.{layout_of, object_at}
-use Rattle.schedule_workers.specs.Shown.{CalleeStands, HasTaker, IsShown, ShowsAt, ShowsNode, place_of, hands_of}
+use Rattle.schedule_workers.specs.RunShown.{CalleeStands, HasTaker, IsShown, ShowsAt, ShowsNode, place_of, hands_of}
 use Rattle.schedule_workers.specs.Going.{RunsSafely}
 use Rattle.schedule_workers.proofs.Views.{hand_seen, named_at_place, node_tells}
 use Rattle.schedule_workers.proofs.Standing.{IsStanding, can_step, may_go_on, one_step, stays_safe, step_on}

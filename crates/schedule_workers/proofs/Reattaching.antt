@@ -44,7 +44,7 @@ use Rattle.schedule_workers.specs.declared.activation.Activation.{Activation}
 use Rattle.schedule_workers.specs.declared.run.Run.{Run}
 use Rattle.schedule_workers.specs.Scheduling.{hand_of, counted_in}
 use Rattle.schedule_workers.specs.Layouts.{alloca_at, alloca_cells, layout_of, number_in, object_at, own_at, own_cells}
-use Rattle.schedule_workers.specs.Shown.{CalleeStands, HasBlock, HasTaker, IsShown, ShowsAt, ShowsNode, item_here, place_of}
+use Rattle.schedule_workers.specs.RunShown.{CalleeStands, HasBlock, HasTaker, IsShown, ShowsAt, ShowsNode, item_here, place_of}
 use Rattle.schedule_workers.specs.Forking.{resumed_by_child, resumed_unheld}
 use Rattle.schedule_workers.specs.Going.{CanStep, RunsSafely}
 use Rattle.schedule_workers.proofs.Leaving as leaving

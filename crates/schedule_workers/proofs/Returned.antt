@@ -44,7 +44,7 @@ use Rattle.schedule_workers.specs.declared.run.Run.{Run}
 use Rattle.schedule_workers.specs.Layouts.{alloca_at, alloca_cells, layout_of, object_at}
 use Rattle.schedule_workers.specs.Going.{CanGo, CanStep, RunsSafely, TextFits}
 use Rattle.schedule_workers.specs.Scheduling.{hand_of}
-use Rattle.schedule_workers.specs.Shown.{CalleeStands, HasTaker, IsShown, ShowsAt, item_here, place_of}
+use Rattle.schedule_workers.specs.RunShown.{CalleeStands, HasTaker, IsShown, ShowsAt, item_here, place_of}
 use Rattle.schedule_workers.proofs.Changed.{Holds, Told, alike, anew, kept_holds}
 use Rattle.schedule_workers.proofs.Cleared.{over_shown}
 use Rattle.schedule_workers.proofs.Uses.{made_still}

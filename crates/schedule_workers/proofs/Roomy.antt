@@ -14,7 +14,7 @@ use Rattle.schedule_workers.specs.declared.run.Block.{Block}
 use Rattle.schedule_workers.specs.declared.run.Run.{Run}
 use Rattle.schedule_workers.specs.Layouts.{layout_of}
 use Rattle.schedule_workers.specs.Rooms.{IsRoom, IsRoomier, empty_at}
-use Rattle.schedule_workers.specs.Shown.{AreBeside, BlocksStand, IsPlaced, IsShown}
+use Rattle.schedule_workers.specs.RunShown.{AreBeside, BlocksStand, IsPlaced, IsShown}
 
 -- ---- more items at the end of a list
 

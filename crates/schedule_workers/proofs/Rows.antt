@@ -19,7 +19,7 @@ use Rattle.frame_engine.specs.declared.activation.Places.{Places}
 use Rattle.frame_engine.specs.Activation.{allocas_of, or_none}
 use Rattle.frame_engine.specs.Starts.{alloca_starts, starts_from}
 use Rattle.schedule_workers.specs.Layouts.{number_in}
-use Rattle.schedule_workers.specs.Shown.{cells_in}
+use Rattle.schedule_workers.specs.RunShown.{cells_in}
 
 -- ---- objects in a row
 

@@ -39,7 +39,7 @@ use Rattle.schedule_workers.specs.Layouts.{alloca_at, layout_of, number_in}
 use Rattle.schedule_workers.specs.Rooms.{empty_at}
 use Rattle.schedule_workers.specs.Roots.{HasBlock, IsRoot, first_frame}
 use Rattle.schedule_workers.specs.Scheduling.{counted_in, hand_of}
-use Rattle.schedule_workers.specs.Shown.{AreBeside, BlocksStand, IsBlockOf, IsPlaced, IsShown, NodeFits, ShowsAt, hands_of, place_of}
+use Rattle.schedule_workers.specs.RunShown.{AreBeside, BlocksStand, IsBlockOf, IsPlaced, IsShown, NodeFits, ShowsAt, hands_of, place_of}
 use Rattle.schedule_workers.specs.Starts.{ArePlaces, IsRowOf, sizes_in}
 use Rattle.schedule_workers.proofs.Roomy.{get_more, is_cell_at, vec_small}
 use Rattle.schedule_workers.proofs.Rows.{cells_are, first_row_address, global_size, row_address, same_place, size_in, size_is, sizes_of, small_number, start_below, start_in, starts_are, sum_more, wrapped_small}

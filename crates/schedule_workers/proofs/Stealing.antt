@@ -27,7 +27,7 @@ use Rattle.schedule_workers.specs.declared.run.Run.{Run}
 use Rattle.schedule_workers.specs.Scheduling.{hand_of}
 use Rattle.schedule_workers.specs.Tasks.{IsLowest, IsIdle, IsReady, FindsTop, nobody, no_task, task, run_by, run_at, taken, top_within, Takes}
 use Rattle.schedule_workers.specs.Layouts.{layout_of}
-use Rattle.schedule_workers.specs.Shown.{CalleeStands, IsShown, ShowsAt, place_of, hands_of}
+use Rattle.schedule_workers.specs.RunShown.{CalleeStands, IsShown, ShowsAt, place_of, hands_of}
 use Rattle.schedule_workers.specs.Going.{Becomes}
 use Rattle.schedule_workers.proofs.Views.{hand_seen, node_tells}
 use Rattle.schedule_workers.proofs.Onward.{seen}

@@ -22,7 +22,7 @@ use Rattle.schedule_workers.specs.Going.{DoesStep, KeepsShown, RunsSafely, Stand
 use Rattle.schedule_workers.specs.Left.{LeavesAsShown}
 use Rattle.schedule_workers.specs.Rooms.{IsRoomier}
 use Rattle.schedule_workers.specs.Scheduling.{hand_of}
-use Rattle.schedule_workers.specs.Shown.{place_of}
+use Rattle.schedule_workers.specs.RunShown.{place_of}
 use Rattle.schedule_workers.specs.Stalls.{KeepsStalls}
 use Rattle.schedule_workers.proofs.Roomy.{room_shown}
 use Rattle.schedule_workers.proofs.Uses.{kept_uses, same_uses}

@@ -35,7 +35,7 @@ use Rattle.schedule_workers.specs.declared.activation.Activation.{Activation}
 use Rattle.schedule_workers.specs.declared.run.Run.{Run}
 use Rattle.schedule_workers.specs.Scheduling.{hand_of, counted_in}
 use Rattle.schedule_workers.specs.Layouts.{alloca_cells, layout_of, living, object_at}
-use Rattle.schedule_workers.specs.Shown.{CalleeStands, HasTaker, IsShown, item_here, place_of, hands_of}
+use Rattle.schedule_workers.specs.RunShown.{CalleeStands, HasTaker, IsShown, item_here, place_of, hands_of}
 use Rattle.schedule_workers.specs.Going.{RunsSafely, TextFits}
 use Rattle.schedule_workers.proofs.Onward.{free_callee, hands_agree, seen, standing}
 use Rattle.schedule_workers.proofs.Standing.{can_step, hand_again, may_go_on}

@@ -20,7 +20,7 @@ use Rattle.schedule_workers.specs.declared.activation.Activation.{Activation}
 use Rattle.schedule_workers.specs.declared.run.Run.{Run}
 use Rattle.schedule_workers.specs.Scheduling.{hand_of}
 use Rattle.schedule_workers.specs.Tasks.{by_call, top_within}
-use Rattle.schedule_workers.specs.Shown.{CalleeStands, IsShown, place_of, hands_of}
+use Rattle.schedule_workers.specs.RunShown.{CalleeStands, IsShown, place_of, hands_of}
 use Rattle.schedule_workers.proofs.Views.{hand_seen}
 use Rattle.schedule_workers.proofs.Onward.{seen}
 

@@ -14,7 +14,7 @@ use Rattle.cactus.proofs.FramesLemmas.{node_at-with_frame, node_at-with_frame_ot
 use Rattle.cactus.proofs.ByPathLemmas.{named_is, written_binds}
 use Rattle.schedule_workers.specs.declared.activation.Activation.{Activation}
 use Rattle.schedule_workers.specs.Scheduling.{hand_of}
-use Rattle.schedule_workers.specs.Shown.{place_of, hands_of}
+use Rattle.schedule_workers.specs.RunShown.{place_of, hands_of}
 
 pub node_tells : (frames : Frames Activation) (slot : ℕ) → Lives frames slot → (node : Node Activation) × (node_at frames slot ≡ Some node)
 node_tells frames slot lives = from (node_at frames slot) refl lives

@@ -27,7 +27,7 @@ use Rattle.schedule_workers.specs.declared.activation.Activation.{Activation}
 use Rattle.schedule_workers.specs.declared.run.Run.{Run}
 use Rattle.schedule_workers.specs.Scheduling.{hand_of, counted_in, living_in}
 use Rattle.schedule_workers.specs.Layouts.{alloca_at, own_at, layout_of, living, number_in, object_at}
-use Rattle.schedule_workers.specs.Shown.{Agrees, BlocksStand, CalleeStands, HasBlock, HasTaker, cells_in, IsShown, NodeFits, ShowsAt, ShowsMachine, place_of, hands_of}
+use Rattle.schedule_workers.specs.RunShown.{Agrees, BlocksStand, CalleeStands, HasBlock, HasTaker, cells_in, IsShown, NodeFits, ShowsAt, ShowsMachine, place_of, hands_of}
 use Rattle.schedule_workers.proofs.Views.{named_at_place, tree_after, named_written, stood, still, lives_still, hands_stay}
 
 module _ (prog : Program) (places : Places) (m next : Machine) (k : Run) (slot : ℕ) (node : Node Activation) (g : frames.Frame) (changed : Activation) where

@@ -24,7 +24,7 @@ use Rattle.schedule_workers.specs.declared.activation.Activation.{Activation}
 use Rattle.schedule_workers.specs.declared.run.Run.{Run}
 use Rattle.schedule_workers.specs.Scheduling.{hand_of}
 use Rattle.schedule_workers.specs.Layouts.{layout_of, object_at}
-use Rattle.schedule_workers.specs.Shown.{IsShown, item_here, place_of}
+use Rattle.schedule_workers.specs.RunShown.{IsShown, item_here, place_of}
 use Rattle.schedule_workers.specs.Going.{RunsSafely}
 use Rattle.schedule_workers.proofs.Onward.{seen, standing, step_shown}
 use Rattle.schedule_workers.proofs.Standing.{can_step}

@@ -8,7 +8,7 @@ use Rattle.program.specs.declared.function.Program.{Program}
 use Rattle.frame_engine.specs.declared.activation.Places.{Places}
 use Rattle.schedule_workers.specs.declared.run.Run.{Run}
 use Rattle.schedule_workers.specs.Going.{Becomes, RunsSafely}
-use Rattle.schedule_workers.specs.Shown.{IsShown}
+use Rattle.schedule_workers.specs.RunShown.{IsShown}
 use Rattle.schedule_workers.specs.Stalls.{NotesStalls}
 
 -- whatever machine is shown, the event is done just where it is enabled, and then the machine after it is shown

@@ -23,7 +23,7 @@ use Rattle.frame_engine.specs.Shows.{Safe}
 use Rattle.frame_engine.specs.Starts.{alloca_starts, global_starts}
 use Rattle.schedule_workers.specs.declared.run.Run.{Run}
 use Rattle.schedule_workers.specs.Layouts.{living}
-use Rattle.schedule_workers.specs.Shown.{IsShown}
+use Rattle.schedule_workers.specs.RunShown.{IsShown}
 
 -- a global, or an alloca of the frame at p or of one above it
 abbrev pub IsAbove : Path → Object → Type 0

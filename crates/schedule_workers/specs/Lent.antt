@@ -8,7 +8,7 @@ use Rattle.frame_engine.specs.declared.activation.Frame.{Frame}
 use Rattle.schedule_workers.specs.declared.activation.Activation.{Activation}
 use Rattle.schedule_workers.specs.declared.run.Block.{Block}
 use Rattle.schedule_workers.specs.declared.run.Run.{Run}
-use Rattle.schedule_workers.specs.Shown.{AreBeside, LiesWithin, cells_in}
+use Rattle.schedule_workers.specs.RunShown.{AreBeside, LiesWithin, cells_in}
 
 -- the place in the row
 abbrev pub place_at : ℤ → ℕ

@@ -1,7 +1,7 @@
 pub mod Scheduling
 pub mod Tasks
 pub mod Layouts
-pub mod Shown
+pub mod RunShown
 pub mod Going
 pub mod Forking
 pub mod Rooms

@@ -10,7 +10,7 @@ use Rattle.schedule_workers.specs.declared.pieces.Taken.{Taken}
 use Rattle.schedule_workers.specs.declared.run.Block.{Block}
 use Rattle.schedule_workers.specs.declared.run.Run.{Run}
 use Rattle.schedule_workers.specs.Lent.{own_block, piece_of}
-use Rattle.schedule_workers.specs.Shown.{LiesWithin}
+use Rattle.schedule_workers.specs.RunShown.{LiesWithin}
 
 -- from the start of the worker's piece on, lent and in the row
 pub record IsUsable (k : Run) (worker : ℕ) (b : Block) : Type 0 where

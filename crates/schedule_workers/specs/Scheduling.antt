@@ -9,7 +9,7 @@ abbrev pub hand_of : List (Option ℕ) → ℕ → Option ℕ
 hand_of hands worker = slice_index_or hands worker None
 
 -- a worker runs the task of which the slot's frame is the top
-pub record IsHeld (hands : List (Option ℕ)) (slot : ℕ) : Type 0 where
+pub record IsInHand (hands : List (Option ℕ)) (slot : ℕ) : Type 0 where
   pub worker : ℕ
   pub hand : hand_of hands worker ≡ Some slot
 

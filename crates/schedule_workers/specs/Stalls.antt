@@ -12,7 +12,7 @@ use Rattle.frame.specs.declared.frame.Wait.TheVariants.{Region}
 use Rattle.cactus.specs.declared.node.Node.{Node}
 use Rattle.cactus.specs.Frames.{Frames, node_at}
 use Rattle.schedule_workers.specs.declared.activation.Activation.{Activation}
-use Rattle.schedule_workers.specs.Shown.{place_of}
+use Rattle.schedule_workers.specs.RunShown.{place_of}
 
 -- ---- by the definitions
 

@@ -9,7 +9,7 @@ use Rattle.frame_engine.specs.declared.activation.Places.{Places}
 use Rattle.frame.specs.code.Codes.{program_codes}
 use Rattle.frame_engine.specs.Starts.{alloca_starts, global_starts}
 use Rattle.schedule_workers.specs.declared.run.Run.{Run}
-use Rattle.schedule_workers.specs.Shown.{IsShown}
+use Rattle.schedule_workers.specs.RunShown.{IsShown}
 
 -- how many cells each global has
 abbrev pub sizes_in : Program → List ℕ

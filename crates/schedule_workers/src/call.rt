@@ -18,7 +18,7 @@ ghost use Rattle.schedule_workers.specs.Events.{Grows, LeavesStalls};
 ghost use Rattle.schedule_workers.specs.Follows.{Follows};
 ghost use Rattle.schedule_workers.specs.Rooms.{IsRoomier};
 ghost use Rattle.schedule_workers.specs.Scheduling.{hand_of};
-ghost use Rattle.schedule_workers.specs.Shown.{item_here};
+ghost use Rattle.schedule_workers.specs.RunShown.{item_here};
 ghost use Rattle.schedule_workers.specs.Going.{DoesStep, StandsSafely, TextFits};
 
 use crate::activation::Activation;

@@ -8,8 +8,8 @@ ghost use Rattle.frame_engine.specs.Activation.{ProgramFits};
 ghost use Rattle.schedule_workers.specs.declared.activation.Activation.{Activation as Living};
 ghost use Rattle.schedule_workers.specs.Events.{LeavesStalls};
 ghost use Rattle.schedule_workers.specs.Follows.{KeepsUses};
-ghost use Rattle.schedule_workers.specs.Scheduling.{hand_of, IsHeld};
-ghost use Rattle.schedule_workers.specs.Shown.{item_here};
+ghost use Rattle.schedule_workers.specs.Scheduling.{hand_of, IsInHand};
+ghost use Rattle.schedule_workers.specs.RunShown.{item_here};
 ghost use Rattle.schedule_workers.specs.Going.{DoesStep, StandsSafely};
 
 use crate::run::Run;
@@ -28,7 +28,7 @@ impl Run {
         count: u64,
     )
         requires text { ProgramFits program.now places.now (length self.old.moves.items) }
-        requires held { IsHeld self.old.hands.items slot }
+        requires held { IsInHand self.old.hands.items slot }
         requires item { (node : Node Living) → node_at self.old.cactus slot ≡ Some node →
             item_here program.now node.frame.frame ≡ Some (Does (instruction.StoreZeros count object)) }
         requires safe { StandsSafely program.now places.now self.old }

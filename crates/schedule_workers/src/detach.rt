@@ -14,7 +14,7 @@ ghost use Rattle.schedule_workers.specs.declared.activation.Activation.{Activati
 ghost use Rattle.schedule_workers.specs.Events.{Grows, LeavesStalls};
 ghost use Rattle.schedule_workers.specs.Follows.{Follows};
 ghost use Rattle.schedule_workers.specs.Scheduling.{counted_in, hand_of};
-ghost use Rattle.schedule_workers.specs.Shown.{item_here};
+ghost use Rattle.schedule_workers.specs.RunShown.{item_here};
 ghost use Rattle.schedule_workers.specs.Forking.{IsChildFrame};
 ghost use Rattle.schedule_workers.specs.Going.{DoesStep, StandsSafely, TextFits};
 

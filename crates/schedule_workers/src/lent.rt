@@ -5,7 +5,7 @@ ghost use Rattle.schedule_workers.specs.Lent.{AllAreClearOf, IsClearOf, IsFree, 
 ghost use Rattle.program.specs.declared.function.Program.{Program as Text};
 ghost use Rattle.frame_engine.specs.declared.activation.Places.{Places};
 ghost use Rattle.schedule_workers.specs.Left.{LeavesAsShown};
-ghost use Rattle.schedule_workers.specs.Shown.{LiesWithin, cells_in};
+ghost use Rattle.schedule_workers.specs.RunShown.{LiesWithin, cells_in};
 
 use crate::run::{Block, Run};
 use frame::Role;

@@ -8,8 +8,8 @@ ghost use Rattle.frame_engine.specs.Border.{IsBorderItem};
 ghost use Rattle.schedule_workers.specs.declared.activation.Activation.{Activation as Living};
 ghost use Rattle.schedule_workers.specs.Events.{LeavesStalls};
 ghost use Rattle.schedule_workers.specs.Follows.{KeepsUses};
-ghost use Rattle.schedule_workers.specs.Scheduling.{hand_of, IsHeld};
-ghost use Rattle.schedule_workers.specs.Shown.{item_here};
+ghost use Rattle.schedule_workers.specs.Scheduling.{hand_of, IsInHand};
+ghost use Rattle.schedule_workers.specs.RunShown.{item_here};
 ghost use Rattle.schedule_workers.specs.Going.{DoesStep, KeepsShown, StandsSafely};
 ghost use Rattle.schedule_workers.specs.Stalls.{KeepsStalls};
 
@@ -22,7 +22,7 @@ impl Run {
     /// Does the next instruction of the frame in the slot, where that is a plain one; says whether it was.
     pub fn plain(&mut self, program: &Program, places: &Places, slot: usize) -> bool
         requires text { ProgramFits program.now places.now (length self.old.moves.items) }
-        requires held { IsHeld self.old.hands.items slot }
+        requires held { IsInHand self.old.hands.items slot }
         requires safe { StandsSafely program.now places.now self.old }
         ensures stepped { OnTrue result ((worker : ℕ) → hand_of self.old.hands.items worker ≡ Some slot →
             DoesStep program.now places.now self.old self.new worker) }

@@ -9,7 +9,7 @@ ghost use Rattle.schedule_workers.specs.declared.activation.Activation.{Activati
 ghost use Rattle.schedule_workers.specs.Events.{LeavesStalls};
 ghost use Rattle.schedule_workers.specs.Follows.{Follows};
 ghost use Rattle.schedule_workers.specs.Scheduling.{counted_in, hand_of};
-ghost use Rattle.schedule_workers.specs.Shown.{item_here};
+ghost use Rattle.schedule_workers.specs.RunShown.{item_here};
 ghost use Rattle.schedule_workers.specs.Forking.{parent_of, resumed_by_child};
 ghost use Rattle.schedule_workers.specs.Going.{DoesStep, StandsSafely};
 

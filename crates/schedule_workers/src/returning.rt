@@ -16,7 +16,7 @@ ghost use Rattle.schedule_workers.specs.Events.{LeavesStalls};
 ghost use Rattle.schedule_workers.specs.Follows.{Follows};
 ghost use Rattle.schedule_workers.specs.Going.{DoesStep, StandsSafely, TextFits};
 ghost use Rattle.schedule_workers.specs.Scheduling.{hand_of};
-ghost use Rattle.schedule_workers.specs.Shown.{item_here};
+ghost use Rattle.schedule_workers.specs.RunShown.{item_here};
 
 use crate::activation::Activation;
 use crate::run::Run;

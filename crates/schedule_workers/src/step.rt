@@ -11,7 +11,7 @@ ghost use Rattle.schedule_workers.specs.Going.{DoesStep, StandsSafely, TextFits}
 ghost use Rattle.schedule_workers.specs.Left.{LeavesAsShown};
 ghost use Rattle.schedule_workers.specs.Rooms.{IsRoomier};
 ghost use Rattle.schedule_workers.specs.Scheduling.{hand_of};
-ghost use Rattle.schedule_workers.specs.Shown.{item_here};
+ghost use Rattle.schedule_workers.specs.RunShown.{item_here};
 
 use crate::run::Run;
 use frame_engine::{Item, Places};

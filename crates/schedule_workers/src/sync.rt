@@ -8,7 +8,7 @@ ghost use Rattle.schedule_workers.specs.declared.activation.Activation.{Activati
 ghost use Rattle.schedule_workers.specs.Events.{LeavesStalls};
 ghost use Rattle.schedule_workers.specs.Follows.{KeepsUses};
 ghost use Rattle.schedule_workers.specs.Scheduling.{hand_of};
-ghost use Rattle.schedule_workers.specs.Shown.{item_here};
+ghost use Rattle.schedule_workers.specs.RunShown.{item_here};
 ghost use Rattle.schedule_workers.specs.Going.{DoesStep, StandsSafely, TextFits};
 
 use crate::run::Run;

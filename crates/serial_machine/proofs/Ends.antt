@@ -13,7 +13,7 @@ use Rattle.store.specs.Requirements.{unmet_in}
 use Rattle.store.specs.Serially.{memory_of_globals, IsMeant}
 use Rattle.store.specs.declared.outcome.Finished.{Finished}
 use Rattle.store.specs.declared.outcome.RunFault.TheVariants.{BadArguments}
-use Rattle.serial_machine.specs.Promise.{EndsWithinBudget, EndsWithinFuel}
+use Rattle.serial_machine.specs.SerialPromise.{EndsWithinBudget, EndsWithinFuel}
 use Rattle.serial_machine.specs.declared.run.Unfinished.{Unfinished}
 use Rattle.serial_machine.specs.declared.run.Unfinished.TheVariants.{Fault, OutOfFuel}
 use Rattle.serial_machine.proofs.Globals.{globals_given}

@@ -1,4 +1,4 @@
-pub mod Promise
+pub mod SerialPromise
 pub mod Decoding
 pub mod walks
 pub mod Safe

@@ -17,15 +17,15 @@ use Rattle.laws_schedule.specs.kinds.Holding.{HasKindedRegisters}
 use Rattle.laws_schedule.specs.typing.Kinds.{HasKinds}
 use Rattle.serial_stack.specs.Steps.{starting}
 use Rattle.serial_stack.specs.Layouts.{size_in}
-use Rattle.serial_stack.specs.Shown.{RunsSafely, TextFits}
+use Rattle.serial_stack.specs.StackShown.{RunsSafely, TextFits}
 
 -- these sizes are as large as the program's globals
 abbrev pub HasCellsOf : Program → List ℕ → Type 0
 HasCellsOf program globals = (g : ℕ) → global_cells (slice_get program.globals g) ≤ size_in globals g
 
 -- wherever a serial run comes it can do its next step, within the budget
-abbrev pub RunsAreSafe : Type 0
-RunsAreSafe =
+abbrev pub SerialRunsAreSafe : Type 0
+SerialRunsAreSafe =
     (text : List ℕ) (program : Program) → IsProgramOf text program → (arguments : List ℤ) (memory : Memory) →
     AreTaken program arguments →
     HasGlobals program memory →

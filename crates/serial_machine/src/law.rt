@@ -1,7 +1,7 @@
 //! The laws below the promise: of walks, of operands, of safety, and of rows of cells.
 
 ghost use Rattle.serial_machine.specs.Rows.{RowsMean};
-ghost use Rattle.serial_machine.specs.Safe.{ItemsFit, RunsAreSafe, TextsFit};
+ghost use Rattle.serial_machine.specs.Safe.{ItemsFit, SerialRunsAreSafe, TextsFit};
 ghost use Rattle.serial_machine.specs.walks.Along.{WalksCount, WalksGoOn, WalksKeepTests};
 
 /// Where the serial meaning of a program gives a number, the steps from its start never get stuck, and neither their count nor the depth of
@@ -28,8 +28,8 @@ pub fn operands_fit()
 
 /// Wherever the serial run of a program that the verifier took comes, with arguments that its `main` takes and its globals, it can do its next
 /// step, within its budget: the step does not trap, the cells that it stores or adds to are there, and its numbers fit.
-pub fn runs_are_safe()
-    ensures { RunsAreSafe }
+pub fn serial_runs_are_safe()
+    ensures { SerialRunsAreSafe }
 {}
 
 /// What the text of a program that the verifier took names is there: blocks, registers, objects, callees, and room for the moves of each edge.

@@ -7,7 +7,7 @@
 //!
 //! - `walks`: what holds along the steps of a serial run, from its start on (`walks_go_on`, `walks_keep`, `walks_count`).
 //! - `room`: the numbers that an instruction reads are of its width (`operands_fit`).
-//! - `safe`: wherever the run comes it can do its next step (`runs_are_safe`). `text`: what the text names is there (`texts_fit`). `Rows`: what a
+//! - `safe`: wherever the run comes it can do its next step (`serial_runs_are_safe`). `text`: what the text names is there (`texts_fit`). `Rows`: what a
 //!   run over a row of cells comes to (`rows_mean`). `Held`: memory as such a row, and back. `Engine`: so the run is safe, and means what it should, on
 //!   the engine's stack of boxes, by which a lone worker goes; `Windows`: on its windows, by which this crate goes.
 //! - `Arguments`: arguments that the machine's test takes are those that the theorem asks for. `Globals`: memory that was made for a program
@@ -21,7 +21,7 @@ mod run;
 
 pub use decoded::Decoded;
 pub use law::{
-    operands_fit, rows_mean, runs_are_safe, texts_fit, walks_count, walks_go_on, walks_keep,
+    operands_fit, rows_mean, serial_runs_are_safe, texts_fit, walks_count, walks_go_on, walks_keep,
 };
 pub use run::{Unfinished, serial_run, serial_run_by, serial_run_within, serial_run_within_by};
 pub use store::{Finished, Memory, RunFault, Verified, unmet_requirement};

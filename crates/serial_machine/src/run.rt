@@ -9,7 +9,7 @@ ghost use Rattle.store.specs.verifier.Accepted.{IsAccepted};
 ghost use Rattle.store.specs.verifier.Budgets.{budget_of};
 ghost use Rattle.code_tables.specs.Coded.{AreTables};
 ghost use Rattle.serial_machine.specs.Decoding.{IsCodeOf};
-ghost use Rattle.serial_machine.specs.Promise.{EndsOrLacksMemory, EndsWithinBudget, EndsWithinFuel, TakesMore};
+ghost use Rattle.serial_machine.specs.SerialPromise.{EndsOrLacksMemory, EndsWithinBudget, EndsWithinFuel, TakesMore};
 
 use crate::decoded::Decoded;
 use crate::places::{places_from, starts};

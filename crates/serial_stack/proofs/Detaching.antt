@@ -23,7 +23,7 @@ use Rattle.frame_engine.specs.declared.flat.Flat.{Flat}
 use Rattle.frame_engine.specs.Shows.{Layout, ShowsCells}
 use Rattle.serial_stack.specs.Layouts.{end_of, frames_of, layout_of}
 use Rattle.serial_stack.specs.Steps.{Placed, Run, Goes, detach}
-use Rattle.serial_stack.specs.Shown.{BeginsAt, CanGo, HasTaker, ShowsBelow, ShowsOn, ShowsRun, TextFits, place_of, unboxed}
+use Rattle.serial_stack.specs.StackShown.{BeginsAt, CanGo, HasTaker, ShowsBelow, ShowsOn, ShowsRun, TextFits, place_of, unboxed}
 use Rattle.serial_stack.specs.declared.stack.Stack.{Stack}
 use Rattle.serial_stack.proofs.Places.{detach_here}
 use Rattle.serial_stack.proofs.Texts.{Located, ends_fit, frame_stands, located, starts_block}

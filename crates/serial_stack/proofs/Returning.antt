@@ -33,7 +33,7 @@ use Rattle.frame_engine.specs.Names.{HasResult, Sizes, sizes, taker_of}
 use Rattle.frame_engine.specs.Shows.{Layout, ShowsCells}
 use Rattle.serial_stack.specs.Layouts.{end_of, layout_of}
 use Rattle.serial_stack.specs.Steps.{Placed, Run, Goes, ret}
-use Rattle.serial_stack.specs.Shown.{BeginsAt, CanGo, HasTaker, Ends as EndsRun, ShowsBelow, ShowsOn, ShowsRun, TextFits, item_here, unboxed}
+use Rattle.serial_stack.specs.StackShown.{BeginsAt, CanGo, HasTaker, Ends as EndsRun, ShowsBelow, ShowsOn, ShowsRun, TextFits, item_here, unboxed}
 use Rattle.serial_stack.specs.declared.stack.Stack.{Stack}
 use Rattle.serial_stack.proofs.Calling.{tall_below}
 use Rattle.serial_stack.proofs.Cells.{caller_cells}

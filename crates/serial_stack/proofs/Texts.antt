@@ -4,7 +4,7 @@ use Rattle.semantics.specs.Frames.{Item, item_at}
 use Rattle.program.specs.declared.function.Program.{Program}
 use Rattle.frame_engine.specs.declared.activation.Places.{Places}
 use Rattle.serial_stack.specs.Steps.{Run}
-use Rattle.serial_stack.specs.Shown.{ShowsRun, item_here, place_of}
+use Rattle.serial_stack.specs.StackShown.{ShowsRun, item_here, place_of}
 use Rattle.serial_stack.specs.declared.stack.Stack.{Stack}
 pub use Rattle.frame_engine.proofs.Texts.{Located, located, sizes_in, ends_fit, does_fit, starts_block, behind_step, frame_stands}
 

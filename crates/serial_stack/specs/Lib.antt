@@ -1,5 +1,5 @@
 pub mod Steps
 pub mod Layouts
-pub mod Shown
+pub mod StackShown
 pub mod Runs
 pub mod Starts

@@ -2,7 +2,7 @@ ghost use Rattle.std.specs.Prelude.{◌≡◌, OnOk, IfOk, Some, length};
 ghost use Rattle.semantics.specs.Frames.{Does, Ends};
 ghost use Rattle.program.specs.declared.instruction.Instruction.TheVariants as instruction;
 ghost use Rattle.program.specs.declared.instruction.Terminator.TheVariants as terminator;
-ghost use Rattle.serial_stack.specs.Shown.{GoesOn, HasNumbers, Returns, StandsSafely, TextFits, item_here};
+ghost use Rattle.serial_stack.specs.StackShown.{GoesOn, HasNumbers, Returns, StandsSafely, TextFits, item_here};
 ghost use Rattle.frame_engine.specs.Activation.{FrameFits};
 
 use crate::stack::Stack;

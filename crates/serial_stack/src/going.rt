@@ -3,7 +3,7 @@ ghost use Rattle.semantics.specs.Frames.{Does, Ends};
 ghost use Rattle.frame_engine.specs.Activation.{FrameFits};
 ghost use Rattle.frame_engine.specs.Border.{IsBorder, IsBorderEnding, IsBorderItem};
 ghost use Rattle.frame_engine.specs.Pause.{IfBorder, IfLimit};
-ghost use Rattle.serial_stack.specs.Shown.{Advances, GoesOn, HasNumbers, Returns, StandsSafely, StaysSafely, TextFits, item_here};
+ghost use Rattle.serial_stack.specs.StackShown.{Advances, GoesOn, HasNumbers, Returns, StandsSafely, StaysSafely, TextFits, item_here};
 
 use crate::stack::Stack;
 use frame_engine::{Item, Pause, Places};

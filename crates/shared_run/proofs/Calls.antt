@@ -22,12 +22,12 @@ use Rattle.frame.specs.declared.event.Event.{Event}
 use Rattle.frame.specs.declared.event.Event.TheVariants.{Step, Steal}
 use Rattle.schedule_core.specs.declared.stage.Stage.{Stage}
 use Rattle.schedule_core.proofs.Unchanged.{as_it_was}
-use Rattle.schedule_core.specs.declared.ready.Spot.{Spot as Ticket}
+use Rattle.schedule_core.specs.declared.ready.Ticket.{Ticket}
 use Rattle.shared_run.specs.declared.answers.Stepped.TheVariants as stepped
 use Rattle.shared_run.specs.declared.answers.Claimed.{Claimed}
 use Rattle.shared_run.specs.declared.answers.Claimed.TheVariants as claimed
 use Rattle.shared_run.specs.Calls.{Appends, CanTake, Claims, ClaimsFirst, IsDetach, IsOneBelow, IsParents, Leaves, Same, Stays, Steps, Takes, Tries, depth_in}
-use Rattle.shared_run.specs.Story.{IsLegal, Origin, Place, Story, named_by, state_of, story}
+use Rattle.shared_run.specs.Story.{IsLegal, Origin, SeatView, Story, named_by, state_of, story}
 use Rattle.shared_run.proofs.Begun.{IsStepOf, step_of, begins_or_none, parent_ready}
 use Rattle.shared_run.proofs.Stories.{manned_here, untrapped}
 use Rattle.semantics.proofs.Steps.{some_same}
@@ -141,7 +141,7 @@ none_is (Some x) = refl
 pub same_story : (o : Origin) (es fs : List Event) (m n : Stage) → fs ≡ es → n ≡ m → story o fs n ≡ story o es m
 same_story o es fs m n is same = ap (λ (l : List Event). story o l n) is ∙ ap (λ (x : Stage). story o es x) same
 
-module _ (s t : Story) (p q : Place) (legal : IsLegal s.start s.events s.stage) (w : ℕ) (mine : w ≡ p.worker) where
+module _ (s t : Story) (p q : SeatView) (legal : IsLegal s.start s.events s.stage) (w : ℕ) (mine : w ≡ p.worker) where
   sound : (state_of s).trapped ≡ None
   sound = untrapped s.start s.events s.stage legal
 
@@ -197,7 +197,7 @@ is_none_by (Some n) false e = refl
 
 -- ---- a claim
 
-module _ (s t : Story) (p q : Place) where
+module _ (s t : Story) (p q : SeatView) where
   pub claims_of : (ticket : Ticket) (path : Path) (r : Claimed) → named_by s.stage ticket ≡ Some path → Takes path s t p q r → Claims ticket s t p q r
   claims_of ticket path claimed.Taken is takes = (path, is, takes)
   claims_of ticket path claimed.Gone is (same, off) =
@@ -211,7 +211,7 @@ module _ (s t : Story) (p q : Place) where
 
 -- ---- want of memory
 
-pub stays_same : (s t : Story) (p q : Place) → Same s t p q → Stays s t p q
+pub stays_same : (s t : Story) (p q : SeatView) → Same s t p q → Stays s t p q
 stays_same s t p q (same, seat) =
     record {
       start = ap (λ (x : Story). x.start) same;
@@ -221,11 +221,11 @@ stays_same s t p q (same, seat) =
     }
 
 -- before the event was tried
-pub leaves_same : (e : Event) (s t : Story) (p q : Place) → Same s t p q → Leaves e s t p q
+pub leaves_same : (e : Event) (s t : Story) (p q : SeatView) → Same s t p q → Leaves e s t p q
 leaves_same (Step worker) s t p q same = stays_same s t p q same
 leaves_same (Steal worker path) s t p q same = same
 
 -- no steal is refused memory
-pub leaves_grown : (program : Program) (m : Machine) (e : Event) (s t : Story) (p q : Place) → GrowsOnly program m e → Stays s t p q → Leaves e s t p q
+pub leaves_grown : (program : Program) (m : Machine) (e : Event) (s t : Story) (p q : SeatView) → GrowsOnly program m e → Stays s t p q → Leaves e s t p q
 leaves_grown program m (Step worker) s t p q grows stays = stays
 leaves_grown program m (Steal worker path) s t p q grows stays = absurd grows

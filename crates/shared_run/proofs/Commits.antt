@@ -11,8 +11,8 @@ use Rattle.program.specs.declared.function.Program.{Program}
 use Rattle.schedule_core.specs.schedule_commit.Absorbing.{steps_in}
 use Rattle.schedule_core.specs.schedule_commit.laws_strands.Law.{steps_by}
 use Rattle.schedule_core.specs.frame_strand.declared.outside.FrameStrand.{FrameStrand}
-use Rattle.schedule_core.specs.frame_strand.declared.standing.Pause.{Pause}
-use Rattle.schedule_core.specs.frame_strand.declared.standing.Pause.TheVariants.{Blank, Border, Limit, Full, Need}
+use Rattle.schedule_core.specs.frame_strand.declared.standing.FrameStrandPause.{FrameStrandPause}
+use Rattle.schedule_core.specs.frame_strand.declared.standing.FrameStrandPause.TheVariants.{Blank, Border, Limit, Full, Need}
 use Rattle.schedule_core.specs.Parents.{HasNoReadyParent, IsReadyParent}
 use Rattle.schedule_core.specs.Replaying.{AreEnabled, event_of}
 use Rattle.schedule_core.specs.Stages.{program_of, workers_of}
@@ -21,10 +21,10 @@ use Rattle.frame.specs.declared.event.Event.{Event}
 use Rattle.frame.specs.declared.event.Event.TheVariants.{Step}
 use Rattle.schedule_core.specs.declared.stage.Stage.{Stage}
 use Rattle.schedule_core.proofs.Commits.{map_steps, replay_all}
-use Rattle.schedule_core.specs.declared.ready.Spot.{Spot as Ticket}
+use Rattle.schedule_core.specs.declared.ready.Ticket.{Ticket}
 use Rattle.shared_run.specs.declared.answers.Committed.TheVariants as committed
 use Rattle.shared_run.specs.Calls.{Absorbing, Appends, Commits, EndsInDetach, IsOneBelow, IsParents, before_border, depth_in}
-use Rattle.shared_run.specs.Story.{IsLegal, Origin, Place, Story, first_of, reached, state_of}
+use Rattle.shared_run.specs.Story.{IsLegal, Origin, SeatView, Story, first_of, reached, state_of}
 use Rattle.shared_run.proofs.Bound.{room}
 use Rattle.shared_run.proofs.Calls.{none_is, ready_exact, true_is}
 use Rattle.shared_run.proofs.Stories.{manned_after, untrapped_after}
@@ -97,7 +97,7 @@ not_below before (depth, was, now) = let e : Some depth ≡ Some (depth + 1) = s
 
 -- ---- what is answered
 
-module _ (s t : Story) (p q : Place) (legal : IsLegal s.start s.events s.stage) (after : IsLegal t.start t.events t.stage) (x : FrameStrand) (appends : Appends (replicate (steps_in x.pause x.course.done) (Step p.worker)) s t p q) (a : Absorbs s.stage t.stage p.worker x) where
+module _ (s t : Story) (p q : SeatView) (legal : IsLegal s.start s.events s.stage) (after : IsLegal t.start t.events t.stage) (x : FrameStrand) (appends : Appends (replicate (steps_in x.pause x.course.done) (Step p.worker)) s t p q) (a : Absorbs s.stage t.stage p.worker x) where
   abbrev w : ℕ
   w = p.worker
 
@@ -158,10 +158,10 @@ module _ (s t : Story) (p q : Place) (legal : IsLegal s.start s.events s.stage) 
     pub ready_by : Answered ready
     ready_by = by x.pause refl
       where
-        steps : (o : Option Pause) → x.pause ≡ o → steps_in x.pause x.course.done ≡ steps_in o x.course.done
+        steps : (o : Option FrameStrandPause) → x.pause ≡ o → steps_in x.pause x.course.done ≡ steps_in o x.course.done
         steps o is = ap (λ y. steps_in y x.course.done) is
 
-        by : (o : Option Pause) → x.pause ≡ o → Answered ready
+        by : (o : Option FrameStrandPause) → x.pause ≡ o → Answered ready
         by None is = plain (steps None is) (λ e. let f : None ≡ Some Border = sym is ∙ e in cc)
         by (Some Blank) is = plain (steps (Some Blank) is) (λ e. let f : Some Blank ≡ Some Border = sym is ∙ e in cc)
         by (Some Limit) is = plain (steps (Some Limit) is) (λ e. let f : Some Limit ≡ Some Border = sym is ∙ e in cc)
@@ -169,7 +169,7 @@ module _ (s t : Story) (p q : Place) (legal : IsLegal s.start s.events s.stage) 
         by (Some (Need at)) is = plain (steps (Some (Need at)) is) (λ e. let f : Some (Need at) ≡ Some Border = sym is ∙ e in cc)
         by (Some Border) is = at_border is (steps (Some Border) is)
 
-module _ (s t : Story) (p q : Place) (legal : IsLegal s.start s.events s.stage) (x : FrameStrand) (w : ℕ) (mine : w ≡ p.worker) where
+module _ (s t : Story) (p q : SeatView) (legal : IsLegal s.start s.events s.stage) (x : FrameStrand) (w : ℕ) (mine : w ≡ p.worker) where
   pub commits_done : (b : Bool) → b ≡ true → Absorbing x s t p q b → IsLegal t.start t.events t.stage → (before : Option ℕ) → before ≡ depth_in (state_of s) w → (ready : Option Ticket) →
       IfSome ready (λ ticket. IsReadyParent t.stage.run (state_of t) w ticket.slot ticket.generation) → IfSome ready (λ ticket. IsOneBelow before (depth_in (state_of t) w)) →
       IfNone ready (IsOneBelow before (depth_in (state_of t) w) → HasNoReadyParent (workers_of t.stage) (state_of t) w) →

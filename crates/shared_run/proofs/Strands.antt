@@ -16,10 +16,10 @@ use Rattle.schedule_core.specs.strand.strand_pages.Tables.{log_of}
 use Rattle.schedule_core.specs.strand.Along.{IsUnderWay}
 use Rattle.schedule_core.specs.strand.Boards.{NeedsBoard}
 use Rattle.schedule_core.specs.strand.Going.{IsGoing}
-use Rattle.schedule_core.specs.strand.serial_stack.Shown.{item_here}
+use Rattle.schedule_core.specs.strand.serial_stack.StackShown.{item_here}
 use Rattle.schedule_core.specs.strand.declared.strand.Strand.{Strand}
-use Rattle.schedule_core.specs.strand.declared.going.Pause.{Pause}
-use Rattle.schedule_core.specs.strand.declared.going.Pause.TheVariants as pause
+use Rattle.schedule_core.specs.strand.declared.going.StrandPause.{StrandPause}
+use Rattle.schedule_core.specs.strand.declared.going.StrandPause.TheVariants as pause
 use Rattle.schedule_core.specs.Strands.{HasRoomFor, IsStrandOf}
 use Rattle.shared_run.specs.declared.worker_strand.Standing.{Standing}
 use Rattle.shared_run.specs.declared.worker_strand.Standing.TheVariants.{Blank, Going, Border, Full, Need, Spoilt}
@@ -44,7 +44,7 @@ module _ (prog : Program) (places : Places) (x : Strand) where
   has_room Spoilt h off = absurd (off refl)
 
   -- at a pause
-  pub holds_onward : (r : Pause) (s : Standing) → Onward r s → HasRoomFor prog x → (r ≡ pause.Border → NeedsBoard prog places x (item_here prog x.top.value)) → ∥ IsGoing prog places x r ∥₁ → Holds prog places x s
+  pub holds_onward : (r : StrandPause) (s : Standing) → Onward r s → HasRoomFor prog x → (r ≡ pause.Border → NeedsBoard prog places x (item_here prog x.top.value)) → ∥ IsGoing prog places x r ∥₁ → Holds prog places x s
   holds_onward pause.Border s is room board going = subst (λ y. Holds prog places x y) (sym is) (room, ∥∥₁_map going (λ g. g.way), board refl)
   holds_onward pause.Limit s is room board going = subst (λ y. Holds prog places x y) (sym is) (room, ∥∥₁_map going (λ g. g.way))
   holds_onward pause.Full s is room board going = subst (λ y. Holds prog places x y) (sym is) (room, going)
@@ -59,7 +59,7 @@ pub stands_so : (prog code : Program) (places : Places) (y : Apart) → prog ≡
 stands_so prog code places y is are holds = subst (λ (q : Program). StandsSo q y) is (places, are, holds)
 
 -- it can go on just where it did all that it was to do
-pub goes_at : (r : Pause) (s : Standing) (n limit : ℕ) → Onward r s → (r ≡ pause.Limit) ↔ (n ≡ limit) → (s ≡ Going) ↔ (n ≡ limit)
+pub goes_at : (r : StrandPause) (s : Standing) (n limit : ℕ) → Onward r s → (r ≡ pause.Limit) ↔ (n ≡ limit) → (s ≡ Going) ↔ (n ≡ limit)
 goes_at pause.Border s n limit is at = (λ e. absurd (let h : Border ≡ Going = sym is ∙ e in cc), λ e. absurd (let h : pause.Border ≡ pause.Limit = at.1 e in cc))
 goes_at pause.Limit s n limit is at = (λ e. at.0 refl, λ e. is)
 goes_at pause.Full s n limit is at = (λ e. absurd (let h : Full ≡ Going = sym is ∙ e in cc), λ e. absurd (let h : pause.Full ≡ pause.Limit = at.1 e in cc))

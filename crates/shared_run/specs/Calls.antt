@@ -14,11 +14,11 @@ use Rattle.frame.specs.declared.event.Event.TheVariants.{Step, Steal}
 use Rattle.schedule_core.specs.FrameStrands.{Absorbs, FrameStrandFits, IsLoaded}
 use Rattle.schedule_core.specs.schedule_commit.Absorbing.{steps_in}
 use Rattle.schedule_core.specs.frame_strand.declared.outside.FrameStrand.{FrameStrand}
-use Rattle.schedule_core.specs.frame_strand.declared.standing.Pause.TheVariants.{Blank, Border, Need}
+use Rattle.schedule_core.specs.frame_strand.declared.standing.FrameStrandPause.TheVariants.{Blank, Border, Need}
 use Rattle.schedule_core.specs.frame_engine.Flat.{cell_in}
 use Rattle.schedule_core.specs.Replaying.{event_of, LeavesAsBefore, Replays}
 use Rattle.schedule_core.specs.Viewed.{place_in, status_in, IsFirstReady}
-use Rattle.schedule_core.specs.declared.ready.Spot.{Spot as Ticket}
+use Rattle.schedule_core.specs.declared.ready.Ticket.{Ticket}
 use Rattle.shared_run.specs.declared.answers.Stepped.{Stepped}
 use Rattle.shared_run.specs.declared.answers.Stepped.TheVariants as stepped
 use Rattle.shared_run.specs.declared.answers.Fetched.{Fetched}
@@ -27,7 +27,7 @@ use Rattle.shared_run.specs.declared.answers.Committed.{Committed}
 use Rattle.shared_run.specs.declared.answers.Committed.TheVariants as committed
 use Rattle.shared_run.specs.declared.answers.Claimed.{Claimed}
 use Rattle.shared_run.specs.declared.answers.Claimed.TheVariants as claimed
-use Rattle.shared_run.specs.Story.{Origin, Story, Place, place, named_by, state_of, story}
+use Rattle.shared_run.specs.Story.{Origin, Story, SeatView, place, named_by, state_of, story}
 
 -- nothing has happened yet
 pub record Begins (o : Origin) (s : Story) : Type 0 where
@@ -36,23 +36,23 @@ pub record Begins (o : Origin) (s : Story) : Type 0 where
   pub stage : Replays o.program o.arguments o.memory o.workers [] s.stage
 
 -- board and seat are as they were
-abbrev pub Same : Story → Story → Place → Place → Type 0
+abbrev pub Same : Story → Story → SeatView → SeatView → Type 0
 Same s t p q = (t ≡ s) × (q ≡ p)
 
 -- start, history and seat are as they were, and the machine stands as it did
-pub record Stays (s t : Story) (p q : Place) : Type 0 where
+pub record Stays (s t : Story) (p q : SeatView) : Type 0 where
   pub start : t.start ≡ s.start
   pub events : t.events ≡ s.events
   pub stage : LeavesAsBefore s.stage t.stage
   pub seat : q ≡ p
 
 -- memory was refused for the event
-abbrev pub Leaves : Event → Story → Story → Place → Place → Type 0
+abbrev pub Leaves : Event → Story → Story → SeatView → SeatView → Type 0
 Leaves (Step worker) s t p q = Stays s t p q
 Leaves (Steal worker path) s t p q = Same s t p q
 
 -- just these events were appended, and counted in the seat's share
-pub record Appends (more : List Event) (s t : Story) (p q : Place) : Type 0 where
+pub record Appends (more : List Event) (s t : Story) (p q : SeatView) : Type 0 where
   pub start : t.start ≡ s.start
   pub events : t.events ≡ s.events ++ more
   pub share : q ≡ place p.worker (p.share + length more)
@@ -76,7 +76,7 @@ abbrev pub outcome : Story → Event → Option Machine
 outcome s e = event s.start.program s.start.workers (event_of e) (state_of s)
 
 -- the event was enabled and is done; or it was not, and nothing was done
-abbrev pub Tries : Event → Story → Story → Place → Place → Bool → Type 0
+abbrev pub Tries : Event → Story → Story → SeatView → SeatView → Bool → Type 0
 Tries e s t p q true = Appends (e ∷ []) s t p q × (outcome s e ≡ Some (state_of t))
 Tries e s t p q false = Same s t p q × (outcome s e ≡ None)
 
@@ -109,7 +109,7 @@ abbrev pub IsOneBelow : Option ℕ → Option ℕ → Type 0
 IsOneBelow before now = (depth : ℕ) × (before ≡ Some depth) × (now ≡ Some (depth + 1))
 
 -- one step of the seat's worker, or nothing
-abbrev pub Steps : Story → Story → Place → Place → Stepped → Type 0
+abbrev pub Steps : Story → Story → SeatView → SeatView → Stepped → Type 0
 Steps s t p q (stepped.Done ready idle ended) =
     Appends (Step p.worker ∷ []) s t p q
     × (IsSome ready ↔ IsDetach s.start.program (state_of s) p.worker)
@@ -122,7 +122,7 @@ Steps s t p q stepped.OutOfMemory = Stays s t p q
 -- ---- a strand
 
 -- what a strand gets
-abbrev pub Fetches : Story → Place → FrameStrand → FrameStrand → Fetched → Type 0
+abbrev pub Fetches : Story → SeatView → FrameStrand → FrameStrand → Fetched → Type 0
 Fetches s p x y fetched.Frame = (x.pause ≡ Some Blank) × IsLoaded s.stage p.worker y
 Fetches s p x y fetched.Cell = (at z : ℤ) × (x.pause ≡ Some (Need at)) ×
     (cell_in s.stage.run.cells.cells.items at ≡ Some z) × IsFilled x y at z
@@ -130,15 +130,15 @@ Fetches s p x y fetched.Idle = (y ≡ x) × (x.pause ≡ Some Blank) × ((state_
 Fetches s p x y fetched.Stranger = (y ≡ x) × IsStranger s x
 
 -- as many steps of the worker as a strand did instructions, up to its border's
-abbrev pub before_border : Story → Place → FrameStrand → Story
+abbrev pub before_border : Story → SeatView → FrameStrand → Story
 before_border s p x = story s.start (s.events ++ replicate x.course.done (Step p.worker)) s.stage
 
 -- it stands at a detach
-abbrev pub EndsInDetach : Story → Place → FrameStrand → Type 0
+abbrev pub EndsInDetach : Story → SeatView → FrameStrand → Type 0
 EndsInDetach s p x = (x.pause ≡ Some Border) × IsDetach s.start.program (state_of (before_border s p x)) p.worker
 
 -- the strand's instructions and its border's as steps of the seat's worker, or nothing
-abbrev pub Commits : FrameStrand → Story → Story → Place → Place → Committed → Type 0
+abbrev pub Commits : FrameStrand → Story → Story → SeatView → SeatView → Committed → Type 0
 Commits x s t p q (committed.After ready idle ended) =
     FrameStrandFits s.stage p.worker x
     × Appends (replicate (steps_in x.pause x.course.done) (Step p.worker)) s t p q
@@ -150,7 +150,7 @@ Commits x s t p q committed.Stranger = Same s t p q × ¬ FrameStrandFits s.stag
 Commits x s t p q committed.OutOfMemory = Stays s t p q
 
 -- the strand fits, and its steps were appended; or it does not, and nothing was
-abbrev pub Absorbing : FrameStrand → Story → Story → Place → Place → Bool → Type 0
+abbrev pub Absorbing : FrameStrand → Story → Story → SeatView → SeatView → Bool → Type 0
 Absorbing x s t p q true =
     FrameStrandFits s.stage p.worker x × Appends (replicate (steps_in x.pause x.course.done) (Step p.worker)) s t p q ×
     Absorbs s.stage t.stage p.worker x
@@ -159,18 +159,18 @@ Absorbing x s t p q false = Same s t p q × ¬ FrameStrandFits s.stage p.worker 
 -- ---- a claim
 
 -- the worker is idle, and the task of the path is ready
-abbrev pub CanTake : Story → Place → Path → Type 0
+abbrev pub CanTake : Story → SeatView → Path → Type 0
 CanTake s p path = ((state_of s).hands p.worker ≡ None) ×
     (status_in s.start.workers (state_of s) path ≡ Some running.Ready)
 
 -- one steal of the task of the path by the seat's worker, or nothing
-abbrev pub Takes : Path → Story → Story → Place → Place → Claimed → Type 0
+abbrev pub Takes : Path → Story → Story → SeatView → SeatView → Claimed → Type 0
 Takes path s t p q claimed.Taken = Appends (Steal p.worker path ∷ []) s t p q × CanTake s p path
 Takes path s t p q claimed.Gone = Same s t p q × ¬ CanTake s p path
 Takes path s t p q claimed.OutOfMemory = Same s t p q
 
 -- the same for the ticket's task
-abbrev pub Claims : Ticket → Story → Story → Place → Place → Claimed → Type 0
+abbrev pub Claims : Ticket → Story → Story → SeatView → SeatView → Claimed → Type 0
 Claims ticket s t p q claimed.Taken = (path : Path) × (named_by s.stage ticket ≡ Some path) ×
     Takes path s t p q claimed.Taken
 Claims ticket s t p q claimed.Gone = Same s t p q × ((path : Path) → named_by s.stage ticket ≡ Some path →
@@ -178,7 +178,7 @@ Claims ticket s t p q claimed.Gone = Same s t p q × ((path : Path) → named_by
 Claims ticket s t p q claimed.OutOfMemory = Same s t p q
 
 -- the same for the ready task of least path
-abbrev pub ClaimsFirst : Story → Story → Place → Place → Claimed → Type 0
+abbrev pub ClaimsFirst : Story → Story → SeatView → SeatView → Claimed → Type 0
 ClaimsFirst s t p q claimed.Taken = (path : Path) × IsFirstReady s.start.workers (state_of s) path ×
     Takes path s t p q claimed.Taken
 ClaimsFirst s t p q claimed.Gone = Same s t p q × ((path : Path) → ¬ CanTake s p path)

@@ -12,7 +12,7 @@ use Rattle.schedule_core.specs.declared.stage.Stage.{Stage}
 use Rattle.schedule_core.specs.Replaying.{AreEnabled, event_of, first_state, state_after, Replays}
 use Rattle.schedule_core.specs.Admission.{IsNumberOfWorkers}
 use Rattle.schedule_core.specs.Spots.{path_of_use}
-use Rattle.schedule_core.specs.declared.ready.Spot.{Spot as Ticket}
+use Rattle.schedule_core.specs.declared.ready.Ticket.{Ticket}
 
 -- where a run begins
 pub record Origin : Type 0 where
@@ -40,11 +40,11 @@ abbrev pub story : Origin → List Event → Stage → Story
 story o events stage = record { start = o; events = events; stage = stage }
 
 -- a seat's worker, and how many events the calls at this seat appended
-pub record Place : Type 0 where
+pub record SeatView : Type 0 where
   pub worker : ℕ
   pub share : ℕ
 
-abbrev pub place : ℕ → ℕ → Place
+abbrev pub place : ℕ → ℕ → SeatView
 place worker share = record { worker = worker; share = share }
 
 -- the definitions' state before the first event
@@ -73,6 +73,6 @@ abbrev pub named_by : Stage → Ticket → Option Path
 named_by stage ticket = path_of_use stage.run.cactus ticket.slot ticket.generation
 
 -- an unused seat for each worker, in their order
-abbrev pub AreSeats : ℕ → List Place → Type 0
+abbrev pub AreSeats : ℕ → List SeatView → Type 0
 AreSeats workers seats = (length seats ≡ workers) ×
     ((worker : ℕ) → worker < workers → slice_get seats worker ≡ Some (place worker 0))

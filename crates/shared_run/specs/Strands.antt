@@ -14,12 +14,12 @@ use Rattle.schedule_core.specs.strand.strand_pages.Tables.{log_of}
 use Rattle.schedule_core.specs.strand.Along.{IsUnderWay}
 use Rattle.schedule_core.specs.strand.Boards.{NeedsBoard}
 use Rattle.schedule_core.specs.strand.Going.{IsGoing}
-use Rattle.schedule_core.specs.strand.serial_stack.Shown.{item_here}
+use Rattle.schedule_core.specs.strand.serial_stack.StackShown.{item_here}
 use Rattle.schedule_workers.specs.Starts.{ArePlaces}
 use Rattle.schedule_core.specs.strand.declared.strand.Strand.{Strand}
-use Rattle.schedule_core.specs.strand.declared.going.Pause.{Pause}
-use Rattle.schedule_core.specs.strand.declared.going.Pause.TheVariants as pause
-use Rattle.schedule_core.specs.declared.ready.Spot.{Spot}
+use Rattle.schedule_core.specs.strand.declared.going.StrandPause.{StrandPause}
+use Rattle.schedule_core.specs.strand.declared.going.StrandPause.TheVariants as pause
+use Rattle.schedule_core.specs.declared.ready.Ticket.{Ticket}
 use Rattle.schedule_core.specs.Strands.{StrandFits, HasRoomFor, IsBegun}
 use Rattle.schedule_core.specs.ReadyBelow.{AreReadyBelow}
 use Rattle.schedule_core.specs.FrameStrands.{TakesSteps}
@@ -30,7 +30,7 @@ use Rattle.shared_run.specs.declared.answers.Published.TheVariants as published
 use Rattle.shared_run.specs.declared.worker_strand.Standing.{Standing}
 use Rattle.shared_run.specs.declared.worker_strand.Standing.TheVariants.{Blank, Going, Border, Full, Need, Spoilt}
 use Rattle.shared_run.specs.Calls.{Appends, Same, Stays}
-use Rattle.shared_run.specs.Story.{Place, Story, state_of}
+use Rattle.shared_run.specs.Story.{SeatView, Story, state_of}
 
 -- the worker's frames outside of the board, and how they stand
 pub record Apart : Type 0 where
@@ -84,7 +84,7 @@ pub record GoesOnBy (count : ℕ) (x y : Apart) : Type 0 where
   pub all : (y.standing ≡ Going) ↔ (y.strand.done ≡ min (x.strand.done + count) 65536)
 
 -- how it stands at a pause
-abbrev pub Onward : Pause → Standing → Type 0
+abbrev pub Onward : StrandPause → Standing → Type 0
 Onward pause.Border s = s ≡ Border
 Onward pause.Limit s = s ≡ Going
 Onward pause.Full s = s ≡ Full
@@ -93,7 +93,7 @@ Onward (pause.Need at) s = s ≡ Need at
 -- ---- what the board gives
 
 -- the frame that the worker runs next, before its first instruction; or it holds none
-abbrev pub Loads : Story → Place → Apart → Loaded → Type 0
+abbrev pub Loads : Story → SeatView → Apart → Loaded → Type 0
 Loads s p y loaded.Frame = (y.standing ≡ Going) × IsBegun s.stage p.worker y.strand
 Loads s p y loaded.Idle = (¬ IsUp y.standing) × ((state_of s).hands p.worker ≡ None)
 Loads s p y loaded.OutOfMemory = ¬ IsUp y.standing
@@ -119,11 +119,11 @@ FillsAhead s at x y false = y ≡ x
 -- ---- what is put on the board
 
 -- it holds a frame, the seat's worker runs the base as it was loaded, and each cell that was read holds what was read
-abbrev pub FitsBoard : Story → Place → Apart → Type 0
+abbrev pub FitsBoard : Story → SeatView → Apart → Type 0
 FitsBoard s p x = IsUp x.standing × StrandFits s.stage p.worker x.strand
 
 -- its instructions as steps of the seat's worker, which are enabled one after the other, or nothing
-abbrev pub Publishes : Apart → Story → Story → Place → Place → Published → Type 0
+abbrev pub Publishes : Apart → Story → Story → SeatView → SeatView → Published → Type 0
 Publishes x s t p q published.Done =
     FitsBoard s p x × Appends (replicate x.strand.done (Step p.worker)) s t p q ×
     TakesSteps s.stage t.stage p.worker x.strand.done
@@ -132,5 +132,5 @@ Publishes x s t p q published.OutOfMemory = Stays s t p q
 
 -- the tickets name, outermost first, the ready tasks whose tops are among so many frames below the one that the seat's
 -- worker runs next
-abbrev pub AreReadyTickets : Story → Place → ℕ → List Spot → Type 0
+abbrev pub AreReadyTickets : Story → SeatView → ℕ → List Ticket → Type 0
 AreReadyTickets s p levels tickets = AreReadyBelow s.stage (state_of s) p.worker levels (reverse tickets)

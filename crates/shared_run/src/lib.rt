@@ -34,8 +34,8 @@ pub use history::{Entry, History, Keeping};
 pub use outside::{advance, blank_frame_strand, clear};
 pub use rest::{BoardRest, StrandRest};
 pub use schedule_core::{
-    Decoded, Event, Finished, FrameStrand, Machine, Memory, Pause, Places, RunFault, Status,
-    TaskView, Verified, places_of, replay, steps_of,
+    Decoded, Event, Finished, FrameStrand, FrameStrandPause, Machine, Memory, Places, RunFault,
+    Status, TaskView, Verified, places_of, replay, steps_of,
 };
 pub use seat::Seat;
 pub use shared::{Shared, Unended};

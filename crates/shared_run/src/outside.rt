@@ -2,11 +2,11 @@
 ghost use Rattle.std.specs.Prelude.{◌≡◌, IfOk, Some};
 ghost use Rattle.schedule_workers.specs.Starts.{ArePlaces};
 ghost use Rattle.schedule_core.specs.FrameStrands.{IsMadeOf};
-ghost use Rattle.schedule_core.specs.frame_strand.declared.standing.Pause.TheVariants.{Blank};
+ghost use Rattle.schedule_core.specs.frame_strand.declared.standing.FrameStrandPause.TheVariants.{Blank};
 
 use crate::bench::Bench;
 use lists::OutOfMemory;
-use schedule_core::{FrameStrand, Pause, Places, Verified};
+use schedule_core::{FrameStrand, FrameStrandPause, Places, Verified};
 use std::alloc::Global;
 
 /// A blank frame strand of the module, with room for the frames of its runs: none is deeper than the module's depth.
@@ -38,7 +38,7 @@ pub fn clear<L: Bench>(strand: &mut FrameStrand<'_>)
 
 /// Goes on with the strand to a pause.
 #[tactic(auto, using(crate::proofs::Made::made_still))]
-pub fn advance<L: Bench>(strand: &mut FrameStrand<'_>) -> Pause
+pub fn advance<L: Bench>(strand: &mut FrameStrand<'_>) -> FrameStrandPause
     requires { IsMadeOf L.code strand.old }
     ensures made { IsMadeOf L.code strand.new }
     ensures pause { strand.new.pause ≡ Some result }

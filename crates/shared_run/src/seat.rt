@@ -14,9 +14,9 @@ pub struct Seat<L: Bench> {
 
 impl<L: Bench> Model for Seat<L> {
     ghost use Rattle.std.specs.Prelude.{◌≡◌, ◌<◌};
-    ghost use Rattle.shared_run.specs.Story.{Place};
+    ghost use Rattle.shared_run.specs.Story.{SeatView};
 
-    ghost Value = { Place };
+    ghost Value = { SeatView };
 
     ghost view = { λ s. record { worker = s.worker; share = s.share.amount } };
 

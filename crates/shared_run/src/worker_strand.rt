@@ -2,7 +2,7 @@ ghost use Rattle.std.specs.Prelude.{◌≡◌, ◌≢◌, ◌↔◌, ◌≤◌, 
 ghost use Rattle.std.specs.List.{list_any};
 ghost use Rattle.semantics.specs.Frames.{Ends, item_of};
 ghost use Rattle.schedule_core.specs.serial_machine.Decoding.{IsCodeOf};
-ghost use Rattle.schedule_core.specs.strand.serial_stack.Shown.{item_here};
+ghost use Rattle.schedule_core.specs.strand.serial_stack.StackShown.{item_here};
 ghost use Rattle.schedule_core.specs.strand.strand_pages.Logs.{filled_log, is_open};
 ghost use Rattle.schedule_core.specs.strand.strand_pages.Tables.{log_of};
 ghost use Rattle.schedule_core.specs.Strands.{IsBegun, IsStrandOf, RunsNothing};

@@ -15,14 +15,14 @@ use Rattle.frame_engine.specs.Shows.{Layout, Safe, TrapFree}
 use Rattle.frame_engine.specs.declared.activation.Places.{Places}
 use Rattle.serial_stack.specs.Steps as serial
 use Rattle.serial_stack.specs.Steps.{HasNoStep, IsStuck, Run}
-use Rattle.serial_stack.specs.Shown.{item_here}
+use Rattle.serial_stack.specs.StackShown.{item_here}
 use Rattle.serial_stack.proofs.Places.{call_here, detach_here, reattach_here, return_here, sync_here}
 use Rattle.strand.specs.frame_strand.Alone as alone
 use Rattle.laws_strands.specs.stacks.Footprint.{memory_of}
 use Rattle.laws_strands.specs.stacks.Strands as strands
 use Rattle.laws_strands.specs.stacks.Strands.{next_action}
 use Rattle.strand.specs.Layouts.{Segment, layout_above}
-use Rattle.strand.specs.Shown.{CanGo, ShowsStrand}
+use Rattle.strand.specs.StrandShown.{CanGo, ShowsStrand}
 use Rattle.strand.specs.declared.strand.Strand.{Strand}
 
 -- a frame below for which an action that does not trap can be done

@@ -30,18 +30,18 @@ use Rattle.frame_engine.proofs.Shown.{first_is}
 use Rattle.frame_engine.proofs.Texts.{behind_step, frame_stands, located}
 use Rattle.strand.proofs.frame_strand.Walking.{one_way}
 use Rattle.strand.specs.frame_strand.declared.cells.Change.TheVariants.{Stored}
-use Rattle.strand.specs.frame_strand.declared.cells.Stop.{Stop}
+use Rattle.strand.specs.frame_strand.declared.cells.CellStop.{CellStop}
 use Rattle.strand_pages.specs.Logs.{IsWider, Log, is_open}
 use Rattle.strand_pages.specs.Tables.{Table, log_of}
 use Rattle.strand_pages.proofs.Opening.{has_place_open, open_changed}
-use Rattle.serial_stack.specs.Shown.{item_here}
+use Rattle.serial_stack.specs.StackShown.{item_here}
 use Rattle.laws_strands.specs.stacks.Strands as strands
 use Rattle.laws_strands.specs.stacks.Strands.{IsStrand}
 use Rattle.laws_strands.specs.stacks.Footprint.{Footprint}
-use Rattle.strand.specs.Kept.{ShowsLog, write_of}
+use Rattle.strand.specs.CellsKept.{ShowsLog, write_of}
 use Rattle.strand.specs.Layouts.{Segment}
 use Rattle.strand.specs.OwnCells.{CanStore, CellsDo, CellsRefuse, DoBy, RefuseBy, any_cell, may_be, own_cell}
-use Rattle.strand.specs.Shown.{CanGo, GoneOn, GoesOn, ShowsStrand, Stands}
+use Rattle.strand.specs.StrandShown.{CanGo, GoneOn, GoesOn, ShowsStrand, Stands}
 use Rattle.strand.specs.declared.cells.StrandCells.{StrandCells}
 use Rattle.strand.specs.declared.strand.Strand.{Strand}
 use Rattle.strand.proofs.Advancing as go
@@ -114,7 +114,7 @@ zeroed_keeps at x (suc n) c (mid, before, done) =
     let t = keeps_by (own_cell mid a) mid c a (pos 0) refl done in
     record { own = λ b some. t.own b (w.own b some); in_use = λ b h. t.in_use b (w.in_use b h) }
 
-refuses_open : (o : Option ℤ) (x c : StrandCells) (a : ℤ) (stop : Stop) → own_cell c a ≡ o → Keeps x c → CanStore x a → RefuseBy o c (Stores a (pos 0)) stop → ⊥
+refuses_open : (o : Option ℤ) (x c : StrandCells) (a : ℤ) (stop : CellStop) → own_cell c a ≡ o → Keeps x c → CanStore x a → RefuseBy o c (Stores a (pos 0)) stop → ⊥
 refuses_open (Some v) x c a stop e keeps can why = why
 refuses_open None x c a stop e keeps can why = from (own_cell x a) refl
   where
@@ -122,7 +122,7 @@ refuses_open None x c a stop e keeps can why = from (own_cell x a) refl
     from (Some v) is = let some = subst IsSome e (keeps.own a (subst IsSome (sym is) refl)) in cc
     from None is = let place = has_place_open (log_of c.log) a (keeps.in_use a (can is)) in let both : true ≡ false = sym place ∙ why.none in cc
 
-pub never_refused : (at : ℤ) (count : ℕ) (x c : StrandCells) (stop : Stop) → ((i : ℕ) → i < count → CanStore x (wrapped Bits64 (at +ℤ pos i))) → ZeroingRefused CellsDo CellsRefuse at count x c stop → ⊥
+pub never_refused : (at : ℤ) (count : ℕ) (x c : StrandCells) (stop : CellStop) → ((i : ℕ) → i < count → CanStore x (wrapped Bits64 (at +ℤ pos i))) → ZeroingRefused CellsDo CellsRefuse at count x c stop → ⊥
 never_refused at count x c stop can why =
     let a = wrapped Bits64 (at +ℤ pos why.number) in
     refuses_open (own_cell c a) x c a stop refl (zeroed_keeps at x why.number c why.before) (can why.number why.low) why.last
@@ -221,7 +221,7 @@ module _ (prog : Program) (places : Places) (x : Strand) (name : ObjectName) (co
         (l : Layout) (p : Path) (g : Frame) (m : Memory) → ShowsFrame l places p g x.top.value → ShowsCells l (any_cell c) (may_be c) m → item_at prog g.function g.block g.index ≡ Some (Does (instruction.StoreZeros count name)) →
         Safe prog l p g m → P l p g m
 
-    pub never_stops : (at : ℤ) → IsFirst (bases_in places x.top.value) x.top.value.registers.items name at → ((i : ℕ) → i < count → CanStore b (wrapped Bits64 (at +ℤ pos i))) → (c : StrandCells) (stop : Stop) →
+    pub never_stops : (at : ℤ) → IsFirst (bases_in places x.top.value) x.top.value.registers.items name at → ((i : ℕ) → i < count → CanStore b (wrapped Bits64 (at +ℤ pos i))) → (c : StrandCells) (stop : CellStop) →
         Says (λ l p g m. (o : Object) × (object_at g name ≡ Some o) × ZeroingRefused CellsDo CellsRefuse (address l (first_cell o)) count b c stop) b → Stands prog places x → ⊥
     never_stops at first can c stop says w =
         let v = wider_stands prog places x b.log wide w in

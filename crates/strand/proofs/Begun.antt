@@ -15,9 +15,9 @@ use Rattle.laws_strands.specs.stacks.Strands.{is_loaded, loaded}
 use Rattle.strand.specs.Along.{GoesAsStrand, IsUnderWay, MayBegin}
 use Rattle.strand.specs.Layouts.{Segment}
 use Rattle.strand.specs.OwnCells.{segment_of}
-use Rattle.strand.specs.Kept.{ShowsKept, ShowsLog}
-use Rattle.serial_stack.specs.Shown.{unboxed}
-use Rattle.strand.specs.Shown.{ShowsBelow}
+use Rattle.strand.specs.CellsKept.{ShowsKept, ShowsLog}
+use Rattle.serial_stack.specs.StackShown.{unboxed}
+use Rattle.strand.specs.StrandShown.{ShowsBelow}
 use Rattle.strand.specs.declared.cells.StrandCells.{StrandCells}
 use Rattle.strand.specs.declared.strand.Strand.{Strand}
 use Rattle.strand.proofs.Logged.{empty_log_shown}

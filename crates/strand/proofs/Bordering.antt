@@ -24,14 +24,14 @@ use Rattle.frame_engine.specs.Activation.{FrameFits, ShowsFrame}
 use Rattle.frame_engine.specs.Fits.{PlaceFits}
 use Rattle.frame_engine.specs.Shows.{Layout}
 use Rattle.frame_engine.proofs.Texts.{Located, ends_fit, frame_stands, located, starts_block}
-use Rattle.serial_stack.specs.Shown.{HasTaker, TextFits, item_here, unboxed}
+use Rattle.serial_stack.specs.StackShown.{HasTaker, TextFits, item_here, unboxed}
 use Rattle.laws_strands.specs.stacks.Strands as strands
 use Rattle.laws_strands.specs.stacks.Strands.{IsStrand, Placed, at, entered, is_detached, is_reattached, reattached}
 use Rattle.laws_strands.proofs.stacks.Rising.{ends_match}
-use Rattle.strand.specs.Kept.{ShowsKept}
+use Rattle.strand.specs.CellsKept.{ShowsKept}
 use Rattle.strand.specs.Layouts.{Segment, end_above, layout_above}
 use Rattle.strand.specs.OwnCells.{segment_of}
-use Rattle.strand.specs.Shown.{BeginsAt, CanGo, GoneOn, NoneMet, ShowsBelow, ShowsOn, ShowsStrand}
+use Rattle.strand.specs.StrandShown.{BeginsAt, CanGo, GoneOn, NoneMet, ShowsBelow, ShowsOn, ShowsStrand}
 use Rattle.strand.specs.declared.strand.Base.{Base}
 use Rattle.strand.specs.declared.strand.Strand.{Strand}
 use Rattle.strand.proofs.Actions.{detaches, placed, reattaches_to}

@@ -25,17 +25,17 @@ use Rattle.frame_engine.specs.Shows.{IsIn, Layout, PointsAlike, ShowsBases, addr
 use Rattle.frame_engine.specs.Words.{bases}
 use Rattle.frame_engine.proofs.Texts.{behind_step, frame_stands, located, starts_block}
 use Rattle.serial_stack.specs.Layouts.{alloca_sizes, with_allocas}
-use Rattle.serial_stack.specs.Shown.{HasTaker, TextFits, item_here, unboxed}
+use Rattle.serial_stack.specs.StackShown.{HasTaker, TextFits, item_here, unboxed}
 use Rattle.serial_stack.proofs.Calling.{call_names}
 use Rattle.serial_stack.proofs.Owners.{address_apart, in_apart, new_bases, old_apart, starts_are}
 use Rattle.serial_stack.proofs.Rows.{either_one}
 use Rattle.laws_strands.specs.stacks.Footprint.{Footprint, put}
 use Rattle.laws_strands.specs.stacks.Strands as strands
 use Rattle.laws_strands.specs.stacks.Strands.{IsStrand, Placed, at, is_called}
-use Rattle.strand.specs.Kept.{HoldsOwn, ShowsKept}
+use Rattle.strand.specs.CellsKept.{HoldsOwn, ShowsKept}
 use Rattle.strand.specs.Layouts.{IsToCome, OwnsNone, Segment, end_above, layout_above}
 use Rattle.strand.specs.OwnCells.{own_cell}
-use Rattle.strand.specs.Shown.{CanGo, GoneOn, ShowsStrand}
+use Rattle.strand.specs.StrandShown.{CanGo, GoneOn, ShowsStrand}
 use Rattle.strand.specs.declared.cells.StrandCells.{StrandCells}
 use Rattle.strand.specs.declared.strand.Strand.{Strand}
 use Rattle.strand.proofs.Actions.{calls_with, placed}

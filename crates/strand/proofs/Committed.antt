@@ -13,7 +13,7 @@ use Rattle.strand.specs.frame_strand.declared.cells.Change.{Change}
 use Rattle.strand.specs.frame_strand.declared.cells.Change.TheVariants.{Stored, Delta}
 use Rattle.strand_pages.specs.Known.{put_change}
 use Rattle.strand_pages.specs.Tables.{log_of}
-use Rattle.strand.specs.Kept.{ShowsKept, write_of}
+use Rattle.strand.specs.CellsKept.{ShowsKept, write_of}
 use Rattle.strand.specs.Layouts.{IsOutside, Segment}
 use Rattle.strand.specs.OwnCells.{segment_of}
 use Rattle.strand.specs.Putting.{ArePutInto, IsOwnBelow}

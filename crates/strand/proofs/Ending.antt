@@ -25,18 +25,18 @@ use Rattle.frame_engine.specs.Fits.{PlaceFits}
 use Rattle.frame_engine.specs.Names.{HasResult, taker_of}
 use Rattle.frame_engine.specs.Shows.{IsIn, Layout, address}
 use Rattle.frame_engine.proofs.Texts.{Located, ends_fit, frame_stands, located, starts_block}
-use Rattle.serial_stack.specs.Shown.{HasTaker, TextFits, item_here, unboxed}
+use Rattle.serial_stack.specs.StackShown.{HasTaker, TextFits, item_here, unboxed}
 use Rattle.serial_stack.specs.Layouts.{alloca_sizes, for_body, with_allocas}
-use Rattle.serial_stack.specs.Shown as serial
+use Rattle.serial_stack.specs.StackShown as serial
 use Rattle.serial_stack.proofs.Owners.{address_apart, in_apart, out_apart}
 use Rattle.laws_strands.specs.stacks.Footprint.{Footprint, memory_of, put, stored, with_writes}
 use Rattle.laws_strands.specs.stacks.Strands as strands
 use Rattle.laws_strands.specs.stacks.Strands.{IsStrand, Placed, at, if_base, is_past_sync, is_returned, next_action, past_sync, returned}
 use Rattle.laws_strands.proofs.stacks.Rising.{Rises, ends_match}
-use Rattle.strand.specs.Kept.{ShowsKept}
+use Rattle.strand.specs.CellsKept.{ShowsKept}
 use Rattle.strand.specs.Layouts.{IsToCome, OwnsNone, Segment, end_above, layout_above}
 use Rattle.strand.specs.OwnCells.{own_cell, segment_of}
-use Rattle.strand.specs.Shown.{BeginsAt, CanGo, GoneOn, NoneMet, ShowsBelow, ShowsStrand}
+use Rattle.strand.specs.StrandShown.{BeginsAt, CanGo, GoneOn, NoneMet, ShowsBelow, ShowsStrand}
 use Rattle.strand.specs.declared.cells.StrandCells.{StrandCells}
 use Rattle.strand.specs.declared.strand.Base.{Base}
 use Rattle.strand.specs.declared.strand.Strand.{Strand}

@@ -19,7 +19,7 @@ use Rattle.strand_pages.specs.Doing.{IsChanged}
 use Rattle.strand_pages.specs.Known.{at_address, first_of, read_after, settled_change, value_of}
 use Rattle.strand_pages.specs.Logs.{Log, empty_log, filled_log, loaded_log, place_of, same_page, value_at}
 use Rattle.strand_pages.proofs.Addresses.{address_tells}
-use Rattle.strand.specs.Kept.{ShowsLog, write_of}
+use Rattle.strand.specs.CellsKept.{ShowsLog, write_of}
 
 at_here : {X : Type 0} (a : ℤ) (n : X) (g : ℤ → X) → at_address a n g a ≡ n
 at_here a n g = elim (address_tells a a) [

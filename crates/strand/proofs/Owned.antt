@@ -17,7 +17,7 @@ use Rattle.strand.specs.frame_strand.Showing.{AreApart}
 use Rattle.strand.specs.frame_strand.declared.cells.Change.TheVariants.{Stored}
 use Rattle.strand_pages.specs.Doing.{IsChanged}
 use Rattle.strand_pages.specs.Tables.{Table, log_of}
-use Rattle.strand.specs.Kept.{HoldsOwn, ShowsKept, ShowsLog}
+use Rattle.strand.specs.CellsKept.{HoldsOwn, ShowsKept, ShowsLog}
 use Rattle.strand.specs.OwnCells.{IsOwnPut, own_cell}
 use Rattle.strand.specs.declared.cells.StrandCells.{StrandCells}
 use Rattle.strand.proofs.Logged.{adds_logged, off_logged, same_logged, stores_logged}

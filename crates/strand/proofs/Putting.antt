@@ -7,7 +7,7 @@ use Rattle.frame.proofs.Changes.{get_other, get_set}
 use Rattle.semantics.specs.Arithmetic.{cell_sum}
 use Rattle.frame_engine.specs.Access.{Access}
 use Rattle.frame_engine.specs.Flat.{cell_in}
-use Rattle.strand.specs.frame_strand.declared.cells.Stop.{Stop}
+use Rattle.strand.specs.frame_strand.declared.cells.CellStop.{CellStop}
 use Rattle.strand_pages.specs.Accessing.{CellHolds, TableDoes, TableRefuses}
 use Rattle.strand_pages.specs.Logs.{value_at}
 use Rattle.strand_pages.specs.Tables.{Table, log_of}
@@ -82,5 +82,5 @@ log_others x b a z kept = from (own_cell x a)
 pub log_does : (x : StrandCells) (b : Table) (access : Access) → own_cell x (address_of access) ≡ None → TableDoes x.log access b → CellsDo x access (record x { log = b })
 log_does x b access none done = subst (λ o. DoBy o x access (record x { log = b })) (sym none) (done, refl)
 
-pub log_refuses : (x : StrandCells) (access : Access) (stop : Stop) → own_cell x (address_of access) ≡ None → TableRefuses x.log access stop → CellsRefuse x access stop
+pub log_refuses : (x : StrandCells) (access : Access) (stop : CellStop) → own_cell x (address_of access) ≡ None → TableRefuses x.log access stop → CellsRefuse x access stop
 log_refuses x access stop none why = subst (λ o. RefuseBy o x access stop) (sym none) why

@@ -13,7 +13,7 @@ use Rattle.strand.specs.frame_strand.declared.cells.Change.TheVariants.{Stored, 
 use Rattle.strand_pages.specs.Known.{value_of}
 use Rattle.strand_pages.specs.Logs.{Log, value_at}
 use Rattle.strand_pages.specs.Tables.{log_of}
-use Rattle.strand.specs.Kept.{ShowsKept, write_of}
+use Rattle.strand.specs.CellsKept.{ShowsKept, write_of}
 use Rattle.strand.specs.Layouts.{IsOutside}
 use Rattle.strand.specs.OwnCells.{any_cell, held_at, may_be, own_cell, own_or, segment_of}
 use Rattle.strand.specs.declared.cells.StrandCells.{StrandCells}

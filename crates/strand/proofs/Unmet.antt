@@ -4,12 +4,12 @@ use Rattle.semantics.specs.Paths.{Path, Under}
 use Rattle.semantics.specs.Cells.{Cell, owns}
 use Rattle.semantics.specs.Frames.{Role}
 use Rattle.program.specs.declared.function.Program.{Program}
-use Rattle.serial_stack.specs.Shown as serial
+use Rattle.serial_stack.specs.StackShown as serial
 use Rattle.laws_strands.specs.stacks.Strands.{Placed}
 use Rattle.laws_strands.specs.stacks.Footprint.{Footprint}
 use Rattle.laws_strands.proofs.stacks.Rising.{Rises}
 use Rattle.strand.specs.Layouts.{IsToCome, end_above}
-use Rattle.strand.specs.Shown.{BeginsAt, NoneMet, NotMet}
+use Rattle.strand.specs.StrandShown.{BeginsAt, NoneMet, NotMet}
 use Rattle.strand.proofs.Coming.{AreClear, IsClear, base_to_come, under_up}
 
 pub met_top : (f : Footprint) (t : Placed) (below : List Placed) → NoneMet f t below → NotMet f t

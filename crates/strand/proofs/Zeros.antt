@@ -15,7 +15,7 @@ use Rattle.frame_engine.proofs.Values.{cells_on}
 use Rattle.strand_pages.specs.Accessing.{TableDoes}
 use Rattle.strand_pages.specs.Logs.{Log}
 use Rattle.strand_pages.specs.Tables.{Table, log_of}
-use Rattle.strand.specs.Kept.{ShowsKept}
+use Rattle.strand.specs.CellsKept.{ShowsKept}
 use Rattle.strand.specs.Layouts.{IsOutside, Segment}
 use Rattle.strand.specs.OwnCells.{CellsDo, DoBy, own_cell, segment_of}
 use Rattle.strand.specs.declared.cells.StrandCells.{StrandCells}

@@ -16,7 +16,7 @@ use Rattle.laws_strands.specs.stacks.Strands as strands
 use Rattle.laws_strands.specs.stacks.Strands.{IsStrand, at}
 use Rattle.strand.specs.Layouts.{IsOutside, Segment, end_above}
 use Rattle.strand.specs.OwnCells.{segment_of}
-use Rattle.strand.specs.Shown.{CanGo, ShowsStrand}
+use Rattle.strand.specs.StrandShown.{CanGo, ShowsStrand}
 use Rattle.strand.specs.declared.strand.Strand.{Strand}
 
 -- The machine's frame shows one that may go on as a strand: wherever it comes within 65,536 instructions with no more

@@ -9,17 +9,17 @@ use Rattle.strand.specs.Along.{GoesAsStrandFrom, IsUnderWay}
 use Rattle.strand.specs.Needs.{LacksPage, NeedsCell}
 use Rattle.strand.specs.declared.cells.StrandCells.{StrandCells}
 use Rattle.strand.specs.declared.strand.Strand.{Strand}
-use Rattle.strand.specs.declared.going.Pause.{Pause}
-use Rattle.strand.specs.declared.going.Pause.TheVariants as pause
+use Rattle.strand.specs.declared.going.StrandPause.{StrandPause}
+use Rattle.strand.specs.declared.going.StrandPause.TheVariants as pause
 
 -- what stands in its way; of a border the strand itself tells (`NeedsBoard`), and at the limit nothing does
-abbrev pub Stopped : Program → Layout → strands.Strand → StrandCells → Pause → Type 0
+abbrev pub Stopped : Program → Layout → strands.Strand → StrandCells → StrandPause → Type 0
 Stopped prog l d b pause.Border = ⊤
 Stopped prog l d b pause.Limit = ⊤
 Stopped prog l d b pause.Full = LacksPage prog l d b
 Stopped prog l d b (pause.Need at) = NeedsCell prog l d b at
 
-pub record IsGoing (prog : Program) (places : Places) (x : Strand) (r : Pause) : Type 0 where
+pub record IsGoing (prog : Program) (places : Places) (x : Strand) (r : StrandPause) : Type 0 where
   pub way : IsUnderWay prog places x
   pub stops : (l : Layout) (g : Frame) (goes : GoesAsStrandFrom prog places l g x) →
       Stopped prog l (way.along l g goes).strand x.cells r

@@ -1,8 +1,8 @@
 pub mod Layouts
 pub mod OwnCells
 pub mod Putting
-pub mod Kept
-pub mod Shown
+pub mod CellsKept
+pub mod StrandShown
 pub mod Along
 pub mod Needs
 pub mod Boards

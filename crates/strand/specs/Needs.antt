@@ -10,15 +10,15 @@ use Rattle.frame_engine.specs.declared.activation.Places.{Places}
 use Rattle.frame_engine.specs.declared.turning.Pause as engine
 use Rattle.frame_engine.specs.declared.turning.Pause.TheVariants as engine_pause
 use Rattle.frame_engine.specs.Shows.{IsIn, Layout, address}
-use Rattle.strand.specs.frame_strand.declared.cells.Stop.{Stop}
-use Rattle.strand.specs.frame_strand.declared.cells.Stop.TheVariants as stop
+use Rattle.strand.specs.frame_strand.declared.cells.CellStop.{CellStop}
+use Rattle.strand.specs.frame_strand.declared.cells.CellStop.TheVariants as stop
 use Rattle.strand_pages.specs.Logs.{has_place, value_at}
 use Rattle.strand_pages.specs.Tables.{log_of}
 use Rattle.laws_strands.specs.FrameStrands as frame_strands
 use Rattle.laws_strands.specs.FrameStrands.{access_of}
 use Rattle.laws_strands.specs.stacks.Strands as strands
 use Rattle.laws_strands.specs.stacks.Strands.{IsStrand}
-use Rattle.strand.specs.Shown.{CanGo, GoneOn, ShowsStrand}
+use Rattle.strand.specs.StrandShown.{CanGo, GoneOn, ShowsStrand}
 use Rattle.strand.specs.Layouts.{Segment}
 use Rattle.strand.specs.declared.cells.StrandCells.{StrandCells}
 use Rattle.strand.specs.declared.strand.Strand.{Strand}
@@ -52,14 +52,14 @@ pub record LacksPage (prog : Program) (l : Layout) (d : strands.Strand) (b : Str
   pub next : Reaches (access_of prog d.top.frame) cell
   pub full : has_place (log_of b.log) (address l cell) ≡ false
 
-abbrev pub PausesAt : Program → Layout → strands.Strand → StrandCells → engine.Pause Stop → Type 0
+abbrev pub PausesAt : Program → Layout → strands.Strand → StrandCells → engine.Pause CellStop → Type 0
 PausesAt prog l d b engine_pause.Border = ⊤
 PausesAt prog l d b engine_pause.Limit = ⊤
 PausesAt prog l d b (engine_pause.Stopped stop.Full) = LacksPage prog l d b
 PausesAt prog l d b (engine_pause.Stopped (stop.Need at)) = NeedsCell prog l d b at
 
 -- the strand goes on to this pause
-abbrev pub GoesTo : Program → Places → Strand → Strand → engine.Pause Stop → Type 0
+abbrev pub GoesTo : Program → Places → Strand → Strand → engine.Pause CellStop → Type 0
 GoesTo prog places old new r =
     (l : Layout) (s : Segment) (d : strands.Strand) → IsStrand prog d → ShowsStrand l prog places s d old →
     CanGo prog l s d →

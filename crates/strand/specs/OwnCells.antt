@@ -3,7 +3,7 @@ use Rattle.std.specs.Prelude.{◌≡◌, ◌≢◌, ℤ, pos, ◌-ℤ◌, Bool, 
 use Rattle.semantics.specs.Arithmetic.{cell_sum}
 use Rattle.frame_engine.specs.Access.{Access, Loads, Stores, Adds}
 use Rattle.frame_engine.specs.Flat.{cell_in}
-use Rattle.strand.specs.frame_strand.declared.cells.Stop.{Stop}
+use Rattle.strand.specs.frame_strand.declared.cells.CellStop.{CellStop}
 use Rattle.strand_pages.specs.Accessing.{TableDoes, TableRefuses}
 use Rattle.strand_pages.specs.Logs.{is_open, value_at}
 use Rattle.strand_pages.specs.Tables.{log_of}
@@ -63,10 +63,10 @@ DoBy None x access after = TableDoes x.log access after.log × (after ≡ record
 abbrev pub CellsDo : StrandCells → Access → StrandCells → Type 0
 CellsDo x access after = DoBy (own_cell x (address_of access)) x access after
 
-abbrev pub RefuseBy : Option ℤ → StrandCells → Access → Stop → Type 0
+abbrev pub RefuseBy : Option ℤ → StrandCells → Access → CellStop → Type 0
 RefuseBy (Some v) x access stop = ⊥
 RefuseBy None x access stop = TableRefuses x.log access stop
 
 -- why an access is not done
-abbrev pub CellsRefuse : StrandCells → Access → Stop → Type 0
+abbrev pub CellsRefuse : StrandCells → Access → CellStop → Type 0
 CellsRefuse x access stop = RefuseBy (own_cell x (address_of access)) x access stop

@@ -10,7 +10,7 @@ ghost use Rattle.strand.specs.OwnCells.{CanStore, CellsDo, CellsRefuse, any_cell
 ghost use Rattle.strand.specs.Putting.{ArePutInto, IsCopiedTo};
 
 use frame_engine::{Cells, behind, sum};
-use strand_pages::{PageLog, Stop};
+use strand_pages::{CellStop, PageLog};
 
 /// The cells of a strand: those of its own frames' allocas, which are a segment of addresses, and what it read and wrote of others.
 #[derive(Drop)]
@@ -130,7 +130,7 @@ impl StrandCells {
 }
 
 impl Cells for StrandCells {
-    type Stop = Stop;
+    type Stop = CellStop;
 
     ghost reaches = { any_cell };
 
@@ -141,7 +141,7 @@ impl Cells for StrandCells {
     ghost refuses = { CellsRefuse };
 
     #[inline(always)]
-    fn load(&mut self, at: i64) -> Result<i64, Stop> {
+    fn load(&mut self, at: i64) -> Result<i64, CellStop> {
         match self.place(&at) {
             Some(place) => Ok(number_at(self.own.as_slice(), place)),
             None => self.log.load(at),
@@ -149,7 +149,7 @@ impl Cells for StrandCells {
     }
 
     #[inline(always)]
-    fn store(&mut self, at: i64, number: i64) -> Result<(), Stop> {
+    fn store(&mut self, at: i64, number: i64) -> Result<(), CellStop> {
         match self.place(&at) {
             Some(place) => {
                 self.own[place] = number;
@@ -159,7 +159,7 @@ impl Cells for StrandCells {
         }
     }
 
-    fn add(&mut self, at: i64, number: i64) -> Result<(), Stop> {
+    fn add(&mut self, at: i64, number: i64) -> Result<(), CellStop> {
         match self.place(&at) {
             Some(place) => {
                 self.own[place] = sum(number_at(self.own.as_slice(), place), number);

@@ -11,6 +11,6 @@ mod loading;
 mod strand;
 
 pub use cells::StrandCells;
-pub use going::Pause;
+pub use going::StrandPause;
 pub use strand::{Base, Strand};
 pub use strand_pages::page_around;

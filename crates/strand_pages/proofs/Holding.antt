@@ -8,7 +8,7 @@ use Rattle.semantics.specs.Arithmetic.{cell_sum}
 use Rattle.frame_strand.specs.Buffers.{raised_change}
 use Rattle.frame_strand.specs.declared.cells.Change.{Change}
 use Rattle.frame_strand.specs.declared.cells.Change.TheVariants.{Stored, Delta}
-use Rattle.frame_strand.specs.declared.cells.Stop.{Stop}
+use Rattle.frame_strand.specs.declared.cells.CellStop.{CellStop}
 use Rattle.strand_pages.specs.Bits.{is_set}
 use Rattle.strand_pages.specs.Doing.{IsChanged, IsLoaded, may_hold}
 use Rattle.strand_pages.specs.Known.{settled_change, value_of}
@@ -84,19 +84,19 @@ summed n None (Some w) None sound z old v h = same_Some v (cell_sum w n) (sym h)
 -- ---- as the engine's cells
 
 module _ (x y : Table) where
-  pub loads_keep : (r : Result ℤ Stop) (a : ℤ) → OnOk r (IsLoaded (log_of x) a (log_of y)) → OnErr r (y ≡ x) → (b z : ℤ) → may_hold (log_of x) b z → may_hold (log_of y) b z
+  pub loads_keep : (r : Result ℤ CellStop) (a : ℤ) → OnOk r (IsLoaded (log_of x) a (log_of y)) → OnErr r (y ≡ x) → (b z : ℤ) → may_hold (log_of x) b z → may_hold (log_of y) b z
   loads_keep (Ok n) a done same b z old v h = old v (sym (loaded_value (log_of x) a b) ∙ ap (λ (l : Log). value_at l b) (sym done.is) ∙ h)
   loads_keep (Err s) a done same b z old v h = old v (ap (λ (t : Table). value_at (log_of t) b) (sym same) ∙ h)
 
-  pub stored_here : (r : Result (Unit {0}) Stop) (a z : ℤ) → OnOk r (IsChanged (log_of x) a (Stored z) (log_of y)) → OnOk r (may_hold (log_of y) a z)
+  pub stored_here : (r : Result (Unit {0}) CellStop) (a z : ℤ) → OnOk r (IsChanged (log_of x) a (Stored z) (log_of y)) → OnOk r (may_hold (log_of y) a z)
   stored_here (Ok u) a z done = λ v h. same_Some v z (sym h ∙ ap (λ (l : Log). value_at l a) done.is ∙ changed_here (log_of x) a (Stored z))
   stored_here (Err s) a z done = tt
 
-  pub others_stay : (r : Result (Unit {0}) Stop) (a : ℤ) (u : Change) → OnOk r (IsChanged (log_of x) a u (log_of y)) → OnErr r (y ≡ x) → (b z : ℤ) → may_hold (log_of x) b z → b ≢ a → may_hold (log_of y) b z
+  pub others_stay : (r : Result (Unit {0}) CellStop) (a : ℤ) (u : Change) → OnOk r (IsChanged (log_of x) a u (log_of y)) → OnErr r (y ≡ x) → (b z : ℤ) → may_hold (log_of x) b z → b ≢ a → may_hold (log_of y) b z
   others_stay (Ok i) a u done same b z old off v h = old v (sym (changed_there (log_of x) a u b off) ∙ ap (λ (l : Log). value_at l b) (sym done.is) ∙ h)
   others_stay (Err s) a u done same b z old off v h = old v (ap (λ (t : Table). value_at (log_of t) b) (sym same) ∙ h)
 
-  pub added_here : (r : Result (Unit {0}) Stop) (a n : ℤ) → OnOk r (IsChanged (log_of x) a (raised_change n ((log_of x).writes a) ((log_of x).reads a)) (log_of y)) →
+  pub added_here : (r : Result (Unit {0}) CellStop) (a n : ℤ) → OnOk r (IsChanged (log_of x) a (raised_change n ((log_of x).writes a) ((log_of x).reads a)) (log_of y)) →
       OnOk r ((z : ℤ) → may_hold (log_of x) a z → may_hold (log_of y) a (cell_sum z n))
   added_here (Ok i) a n done = λ z old v h. summed n ((log_of x).writes a) ((log_of x).near a) ((log_of x).reads a) (table_sound x a) z old v
       (sym (changed_here (log_of x) a (raised_change n ((log_of x).writes a) ((log_of x).reads a))) ∙ ap (λ (l : Log). value_at l a) (sym done.is) ∙ h)

@@ -4,8 +4,8 @@ use Rattle.frame_engine.specs.Access.{Access, Loads, Stores, Adds}
 use Rattle.frame_strand.specs.Buffers.{raised_change}
 use Rattle.frame_strand.specs.declared.cells.Change.{Change}
 use Rattle.frame_strand.specs.declared.cells.Change.TheVariants.{Stored}
-use Rattle.frame_strand.specs.declared.cells.Stop.{Stop}
-use Rattle.frame_strand.specs.declared.cells.Stop.TheVariants.{Full, Need}
+use Rattle.frame_strand.specs.declared.cells.CellStop.{CellStop}
+use Rattle.frame_strand.specs.declared.cells.CellStop.TheVariants.{Full, Need}
 use Rattle.strand_pages.specs.Logs.{Log, changed_log, has_place, loaded_log, value_at}
 
 -- as far as the log tells, the cell at the address may hold the number
@@ -23,12 +23,12 @@ pub record IsLoaded (x : Log) (a : ℤ) (after : Log) : Type 0 where
   pub is : after ≡ loaded_log x a
 
 -- the cell is not at hand; its page may be filled, or there is no place for it
-pub record IsMissing (x : Log) (a : ℤ) (stop : Stop) : Type 0 where
+pub record IsMissing (x : Log) (a : ℤ) (stop : CellStop) : Type 0 where
   pub absent : value_at x a ≡ None
   pub is : stop ≡ cond (has_place x a) (Need a) Full
 
 -- there is no place for the cell
-pub record LacksPlace (x : Log) (a : ℤ) (stop : Stop) : Type 0 where
+pub record LacksPlace (x : Log) (a : ℤ) (stop : CellStop) : Type 0 where
   pub none : has_place x a ≡ false
   pub is : stop ≡ Full
 
@@ -37,7 +37,7 @@ LogDoes x (Loads a) after = IsLoaded x a after
 LogDoes x (Stores a z) after = IsChanged x a (Stored z) after
 LogDoes x (Adds a z) after = IsChanged x a (raised_change z (x.writes a) (x.reads a)) after
 
-abbrev pub LogRefuses : Log → Access → Stop → Type 0
+abbrev pub LogRefuses : Log → Access → CellStop → Type 0
 LogRefuses x (Loads a) stop = IsMissing x a stop
 LogRefuses x (Stores a z) stop = LacksPlace x a stop
 LogRefuses x (Adds a z) stop = LacksPlace x a stop

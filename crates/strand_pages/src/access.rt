@@ -2,10 +2,10 @@ ghost use Rattle.strand_pages.specs.Accessing.{CellHolds, TableDoes, TableRefuse
 
 use crate::log::PageLog;
 use frame_engine::Cells;
-use frame_strand::Stop;
+use frame_strand::CellStop;
 
 impl Cells for PageLog {
-    type Stop = Stop;
+    type Stop = CellStop;
 
     ghost reaches = { any_address };
 
@@ -16,17 +16,17 @@ impl Cells for PageLog {
     ghost refuses = { TableRefuses };
 
     #[inline(always)]
-    fn load(&mut self, at: i64) -> Result<i64, Stop> {
+    fn load(&mut self, at: i64) -> Result<i64, CellStop> {
         self.load_at(&at)
     }
 
     #[inline(always)]
-    fn store(&mut self, at: i64, number: i64) -> Result<(), Stop> {
+    fn store(&mut self, at: i64, number: i64) -> Result<(), CellStop> {
         self.store_at(&at, &number)
     }
 
     #[inline(always)]
-    fn add(&mut self, at: i64, number: i64) -> Result<(), Stop> {
+    fn add(&mut self, at: i64, number: i64) -> Result<(), CellStop> {
         self.add_at(&at, &number)
     }
 }

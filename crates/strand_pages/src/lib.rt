@@ -10,6 +10,6 @@ mod log;
 mod page;
 mod row;
 
-pub use frame_strand::{Stop, copy_frame};
+pub use frame_strand::{CellStop, copy_frame};
 pub use log::{PAGES, PageLog};
 pub use row::page_around;

@@ -11,7 +11,7 @@ ghost use Rattle.strand_pages.specs.Tables.{IsTable, entry_of, log_of};
 ghost use Rattle.strand_pages.specs.declared.page.Page.{Page};
 
 use crate::page::{CELLS, Page};
-use frame_strand::{Change, Stop};
+use frame_strand::{CellStop, Change};
 use lists::OutOfMemory;
 use std::alloc::Global;
 use std::marker::Model;
@@ -220,19 +220,19 @@ impl PageLog {
     /// Why a cell whose page is not in use cannot be loaded.
     #[cold]
     #[inline(never)]
-    fn missing(&self, at: &i64) -> Stop
+    fn missing(&self, at: &i64) -> CellStop
         requires { entry_of self.now.directory at.now ≡ 0 }
         ensures { IsMissing (log_of self.now) at.now result }
     {
         match self.next_page(at) {
-            Some(_) => Stop::Need { at: *at },
-            None => Stop::Full,
+            Some(_) => CellStop::Need { at: *at },
+            None => CellStop::Full,
         }
     }
 
     /// What the cell holds, if that is at hand.
     #[inline(always)]
-    pub(crate) fn load_at(&mut self, at: &i64) -> Result<i64, Stop>
+    pub(crate) fn load_at(&mut self, at: &i64) -> Result<i64, CellStop>
         ensures value { IfOk result (λ number. value_at (log_of self.old) at.now ≡ Some number) }
         ensures done { OnOk result (IsLoaded (log_of self.old) at.now (log_of self.new)) }
         ensures refused { IfErr result (λ stop. IsMissing (log_of self.old) at.now stop) }
@@ -244,7 +244,7 @@ impl PageLog {
         }
         match self.load_from(entry as usize - 1, at) {
             Some(number) => Ok(number),
-            None => Err(Stop::Need { at: *at }),
+            None => Err(CellStop::Need { at: *at }),
         }
     }
 
@@ -260,7 +260,7 @@ impl PageLog {
     /// The cell, whose page is not in use, is to hold the number.
     #[cold]
     #[inline(never)]
-    fn store_first(&mut self, at: &i64, number: &i64) -> Result<(), Stop>
+    fn store_first(&mut self, at: &i64, number: &i64) -> Result<(), CellStop>
         requires { entry_of self.old.directory at.now ≡ 0 }
         ensures done { OnOk result (IsChanged (log_of self.old) at.now (Change.Stored number.now) (log_of self.new)) }
         ensures refused { IfErr result (λ stop. LacksPlace (log_of self.old) at.now stop) }
@@ -271,13 +271,13 @@ impl PageLog {
                 self.store_in(slot, at, number);
                 Ok(())
             }
-            None => Err(Stop::Full),
+            None => Err(CellStop::Full),
         }
     }
 
     /// The cell is to hold the number.
     #[inline(always)]
-    pub(crate) fn store_at(&mut self, at: &i64, number: &i64) -> Result<(), Stop>
+    pub(crate) fn store_at(&mut self, at: &i64, number: &i64) -> Result<(), CellStop>
         ensures done { OnOk result (IsChanged (log_of self.old) at.now (Change.Stored number.now) (log_of self.new)) }
         ensures refused { IfErr result (λ stop. LacksPlace (log_of self.old) at.now stop) }
         ensures unchanged { OnErr result (self.new ≡ self.old) }
@@ -302,7 +302,7 @@ impl PageLog {
 
     /// The number is added to what the cell holds.
     #[inline(always)]
-    pub(crate) fn add_at(&mut self, at: &i64, number: &i64) -> Result<(), Stop>
+    pub(crate) fn add_at(&mut self, at: &i64, number: &i64) -> Result<(), CellStop>
         ensures done { OnOk result (IsChanged (log_of self.old) at.now
             (raised_change number.now ((log_of self.old).writes at.now) ((log_of self.old).reads at.now)) (log_of self.new)) }
         ensures refused { IfErr result (λ stop. LacksPlace (log_of self.old) at.now stop) }
@@ -313,7 +313,7 @@ impl PageLog {
                 self.add_in(slot, at, number);
                 Ok(())
             }
-            None => Err(Stop::Full),
+            None => Err(CellStop::Full),
         }
     }
 

@@ -32,7 +32,7 @@ mod trace;
 pub use change::{CellPlace, Change, Setting, Settings, Thing, Value, Written};
 pub use figures::{Crew, Effort, Figures};
 pub use module::{printed, show};
-pub use moment::{Act, Hindrance, Moment, Outcome, Place, TaskName};
+pub use moment::{Act, Hindrance, Moment, Outcome, TaskName, TaskPlace};
 pub use names::{Names, ThingName};
 pub use page::{MOST_EVENTS, Start};
 pub use pictures::Scene;

@@ -17,7 +17,7 @@ impl fmt::Display for TaskName<'_> {
 }
 
 /// Where a task stands between two events.
-pub struct Place {
+pub struct TaskPlace {
     pub task: Path,
     /// The frame on top of it, which executes its next instruction.
     pub frame: Path,
@@ -26,9 +26,9 @@ pub struct Place {
 }
 
 /// Written out, so that no crate above proves it anew.
-impl Drop for Place {
+impl Drop for TaskPlace {
     fn drop(self) {
-        let Place {
+        let TaskPlace {
             task: _,
             frame: _,
             line: _,
@@ -105,7 +105,7 @@ pub enum Act {
 /// One event of a run.
 pub struct Moment {
     /// Where the event found the task that it is about: the worker's own, or the one to be taken. None where there is none.
-    pub place: Option<Place>,
+    pub place: Option<TaskPlace>,
     pub act: Act,
     pub outcome: Outcome,
     /// What registers and cells it set, where that was asked for.

@@ -2,7 +2,7 @@ pub mod Cases
 pub mod CodeSlots
 pub mod Words
 pub mod Rows
-pub mod Kept
+pub mod WindowsKept
 pub mod Calling
 pub mod Leaving
 pub mod Forking

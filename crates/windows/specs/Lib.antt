@@ -1,7 +1,7 @@
 pub mod Passing
 pub mod CodeSlots
 pub mod Nested
-pub mod Shown
+pub mod WindowsShown
 pub mod Runs
 pub mod Walks
 pub mod Slots

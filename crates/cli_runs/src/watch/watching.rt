@@ -8,7 +8,7 @@ use frame::Path;
 use lists::OutOfMemory;
 use schedule_core::{Event, Machine, Memory, RunFault, Status, TaskView, Verified};
 use std::alloc::Global;
-use views::{Act, Change, Hindrance, Moment, Outcome, Place, Settings, Written};
+use views::{Act, Change, Hindrance, Moment, Outcome, Settings, TaskPlace, Written};
 
 /// A run that is watched: each event gives a [`Moment`].
 pub struct Watch<'v> {
@@ -36,8 +36,8 @@ impl Drop for Watch<'_> {
 }
 
 /// Where a task stands.
-fn place_of(alloc: Global, view: &TaskView<'_>) -> Result<Place, OutOfMemory> {
-    Ok(Place {
+fn place_of(alloc: Global, view: &TaskView<'_>) -> Result<TaskPlace, OutOfMemory> {
+    Ok(TaskPlace {
         task: view.path.copy(alloc)?,
         frame: view.top_path.copy(alloc)?,
         line: view.line,
@@ -45,7 +45,10 @@ fn place_of(alloc: Global, view: &TaskView<'_>) -> Result<Place, OutOfMemory> {
 }
 
 /// Where a task stands, if there is one.
-pub fn place_if(alloc: Global, view: Option<TaskView<'_>>) -> Result<Option<Place>, OutOfMemory> {
+pub fn place_if(
+    alloc: Global,
+    view: Option<TaskView<'_>>,
+) -> Result<Option<TaskPlace>, OutOfMemory> {
     match view {
         Some(view) => Ok(Some(place_of(alloc, &view)?)),
         None => Ok(None),
@@ -61,7 +64,11 @@ pub(crate) fn path_of<'m>(machine: &'m Machine<'_>, worker: u8) -> Option<&'m Pa
 }
 
 /// What the worker does after a step for a task, where it has one now: within one task its top tells, else the tasks.
-fn after_work(alloc: Global, before: &Place, now: &TaskView<'_>) -> Result<Outcome, OutOfMemory> {
+fn after_work(
+    alloc: Global,
+    before: &TaskPlace,
+    now: &TaskView<'_>,
+) -> Result<Outcome, OutOfMemory> {
     let is_same = now.path.is_same(&before.task);
     let (new, old) = if is_same {
         (now.top_path, &before.frame)
@@ -86,7 +93,7 @@ pub fn after_step(
     alloc: Global,
     machine: &Machine<'_>,
     worker: u8,
-    before: &Place,
+    before: &TaskPlace,
 ) -> Result<Outcome, OutOfMemory> {
     if machine.ended() {
         return Ok(Outcome::Returns);
@@ -130,7 +137,7 @@ fn steal_hindrance(machine: &Machine<'_>, workers: usize, worker: u8, task: &Pat
 }
 
 /// A moment of an event that was not enabled.
-fn missed(place: Option<Place>, hindrance: Hindrance) -> Moment {
+fn missed(place: Option<TaskPlace>, hindrance: Hindrance) -> Moment {
     Moment {
         place,
         act: Act::Plain,
@@ -255,7 +262,7 @@ impl<'v> Watch<'v> {
         &self,
         plan: &Plan,
         worker: u8,
-        place: &Place,
+        place: &TaskPlace,
         outcome: &Outcome,
     ) -> Result<Change, OutOfMemory> {
         let now = self.machine.task_of(worker);
@@ -276,7 +283,7 @@ impl<'v> Watch<'v> {
     fn note_frames(
         &mut self,
         worker: u8,
-        place: &Place,
+        place: &TaskPlace,
         outcome: &Outcome,
     ) -> Result<(), OutOfMemory> {
         match (outcome, self.machine.task_of(worker)) {
@@ -297,7 +304,7 @@ impl<'v> Watch<'v> {
         &mut self,
         plan: &Plan,
         worker: u8,
-        place: &Place,
+        place: &TaskPlace,
         outcome: &Outcome,
     ) -> Result<Option<Change>, OutOfMemory> {
         if !self.is_detailed {
@@ -312,7 +319,7 @@ impl<'v> Watch<'v> {
         &mut self,
         event: &Event,
         worker: u8,
-        place: Place,
+        place: TaskPlace,
         plan: Plan,
     ) -> Result<Moment, OutOfMemory> {
         if !self.machine.apply(event)? {

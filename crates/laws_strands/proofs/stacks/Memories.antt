@@ -6,7 +6,7 @@ use Rattle.semantics.specs.Frames.{Frame}
 use Rattle.semantics.specs.Effect.{Action, Plain, Detach, Reattach, Sync, Call, Return, action_of}
 use Rattle.semantics.proofs.Actions.{reads_of, adds_of, action_kept}
 use Rattle.laws_strands.specs.stacks.Footprint.{Footprint, held, memory_of, seen}
-use Rattle.laws_strands.specs.stacks.Strands.{IsHeld, AnyMemoryServes, WritesAreSeen}
+use Rattle.laws_strands.specs.stacks.Strands.{IsActionHeld, AnyMemoryServes, WritesAreSeen}
 use Rattle.laws_strands.proofs.stacks.Keeping.{Agrees, held_put, put_after}
 use Rattle.laws_strands.proofs.stacks.Stepping.{LeavesCells, some_is}
 use Rattle.laws_strands.proofs.stacks.Traps.{add_there}
@@ -28,7 +28,7 @@ module _ (prog : Program) (p : Path) (g : Frame) (f : Footprint) (m : Memory) (a
       let (y, is) = some_is (held f x) h in
       ap (λ o. Some (or_zero o)) is ∙ sym (held_put m f agrees x y is)
 
-  serves : (a : Action) → action_of prog p g (seen m f) ≡ a → IsHeld f a → action_of prog p g (memory_of f) ≡ a
+  serves : (a : Action) → action_of prog p g (seen m f) ≡ a → IsActionHeld f a → action_of prog p g (memory_of f) ≡ a
   serves (Plain e) is (fine, holds) =
       action_kept prog p g (seen m f) (memory_of f)
       (λ x h. read_same x (holds x (subst (λ b. reads_of b x ≡ true) is h)))

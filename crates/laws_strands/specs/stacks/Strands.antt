@@ -134,13 +134,13 @@ pub data IsStrand (prog : Program) : Strand → Type 0 where
 -- ---- over a whole memory
 
 -- a plain instruction does not trap, and what it reads is held
-abbrev pub IsHeld : Footprint → Action → Type 0
-IsHeld f (Plain e) = (e.trap ≡ None) × Holds f e
-IsHeld f (Detach region body continuation) = ⊤
-IsHeld f (Reattach region) = ⊤
-IsHeld f (Sync region block registers) = ⊤
-IsHeld f (Call register callee values) = ⊤
-IsHeld f (Return result) = ⊤
+abbrev pub IsActionHeld : Footprint → Action → Type 0
+IsActionHeld f (Plain e) = (e.trap ≡ None) × Holds f e
+IsActionHeld f (Detach region body continuation) = ⊤
+IsActionHeld f (Reattach region) = ⊤
+IsActionHeld f (Sync region block registers) = ⊤
+IsActionHeld f (Call register callee values) = ⊤
+IsActionHeld f (Return result) = ⊤
 
 -- what the top frame does with any memory that holds what was read, and into which what was written is put, is the
 -- strand's next action
@@ -148,7 +148,7 @@ abbrev pub AnyMemoryServes : Type 0
 AnyMemoryServes =
     (prog : Program) (d : Strand) (m : Memory) → ((x : Cell) (v : ℤ) → d.footprint.reads x ≡ Some v → m x ≡ Some v) →
     (a : Action) →
-    action_of prog d.top.path d.top.frame (seen m d.footprint) ≡ a → IsHeld d.footprint a → next_action prog d ≡ a
+    action_of prog d.top.path d.top.frame (seen m d.footprint) ≡ a → IsActionHeld d.footprint a → next_action prog d ≡ a
 
 -- and it leaves the memory into which what is written after it is put
 abbrev pub WritesAreSeen : Type 0

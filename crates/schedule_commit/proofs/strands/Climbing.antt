@@ -22,11 +22,11 @@ use Rattle.frame_engine.specs.declared.activation.Places.{Places}
 use Rattle.frame_engine.specs.Activation.{FrameFits, ShowsFrame, allocas_of}
 use Rattle.frame_engine.specs.Shows.{Layout}
 use Rattle.strand.specs.serial_stack.Layouts.{alloca_sizes, for_body, offset_in, with_allocas}
-use Rattle.strand.specs.serial_stack.Shown as serial
-use Rattle.strand.specs.serial_stack.Shown.{HasTaker, unboxed}
+use Rattle.strand.specs.serial_stack.StackShown as serial
+use Rattle.strand.specs.serial_stack.StackShown.{HasTaker, unboxed}
 use Rattle.schedule_workers.specs.Going.{IsAbove, PointsUp, TextFits}
 use Rattle.schedule_workers.specs.Layouts.{number_in, own_at}
-use Rattle.schedule_workers.specs.Shown.{cells_in}
+use Rattle.schedule_workers.specs.RunShown.{cells_in}
 use Rattle.schedule_workers.proofs.Pointing.{IsAlike, IsApart, shown_on}
 use Rattle.laws_strands.specs.stacks.Strands as strands
 use Rattle.laws_strands.specs.stacks.Strands.{IsStrand, Placed}
@@ -34,7 +34,7 @@ use Rattle.laws_strands.specs.stacks.Law.{CountsAre, IsOrderly, Runs, absorbed, 
 use Rattle.laws_strands.proofs.stacks.Counting.{strands_count}
 use Rattle.laws_strands.proofs.stacks.Rising.{AreBehind, IsBehind, Rises, behind, new_is_none, rises}
 use Rattle.strand.specs.Layouts.{Segment, end_above, layout_above}
-use Rattle.strand.specs.Shown.{CanGo, ShowsBelow, ShowsOn, ShowsStrand}
+use Rattle.strand.specs.StrandShown.{CanGo, ShowsBelow, ShowsOn, ShowsStrand}
 use Rattle.strand.specs.declared.strand.Strand.{Strand}
 use Rattle.strand.proofs.Coming.{under_long}
 use Rattle.strand.proofs.Over.{low_end, room_below}

@@ -14,7 +14,7 @@ use Rattle.schedule_workers.specs.declared.activation.Activation.{Activation}
 use Rattle.schedule_workers.specs.declared.run.Run.{Run}
 use Rattle.schedule_workers.specs.Stalls.{last_blocks}
 use Rattle.schedule_workers.specs.Going.{RunsSafely, TextFits}
-use Rattle.schedule_workers.specs.Shown.{IsShown}
+use Rattle.schedule_workers.specs.RunShown.{IsShown}
 use Rattle.schedule_commit.proofs.Sound.{never_traps}
 use Rattle.laws_strands.specs.Law.{Happen, steps_by}
 use Rattle.laws_strands.specs.stacks.Law.{IsOrderly, absorbed}
@@ -27,7 +27,7 @@ use Rattle.schedule_commit.specs.strands.Fitting.{FitsStrand}
 use Rattle.schedule_commit.specs.strands.Linking.{AreLinks}
 use Rattle.schedule_commit.proofs.strands.OfRun.{IsStrandOfRun, callee_none, strand_of_run}
 use Rattle.schedule_commit.proofs.strands.Noting.{last_off}
-use Rattle.schedule_commit.proofs.strands.Shown.{committed_shown, committed_stalls, mid_tree}
+use Rattle.schedule_commit.proofs.strands.CommitShown.{committed_shown, committed_stalls, mid_tree}
 use Rattle.schedule_commit.proofs.strands.Stood.{AreSeated, final_tree, seated, still_there}
 
 module _ (prog : Program) (places : Places) (moves : ℕ) (text : TextFits prog places moves) (k new : Run) (x : Strand) (worker slot : ℕ) (fits : FitsStrand prog k worker x slot) (within : worker < length k.hands.items) (way : IsUnderWay prog places x)

@@ -28,13 +28,13 @@ use Rattle.frame_engine.specs.declared.activation.Places.{Places}
 use Rattle.frame_engine.specs.Activation.{FrameFits, allocas_of}
 use Rattle.frame_engine.specs.Names.{HasResult}
 use Rattle.frame_engine.specs.Shows.{Layout}
-use Rattle.strand.specs.serial_stack.Shown as serial
+use Rattle.strand.specs.serial_stack.StackShown as serial
 use Rattle.schedule_workers.specs.declared.activation.Activation.{Activation}
 use Rattle.schedule_workers.specs.declared.run.Run.{Run}
 use Rattle.schedule_workers.specs.Layouts.{alloca_at, number_in, own_at}
 use Rattle.schedule_workers.specs.Lent.{IsFree}
 use Rattle.schedule_workers.specs.Scheduling.{counted_in, hand_of, living_in}
-use Rattle.schedule_workers.specs.Shown.{CalleeStands, HasBlock, HasTaker, IsShown, ShowsAt, ShowsNode, place_of}
+use Rattle.schedule_workers.specs.RunShown.{CalleeStands, HasBlock, HasTaker, IsShown, ShowsAt, ShowsNode, place_of}
 use Rattle.schedule_workers.proofs.Changed.{Holds}
 use Rattle.schedule_workers.proofs.Handing.{hand_set, taken_up}
 use Rattle.laws_strands.specs.stacks.Strands.{Placed}

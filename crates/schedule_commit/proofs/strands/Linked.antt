@@ -13,7 +13,7 @@ use Rattle.schedule_workers.specs.declared.activation.Activation.{Activation}
 use Rattle.schedule_workers.specs.Copying.{IsFrameCopy}
 use Rattle.schedule_workers.specs.Scheduling.{counted_in}
 use Rattle.schedule_commit.specs.strands.Linking.{AreLinks, IsActivation, IsFrameOf, IsLink, RegionsFit, counted_above, counted_of, frames_of, path_of, runner_below}
-use Rattle.strand.specs.serial_stack.Shown.{unboxed}
+use Rattle.strand.specs.serial_stack.StackShown.{unboxed}
 use Rattle.strand.specs.declared.strand.Strand.{Strand}
 
 -- ---- lists

@@ -23,7 +23,7 @@ use Rattle.schedule_workers.specs.declared.activation.Activation.{Activation}
 use Rattle.schedule_workers.specs.declared.run.Run.{Run}
 use Rattle.schedule_workers.specs.Going.{CanGo as CanGoOn, PointsUp, RunsSafely, TextFits}
 use Rattle.schedule_workers.specs.Layouts.{layout_of, object_at}
-use Rattle.schedule_workers.specs.Shown.{IsShown, place_of}
+use Rattle.schedule_workers.specs.RunShown.{IsShown, place_of}
 use Rattle.schedule_workers.proofs.Lending.{free_outside, free_small}
 use Rattle.schedule_workers.proofs.Onward.{free_callee, seen, standing}
 use Rattle.schedule_workers.proofs.Standing.{can_step, may_go_on}
@@ -37,7 +37,7 @@ use Rattle.laws_strands.specs.stacks.Law.{Fits, IsOrderly, ReadsAgree, Runs, abs
 use Rattle.laws_strands.proofs.stacks.Law.{reads_are_there, strands_are_steps}
 use Rattle.strand.specs.Along.{GoesAsStrand, IsAlong, IsLent, IsUnderWay}
 use Rattle.strand.specs.OwnCells.{segment_of}
-use Rattle.strand.specs.Shown.{CanGo, ShowsStrand}
+use Rattle.strand.specs.StrandShown.{CanGo, ShowsStrand}
 use Rattle.strand.specs.declared.strand.Strand.{Strand}
 use Rattle.schedule_commit.specs.strands.Absorbing.{GoAsStrandsIn}
 use Rattle.schedule_commit.specs.strands.Fitting.{FitsStrand, HasNoChild, segment_block}

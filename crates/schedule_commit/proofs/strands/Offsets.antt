@@ -14,7 +14,7 @@ use Rattle.strand.specs.serial_stack.Layouts.{alloca_sizes, allocas_in, for_body
 use Rattle.strand.proofs.Living.{alloca_cells as text_cells}
 use Rattle.schedule_workers.specs.Going.{TextFits}
 use Rattle.schedule_workers.specs.Layouts.{alloca_cells, number_in, own_cells}
-use Rattle.schedule_workers.specs.Shown.{cells_in}
+use Rattle.schedule_workers.specs.RunShown.{cells_in}
 use Rattle.schedule_workers.proofs.Rows.{cells_are, sizes_of, small_number, starts_are, sum_more}
 
 sizes_same : (o : Option Function) → sizes_of o ≡ allocas_in o

@@ -20,7 +20,7 @@ use Rattle.strand.specs.strand_pages.Tables.{log_of}
 use Rattle.schedule_workers.specs.declared.activation.Activation.{Activation}
 use Rattle.schedule_workers.specs.declared.run.Run.{Run}
 use Rattle.schedule_workers.specs.Scheduling.{counted_in}
-use Rattle.schedule_workers.specs.Shown.{place_of}
+use Rattle.schedule_workers.specs.RunShown.{place_of}
 use Rattle.schedule_workers.specs.Going.{TextFits}
 use Rattle.schedule_workers.proofs.Onward.{seen}
 use Rattle.schedule_workers.proofs.Views.{frame_found, hand_seen}
@@ -32,9 +32,9 @@ use Rattle.laws_strands.specs.stacks.Law.{absorbed}
 use Rattle.laws_strands.proofs.stacks.Law.{strands_are_steps}
 use Rattle.strand.specs.Layouts.{end_above}
 use Rattle.strand.specs.OwnCells.{segment_of}
-use Rattle.strand.specs.Shown.{ShowsBelow}
+use Rattle.strand.specs.StrandShown.{ShowsBelow}
 use Rattle.strand.proofs.Over.{low_end}
-use Rattle.strand.specs.serial_stack.Shown.{unboxed}
+use Rattle.strand.specs.serial_stack.StackShown.{unboxed}
 use Rattle.strand.specs.declared.strand.Strand.{Strand}
 use Rattle.schedule_commit.specs.strands.Absorbing.{StandsForStrands}
 use Rattle.schedule_commit.specs.strands.Committing.{MayCount}

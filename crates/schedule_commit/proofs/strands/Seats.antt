@@ -34,7 +34,7 @@ use Rattle.schedule_workers.specs.declared.run.Block.{Block}
 use Rattle.schedule_workers.specs.Layouts.{alloca_at, number_in, own_at}
 use Rattle.schedule_workers.specs.Lent.{IsFree}
 use Rattle.schedule_workers.specs.Scheduling.{counted_in, hand_of}
-use Rattle.schedule_workers.specs.Shown.{HasBlock, IsBlockOf, IsPlaced, IsShown, LiesWithin, ShowsAt, ShowsNode, cells_in, place_of}
+use Rattle.schedule_workers.specs.RunShown.{HasBlock, IsBlockOf, IsPlaced, IsShown, LiesWithin, ShowsAt, ShowsNode, cells_in, place_of}
 use Rattle.schedule_workers.proofs.Handing.{own_hand}
 use Rattle.schedule_workers.proofs.Lengths.{not_there}
 use Rattle.schedule_workers.proofs.Views.{hand_seen, named_at_place}

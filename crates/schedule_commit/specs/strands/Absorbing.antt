@@ -10,11 +10,11 @@ use Rattle.frame_engine.specs.declared.activation.Places.{Places}
 use Rattle.schedule_workers.specs.declared.run.Run.{Run}
 use Rattle.schedule_workers.specs.Going.{RunsSafely}
 use Rattle.schedule_workers.specs.Layouts.{layout_of, living}
-use Rattle.schedule_workers.specs.Shown.{IsShown}
+use Rattle.schedule_workers.specs.RunShown.{IsShown}
 use Rattle.schedule_workers.specs.Stalls.{Blocks, StallsAgree, last_blocks}
 use Rattle.strand.specs.Along.{LoadsGoAsStrands}
 use Rattle.strand.specs.OwnCells.{segment_of}
-use Rattle.strand.specs.Shown.{ShowsStrand}
+use Rattle.strand.specs.StrandShown.{ShowsStrand}
 use Rattle.strand.specs.declared.strand.Strand.{Strand}
 
 -- a worker's frame of the machine may be loaded as the base of a strand

@@ -10,7 +10,7 @@ use Rattle.frame_engine.specs.declared.activation.Frame.{Frame}
 use Rattle.schedule_commit.specs.frame_strand.Standing.{IsCopy}
 use Rattle.schedule_workers.specs.declared.activation.Activation.{Activation}
 use Rattle.schedule_workers.specs.Scheduling.{counted_in}
-use Rattle.strand.specs.serial_stack.Shown.{unboxed}
+use Rattle.strand.specs.serial_stack.StackShown.{unboxed}
 use Rattle.strand.specs.declared.strand.Strand.{Strand}
 
 -- the frames from the base up

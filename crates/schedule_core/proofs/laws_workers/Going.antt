@@ -31,7 +31,7 @@ use Rattle.serial_machine.proofs.room.Operands.{items_fit}
 use Rattle.serial_machine.proofs.safe.Going.{item_whole, name_whole, some_there}
 use Rattle.schedule_workers.specs.Going.{CanGo, CanStep}
 use Rattle.schedule_workers.specs.Layouts.{living}
-use Rattle.schedule_core.specs.laws_workers.Safe.{RunsAreSafe}
+use Rattle.schedule_core.specs.laws_workers.Safe.{WorkersRunsAreSafe}
 use Rattle.schedule_core.proofs.laws_workers.Owners.{cell_living}
 use Rattle.schedule_core.proofs.laws_workers.Points.{IsBelow, always_below, points_up}
 
@@ -121,5 +121,5 @@ module _ (text : List ℕ) (program : Program) (accepted : IsProgramOf text prog
       counted = let low = run.within_budget in let most = run.small in omega (arith, low, most);
     }
 
-pub runs_are_safe : RunsAreSafe
-runs_are_safe text program accepted arguments memory given valued workers some events = can_go text program accepted arguments memory given valued workers some events
+pub workers_runs_are_safe : WorkersRunsAreSafe
+workers_runs_are_safe text program accepted arguments memory given valued workers some events = can_go text program accepted arguments memory given valued workers some events

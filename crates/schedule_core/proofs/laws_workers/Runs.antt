@@ -22,9 +22,9 @@ use Rattle.schedule_workers.specs.declared.activation.Activation.{Activation}
 use Rattle.schedule_workers.specs.declared.run.Run.{Run}
 use Rattle.schedule_workers.specs.Going.{Becomes, CanGo, RunsSafely}
 use Rattle.schedule_workers.specs.Layouts.{layout_of}
-use Rattle.schedule_workers.specs.Shown.{IsShown, ShowsAt}
-use Rattle.schedule_core.specs.laws_workers.Promise.{IsScheduled, DoesEvent, HasEnded, EndsAs, RunsHoldGlobals, RunsStandSafely, RunsStayScheduled, RunsKeepTheirSchedules}
-use Rattle.schedule_core.proofs.laws_workers.Going.{runs_are_safe}
+use Rattle.schedule_workers.specs.RunShown.{IsShown, ShowsAt}
+use Rattle.schedule_core.specs.laws_workers.RunsPromise.{IsScheduled, DoesEvent, HasEnded, EndsAs, RunsHoldGlobals, RunsStandSafely, RunsStayScheduled, RunsKeepTheirSchedules}
+use Rattle.schedule_core.proofs.laws_workers.Going.{workers_runs_are_safe}
 use Rattle.schedule_core.proofs.laws_workers.Results.{IsOpen, always_open}
 
 replay_more : (prog : Program) (workers : ℕ) (events : List Event) (e : Event) (m : Machine) →
@@ -41,7 +41,7 @@ module _ (program : Program) (accepted : IsAccepted program) (places : Places) (
   pub later_safe : (k : Run) → IsScheduled program places arguments memory events k → RunsSafely program (length k.hands.items) (state (length k.hands.items))
   later_safe k at =
       from_later program (length k.hands.items) (λ (x : Machine). CanGo program x) events (start program arguments memory)
-      (runs_are_safe accepted.text program accepted.means arguments memory at.taken at.globals (length k.hands.items) at.manned)
+      (workers_runs_are_safe accepted.text program accepted.means arguments memory at.taken at.globals (length k.hands.items) at.manned)
 
   -- ---- one event more
 

@@ -14,8 +14,8 @@ use Rattle.serial_machine.specs.verifier.Accepted.{IsProgramOf}
 use Rattle.schedule_workers.specs.Going.{RunsSafely, TextFits}
 
 -- wherever a schedule leads, each worker's frame can do its next step
-abbrev pub RunsAreSafe : Type 0
-RunsAreSafe =
+abbrev pub WorkersRunsAreSafe : Type 0
+WorkersRunsAreSafe =
     (text : List ℕ) (program : Program) → IsProgramOf text program → (arguments : List ℤ) (memory : Memory) →
     AreTaken program arguments →
     HasGlobals program memory →

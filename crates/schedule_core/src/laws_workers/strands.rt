@@ -1,7 +1,7 @@
 //! A worker's frame may go on apart from the machine: what it does by itself, and what the frames do that it makes, is safe, whatever numbers
 //! the cells of living objects hold meanwhile, since no rule of the verifier rests on a number that was loaded. There is no code to run here.
 
-ghost use Rattle.schedule_core.specs.laws_workers.strands.Promise.{FramesGoAlone, FramesGoAsStrands, LoadedFramesGoAsStrands};
+ghost use Rattle.schedule_core.specs.laws_workers.strands.StrandsPromise.{FramesGoAlone, FramesGoAsStrands, LoadedFramesGoAsStrands};
 
 /// Of a program that `verify` takes, with arguments that `main` takes and globals that have values: wherever a schedule leads, each worker's
 /// frame can do its next step, and each after it up to its next border, with any numbers in the cells of living objects at each step. It does

@@ -45,13 +45,13 @@ use Rattle.store.specs.verifier.Accepted.{IsProgramOf}
 use Rattle.store.specs.verifier.Budgets.{budget_of}
 use Rattle.serial_stack.specs.Steps.{Placed, Run, HasNoStep, IsStuck, Walk, starting}
 use Rattle.serial_stack.specs.Layouts.{frames_of, layout_of}
-use Rattle.serial_stack.specs.Shown.{CanGo, CanGoOn, IsOld}
-use Rattle.serial_machine.specs.Safe.{HasCellsOf, RunsAreSafe}
+use Rattle.serial_stack.specs.StackShown.{CanGo, CanGoOn, IsOld}
+use Rattle.serial_machine.specs.Safe.{HasCellsOf, SerialRunsAreSafe}
 use Rattle.serial_machine.specs.walks.Along.{GoesOnTo, IsCounted}
 use Rattle.serial_machine.proofs.room.Operands.{function_there, items_fit}
 use Rattle.serial_machine.proofs.walks.Ahead.{walks_go_on}
 use Rattle.serial_machine.proofs.walks.Counted.{walks_count}
-use Rattle.serial_machine.proofs.walks.Kept.{walks_keep}
+use Rattle.serial_machine.proofs.walks.WalksKept.{walks_keep}
 use Rattle.serial_machine.proofs.safe.Mirrors.{Mirrors, knows, acts, under_long, mirrored}
 use Rattle.serial_machine.proofs.safe.Sizes.{cell_laid}
 use Rattle.serial_machine.proofs.safe.Stacks.{stack_long}
@@ -203,5 +203,5 @@ module _ (text : List ℕ) (program : Program) (accepted : IsProgramOf text prog
             within = omega (arith, c, w);
           }
 
-pub runs_are_safe : RunsAreSafe
-runs_are_safe text program accepted arguments memory given valued globals covers n peak s walk = can_go_on text program accepted arguments memory given valued globals covers n peak s walk
+pub serial_runs_are_safe : SerialRunsAreSafe
+serial_runs_are_safe text program accepted arguments memory given valued globals covers n peak s walk = can_go_on text program accepted arguments memory given valued globals covers n peak s walk

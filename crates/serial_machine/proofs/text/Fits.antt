@@ -55,7 +55,7 @@ use Rattle.frame_engine.specs.Fits.{BlockFits, EdgeFits, EndingFits, HasEnding, 
 use Rattle.frame_engine.specs.Names.{Sizes, sizes, HasAddress, HasArgument, HasNames, HasObject, HasOperand, HasResult}
 use Rattle.frame.specs.code.Codes.{program_codes}
 use Rattle.frame_engine.specs.Starts.{alloca_starts, starts_from}
-use Rattle.serial_stack.specs.Shown.{TextFits}
+use Rattle.serial_stack.specs.StackShown.{TextFits}
 use Rattle.serial_machine.specs.Safe.{TextsFit}
 use Rattle.serial_machine.proofs.text.Named.{IsThere, alloca_named, object_named}
 use Rattle.frame_engine.proofs.Turns.{item_end}

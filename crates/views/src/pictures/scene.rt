@@ -1,6 +1,6 @@
 //! What a picture shows: who runs which task from when to when, and who took it from whom. Times are rounds.
 
-use crate::{Instant, Moment, Outcome, Place, TaskName, Timing};
+use crate::{Instant, Moment, Outcome, TaskName, TaskPlace, Timing};
 use frame::{Event, Path};
 use lists::OutOfMemory;
 use std::alloc::Global;
@@ -265,7 +265,7 @@ impl Scene {
     }
 
     /// The worker takes the task of this place from the one that ran it last.
-    fn steal(&mut self, thief: usize, place: &Place, timing: Timing) {
+    fn steal(&mut self, thief: usize, place: &TaskPlace, timing: Timing) {
         let round = timing.round;
         let victim = self.begin(thief, &place.task, round.saturating_sub(1));
         let theft = Theft {
@@ -278,7 +278,7 @@ impl Scene {
     }
 
     /// The worker executes an instruction of its task.
-    fn step(&mut self, worker: usize, place: &Place, outcome: &Outcome, timing: Timing) {
+    fn step(&mut self, worker: usize, place: &TaskPlace, outcome: &Outcome, timing: Timing) {
         self.work(worker, 1, timing, false);
         let round = timing.round;
         match outcome {

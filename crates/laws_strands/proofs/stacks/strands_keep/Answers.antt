@@ -1,4 +1,4 @@
-use Rattle.laws_strands.proofs.stacks.Kept.{strands_keep}
+use Rattle.laws_strands.proofs.stacks.StrandsKept.{strands_keep}
 use Rattle.laws_strands.proofs.stacks.strands_keep.Goals as goal
 
 pub returns : goal.returns

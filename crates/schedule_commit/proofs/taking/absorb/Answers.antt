@@ -1,8 +1,8 @@
 use Rattle.std.proofs.Common.{◌≡◌, ◌≢◌, Option, Some, false, true, refl, sym, subst}
 use Rattle.program.specs.declared.function.Program.{Program}
 use Rattle.frame_engine.specs.declared.activation.Places.{Places}
-use Rattle.frame_strand.specs.declared.standing.Pause.{Pause}
-use Rattle.frame_strand.specs.declared.standing.Pause.TheVariants.{Blank, Border}
+use Rattle.frame_strand.specs.declared.standing.FrameStrandPause.{FrameStrandPause}
+use Rattle.frame_strand.specs.declared.standing.FrameStrandPause.TheVariants.{Blank, Border}
 use Rattle.schedule_workers.proofs.Uses.{follows_same, keeps_follows}
 use Rattle.schedule_commit.specs.Absorbing.{DoesSteps, LeavesStallsBy, StandsAlone, steps_in}
 use Rattle.schedule_commit.proofs.Goes.{hands_stay, moves_stay, uses_stay}
@@ -21,7 +21,7 @@ returns-in_default-clause-exactly c = (λ e. absurd cc, λ h. absurd (c.in_defau
 pub returns-in_ok-go_over-clause-does : goal.returns-in_ok-go_over-clause-does
 returns-in_ok-go_over-clause-does c = λ e.
     let x = c.args.strand.now in
-    subst (λ (p : Option Pause). ∥ DoesSteps c.args.program.now c.args.places.now c.args.run.now c.go_over.new.run c.args.worker (steps_in p x.course.done) ∥₁)
+    subst (λ (p : Option FrameStrandPause). ∥ DoesSteps c.args.program.now c.args.places.now c.args.run.now c.go_over.new.run c.args.worker (steps_in p x.course.done) ∥₁)
     (sym ((c.is_at-2.ensures).0 c.if-is_at-2.true)) c.in_ok-go_over.ensures.does
 
 pub returns-in_ok-go_over-clause-hand : goal.returns-in_ok-go_over-clause-hand

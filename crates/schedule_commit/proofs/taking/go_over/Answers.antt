@@ -1,7 +1,7 @@
 use Rattle.std.proofs.Common.{◌≡◌, ◌∙◌, List, ℤ, Some, length, refl, sym, ap, subst}
 use Rattle.program.specs.declared.function.Program.{Program}
 use Rattle.frame_engine.specs.declared.activation.Places.{Places}
-use Rattle.frame_strand.specs.declared.standing.Pause.TheVariants.{Blank, Border}
+use Rattle.frame_strand.specs.declared.standing.FrameStrandPause.TheVariants.{Blank, Border}
 use Rattle.schedule_workers.specs.declared.run.Run.{Run}
 use Rattle.schedule_workers.specs.Follows.{Follows}
 use Rattle.schedule_workers.specs.Rooms.{IsRoomier}

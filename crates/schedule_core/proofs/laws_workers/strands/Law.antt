@@ -45,10 +45,10 @@ use Rattle.schedule_core.proofs.laws_workers.strands.Facts.{met, Told, told_kept
 use Rattle.schedule_core.proofs.laws_workers.strands.Numbers.{Firm, firm_kept, firm_held, firm_keeps, always_firm}
 use Rattle.laws_strands.specs.stacks.Strands.{Strand, loaded, IsStrand, is_loaded}
 use Rattle.laws_strands.specs.stacks.Law.{IsOrderly, Runs, Fits, absorbed, IsKept}
-use Rattle.laws_strands.proofs.stacks.Kept.{goes, kept_by_strands}
+use Rattle.laws_strands.proofs.stacks.StrandsKept.{goes, kept_by_strands}
 use Rattle.laws_strands.proofs.stacks.Law.{starts}
 use Rattle.laws_strands.proofs.stacks.Reached.{reached_are_orderly}
-use Rattle.schedule_core.specs.laws_workers.strands.Promise.{laid_out, IsSafeStrand, StaysSafeAsStrands, FramesGoAlone, FramesGoAsStrands}
+use Rattle.schedule_core.specs.laws_workers.strands.StrandsPromise.{laid_out, IsSafeStrand, StaysSafeAsStrands, FramesGoAlone, FramesGoAsStrands}
 use Rattle.schedule_commit.specs.Absorbing.{GoesAloneIn}
 
 module _ (text : List ℕ) (program : Program) (accepted : IsProgramOf text program) (arguments : List ℤ) (memory : Memory) (given : AreTaken program arguments) (globals : HasGlobals program memory)

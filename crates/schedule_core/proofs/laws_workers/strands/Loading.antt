@@ -14,7 +14,7 @@ use Rattle.program.specs.declared.identifier.ObjectName.TheVariants as object
 use Rattle.frame_engine.specs.Shows.{Layout}
 use Rattle.frame_engine.specs.declared.activation.Places.{Places}
 use Rattle.schedule_commit.specs.strand.serial_stack.Layouts.{for_body}
-use Rattle.schedule_commit.specs.strand.serial_stack.Shown.{IsOld}
+use Rattle.schedule_commit.specs.strand.serial_stack.StackShown.{IsOld}
 use Rattle.schedule_workers.specs.Going.{IsAbove}
 use Rattle.schedule_workers.specs.Layouts.{alloca_cells, living, own_cells}
 use Rattle.schedule_workers.proofs.Calling.{values_up}
@@ -24,7 +24,7 @@ use Rattle.serial_machine.proofs.laws_schedule.safe.Safe.{schedules_are_safe}
 use Rattle.schedule_commit.specs.frame_strand.Alone.{StaysSafeAlone}
 use Rattle.schedule_commit.specs.strand.Along.{IsLent, LoadsGoAsStrands}
 use Rattle.schedule_commit.specs.strand.Layouts.{Segment, layout_above}
-use Rattle.schedule_commit.specs.strand.Shown.{CanGo}
+use Rattle.schedule_commit.specs.strand.StrandShown.{CanGo}
 use Rattle.schedule_commit.proofs.strand.Coming.{under_long}
 use Rattle.schedule_commit.proofs.strand.Living as text
 use Rattle.schedule_commit.proofs.strand.Living.{fresh, local_above, shared_above}
@@ -32,7 +32,7 @@ use Rattle.laws_strands.specs.stacks.Strands.{Strand, IsStrand, Placed, at, next
 use Rattle.laws_strands.specs.stacks.Footprint.{memory_of}
 use Rattle.laws_strands.specs.stacks.Law.{IsOrderly, Runs, absorbed}
 use Rattle.laws_strands.proofs.stacks.Reached.{reached_are_orderly}
-use Rattle.schedule_core.specs.laws_workers.strands.Promise.{IsSafeStrand, LoadedFramesGoAsStrands, StaysSafeAsStrands, laid_out}
+use Rattle.schedule_core.specs.laws_workers.strands.StrandsPromise.{IsSafeStrand, LoadedFramesGoAsStrands, StaysSafeAsStrands, laid_out}
 use Rattle.schedule_core.proofs.laws_workers.strands.Law.{frames_go_as_strands}
 
 above_old : (p : Path) (o : Object) → IsAbove p o → IsOld (length p) o

@@ -3,7 +3,7 @@ use Rattle.std.specs.Int.{w64}
 use Rattle.std.proofs.lemmas.Int.{to_z-of_z}
 use Rattle.program.specs.declared.function.Program.{Program}
 use Rattle.schedule_commit.specs.strand.Going.{IsGoing}
-use Rattle.schedule_commit.specs.strand.declared.going.Pause.TheVariants.{Need}
+use Rattle.schedule_commit.specs.strand.declared.going.StrandPause.TheVariants.{Need}
 use Rattle.schedule_core.proofs.strands.fill_strand.Goals as goal
 
 pub fill-requires : goal.fill-requires

@@ -10,7 +10,7 @@ use Rattle.store.specs.verifier.Budgets.{budget_of}
 use Rattle.serial_stack.proofs.Calling.{vec_small}
 use Rattle.window_runs.specs.Ways.{BeginsRun, RunsBeyond, RunsTo}
 use Rattle.window_runs.specs.declared.running.Ended.{Ended}
-use Rattle.serial_machine.specs.Promise.{EndsWithinBudget}
+use Rattle.serial_machine.specs.SerialPromise.{EndsWithinBudget}
 use Rattle.serial_machine.proofs.Engine.{room}
 use Rattle.serial_machine.proofs.Windows.{ends, goes, has_tables, takes_more}
 use Rattle.serial_machine.proofs.run.run_in_places.Goals as goal

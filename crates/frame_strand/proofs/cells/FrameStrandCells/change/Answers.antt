@@ -4,7 +4,7 @@ use Rattle.std.proofs.lemmas.Option.{same_Some}
 use Rattle.frame_strand.specs.Buffers.{Buffers, change_in}
 use Rattle.frame_strand.specs.Keeping.{AreDifferent}
 use Rattle.frame_strand.specs.declared.cells.Written.{Written}
-use Rattle.frame_strand.proofs.Kept.{change_at, change_absent, key_there}
+use Rattle.frame_strand.proofs.CellsKept.{change_at, change_absent, key_there}
 use Rattle.frame_strand.proofs.cells.FrameStrandCells.change.Goals as goal
 
 pub returns-in-Some-clause-change : goal.returns-in-Some-clause-change

@@ -5,7 +5,7 @@ use Rattle.std.proofs.lemmas.Option.{same_Some}
 use Rattle.frame_strand.specs.Buffers.{Buffers, value_in}
 use Rattle.frame_strand.specs.Keeping.{AreDifferent}
 use Rattle.frame_strand.specs.declared.cells.Read.{Read}
-use Rattle.frame_strand.proofs.Kept.{value_at, value_absent, key_there}
+use Rattle.frame_strand.proofs.CellsKept.{value_at, value_absent, key_there}
 use Rattle.frame_strand.proofs.cells.FrameStrandCells.value.Goals as goal
 
 pub returns-in-Some : goal.returns-in-Some

@@ -1,7 +1,7 @@
 use Rattle.std.proofs.Common.{◌≡◌, ◌∙◌, ◌<◌, ap, sym, subst, ℕ, List, length, ℤ, refl}
 use Rattle.store.specs.Rows.{row_of, sizes_of}
 use Rattle.frame_engine.specs.Starts.{starts_from}
-use Rattle.serial_stack.specs.Shown.{TextFits}
+use Rattle.serial_stack.specs.StackShown.{TextFits}
 use Rattle.serial_stack.specs.Starts.{Begins}
 use Rattle.serial_stack.proofs.Calling.{vec_small}
 use Rattle.serial_machine.proofs.Engine.{fits, goes, room}

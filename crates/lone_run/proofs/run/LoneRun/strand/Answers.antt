@@ -4,8 +4,8 @@ use mir.Val.{to_z, of_z}
 use Rattle.std.proofs.lemmas.Int.{to_z-of_z}
 use Rattle.store.specs.declared.outcome.Finished.{Finished}
 use Rattle.store.specs.Rows.{refilled}
-use Rattle.serial_stack.specs.Shown.{Returns}
-use Rattle.serial_machine.specs.Promise.{EndsWithinBudget}
+use Rattle.serial_stack.specs.StackShown.{Returns}
+use Rattle.serial_machine.specs.SerialPromise.{EndsWithinBudget}
 use Rattle.lone_run.proofs.OnWay.{done_before, fits, numbers, over, passed, stands, stays, went_on, within}
 use Rattle.lone_run.proofs.Stopping.{got_on}
 use Rattle.lone_run.proofs.run.LoneRun.strand.Goals as goal

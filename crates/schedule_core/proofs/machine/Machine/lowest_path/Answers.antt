@@ -1,7 +1,7 @@
 use Rattle.std.proofs.Common.{refl, sym, ap, ◌∙◌}
 use Rattle.std.specs.Option.{option_copied}
 use Rattle.schedule_workers.proofs.Lengths.{not_there}
-use Rattle.schedule_core.proofs.Shown.{low_lives}
+use Rattle.schedule_core.proofs.TasksShown.{low_lives}
 use Rattle.schedule_core.proofs.machine.Machine.lowest_path.Goals as goal
 
 pub returns-in_err-node-clause-found : goal.returns-in_err-node-clause-found

@@ -1,7 +1,7 @@
 use Rattle.std.proofs.Common.{◌≡◌, ◌∙◌, ◌-◌, ◌+◌, suc, ℕ, reverse, List, Option, sym, ap, subst, arith}
 use Rattle.std.proofs.lemmas.List.{reverse-reverse}
 use Rattle.schedule_workers.specs.Scheduling.{hand_of}
-use Rattle.schedule_core.specs.declared.ready.Spot.{Spot}
+use Rattle.schedule_core.specs.declared.ready.Ticket.{Ticket}
 use Rattle.schedule_core.specs.ReadyBelow.{AreReadyBelow, Notes}
 use Rattle.schedule_core.proofs.ReadyBelow.{Walks, ready_below, walk_one, walked}
 use Rattle.schedule_core.proofs.machine.Machine.ready_below.Goals as goal
@@ -33,6 +33,6 @@ returns c m state =
     let l = c.loop-level in
     let over = c.loop-level-test.false in
     let none : c.args.levels - l._level ≡ 0 = omega (arith, over) in
-    subst (λ (spots : List Spot). AreReadyBelow stage m c.args.worker c.args.levels spots) (sym (ap (λ (spots : List Spot). reverse spots) c.reverse.ensures.items ∙ reverse-reverse l.spots.items))
+    subst (λ (spots : List Ticket). AreReadyBelow stage m c.args.worker c.args.levels spots) (sym (ap (λ (spots : List Ticket). reverse spots) c.reverse.ensures.items ∙ reverse-reverse l.spots.items))
     (ready_below stage m state c.args.worker c.args.levels l.spots.items
     (walked frames c.args.levels (c.args.levels - l._level) (hand_of stage.run.hands.items c.args.worker) l.slot l.spots.items none (l.invariant.walk state.shown.agrees.tree)))

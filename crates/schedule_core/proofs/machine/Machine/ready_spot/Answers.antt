@@ -1,7 +1,7 @@
 use Rattle.std.proofs.Common.{◌≡◌, true, refl, sym, ap, ◌∙◌}
 use Rattle.std.specs.Option.{option_copied}
 use Rattle.schedule_workers.proofs.Lengths.{not_there}
-use Rattle.schedule_core.proofs.Shown.{low_lives}
+use Rattle.schedule_core.proofs.TasksShown.{low_lives}
 use Rattle.schedule_core.proofs.machine.Machine.ready_spot.Goals as goal
 
 pub returns-in_err-top-clause-none : goal.returns-in_err-top-clause-none

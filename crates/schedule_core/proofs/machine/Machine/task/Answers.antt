@@ -2,7 +2,7 @@ use Rattle.std.proofs.Common.{ℕ, Option, subst}
 use Rattle.schedule_workers.specs.Tasks.{FindsTop}
 use Rattle.schedule_core.proofs.Found.{lives_by, never_none, shown_if, top_lives}
 use Rattle.schedule_core.proofs.LinesShown.{line_if}
-use Rattle.schedule_core.proofs.Shown.{has_spot, no_top}
+use Rattle.schedule_core.proofs.TasksShown.{has_spot, no_top}
 use Rattle.schedule_core.proofs.Views.{has_node}
 use Rattle.schedule_core.proofs.machine.Machine.task.Goals as goal
 

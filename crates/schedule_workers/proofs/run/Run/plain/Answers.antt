@@ -7,7 +7,7 @@ use Rattle.frame.specs.declared.frame.Wait.TheVariants as wait
 use Rattle.frame_engine.specs.declared.activation.Frame.{Frame}
 use Rattle.schedule_workers.specs.declared.activation.Activation.{Activation}
 use Rattle.schedule_workers.specs.Layouts.{layout_of}
-use Rattle.schedule_workers.specs.Shown.{place_of}
+use Rattle.schedule_workers.specs.RunShown.{place_of}
 use Rattle.frame_engine.specs.Activation.{ProgramFits}
 use Rattle.schedule_workers.proofs.Living.{written_long}
 use Rattle.schedule_workers.proofs.Onward.{fits_prop, left_shown, node_of, not_there, safe_standing, seen, stays, step_shown}

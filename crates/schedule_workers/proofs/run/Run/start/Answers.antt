@@ -7,7 +7,7 @@ use Rattle.schedule_workers.specs.declared.activation.Activation.{Activation}
 use Rattle.schedule_workers.specs.declared.run.Run.{Run}
 use Rattle.schedule_workers.specs.Roots.{HasBlock, IsRoot}
 use Rattle.schedule_workers.specs.Follows.{AreGiven}
-use Rattle.schedule_workers.specs.Shown.{IsShown}
+use Rattle.schedule_workers.specs.RunShown.{IsShown}
 use Rattle.schedule_workers.specs.Stalls.{StallsAgree, no_blocks}
 use Rattle.schedule_workers.proofs.Rooted.{root_given, root_runs}
 use Rattle.schedule_workers.proofs.Starting.{IsFirst, begin_shown, main_cells}

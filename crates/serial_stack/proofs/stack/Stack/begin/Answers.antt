@@ -9,7 +9,7 @@ use Rattle.serial_stack.specs.Layouts.{alloca_sizes}
 use Rattle.serial_stack.proofs.Calling.{end_address, vec_small}
 use Rattle.serial_stack.proofs.Owners.{get_more, sizes_are}
 use Rattle.serial_stack.proofs.Starting.{begin_shown}
-use Rattle.serial_stack.specs.Shown.{unboxed}
+use Rattle.serial_stack.specs.StackShown.{unboxed}
 use Rattle.serial_stack.proofs.stack.Stack.begin.Goals as goal
 
 pub returns-clause-begins : goal.returns-clause-begins

@@ -7,7 +7,7 @@ use Rattle.serial_stack.specs.Layouts.{end_of, frames_of}
 use Rattle.semantics.specs.Frames.{Does}
 use Rattle.program.specs.declared.function.Alloca.{Alloca}
 use Rattle.program.specs.declared.instruction.Instruction.TheVariants as instruction
-use Rattle.serial_stack.specs.Shown.{item_here}
+use Rattle.serial_stack.specs.StackShown.{item_here}
 use Rattle.serial_stack.specs.declared.stack.Stack.{Stack}
 use Rattle.serial_stack.proofs.Calling.{begins, call_names, call_shown, callee_within, end_address, grown_long, layout, more, place}
 use Rattle.serial_stack.proofs.Detaching.{spared, unboxed_push}

@@ -2,7 +2,7 @@ use Rattle.std.proofs.Common.{ap}
 use Rattle.std.proofs.Math.Logic.{∥∥₁_elim}
 use Rattle.std.proofs.Props.{props}
 use Rattle.serial_stack.specs.declared.stack.Stack.{Stack}
-use Rattle.serial_stack.specs.Shown.{unboxed}
+use Rattle.serial_stack.specs.StackShown.{unboxed}
 use Rattle.serial_stack.proofs.Detaching.{unboxed_push}
 use Rattle.serial_stack.proofs.Joining.{emptied, reattach_has, reattach_shown}
 use Rattle.serial_stack.proofs.Texts.{placed}

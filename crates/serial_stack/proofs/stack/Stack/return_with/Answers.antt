@@ -8,7 +8,7 @@ use Rattle.std.proofs.Props.{props}
 use Rattle.frame_engine.specs.Names.{HasResult, sizes, taker_of}
 use Rattle.serial_stack.specs.Layouts.{frames_of, layout_of}
 use Rattle.serial_stack.specs.declared.stack.Stack.{Stack}
-use Rattle.serial_stack.specs.Shown.{unboxed}
+use Rattle.serial_stack.specs.StackShown.{unboxed}
 use Rattle.serial_stack.proofs.Detaching.{unboxed_push}
 use Rattle.serial_stack.proofs.Joining.{emptied}
 use Rattle.serial_stack.proofs.Returning.{caller_takes, home_is, result_prop, return_names, return_shown, run_ends, home_again, whole_home}

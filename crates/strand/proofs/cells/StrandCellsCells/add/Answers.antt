@@ -5,7 +5,7 @@ use Rattle.std.proofs.lemmas.Int.{to_z-of_z}
 use mir.Val.{to_z, of_z}
 use Rattle.semantics.specs.Arithmetic.{cell_sum}
 use Rattle.frame_engine.specs.Access.{Adds}
-use Rattle.strand.specs.frame_strand.declared.cells.Stop.{Stop}
+use Rattle.strand.specs.frame_strand.declared.cells.CellStop.{CellStop}
 use Rattle.strand_pages.specs.Accessing.{CellHolds}
 use Rattle.strand_pages.specs.Tables.{Table}
 use Rattle.strand.specs.OwnCells.{IsOwnPut, may_be, own_cell}
@@ -42,7 +42,7 @@ returns-in-Some-clause-others c = λ a z may other. put_others c.args.self.now (
 pub returns-in-Some-clause-does : goal.returns-in-Some-clause-does
 returns-in-Some-clause-does c = own_does c.args.self.now (after c) (Adds c.args.at c.args.number) c.number_at.result (held c) (put c)
 
-of_log : (x : StrandCells) (b : Table) (a n : ℤ) {T : Type 0} (r : Result T Stop) → own_cell x a ≡ None → OnOk r ((z : ℤ) → CellHolds x.log a z → CellHolds b a (cell_sum z n)) →
+of_log : (x : StrandCells) (b : Table) (a n : ℤ) {T : Type 0} (r : Result T CellStop) → own_cell x a ≡ None → OnOk r ((z : ℤ) → CellHolds x.log a z → CellHolds b a (cell_sum z n)) →
     OnOk r ((z : ℤ) → may_be x a z → may_be (record x { log = b }) a (cell_sum z n))
 of_log x b a n (Ok t) none is = λ z may. log_holds x b a (cell_sum z n) none (is z (log_value x a z none may))
 of_log x b a n (Err e) none is = tt

@@ -4,7 +4,7 @@ use Rattle.std.specs.Vec.{with_item}
 use Rattle.std.proofs.lemmas.Int.{to_z-of_z}
 use mir.Val.{to_z, of_z}
 use Rattle.frame_engine.specs.Access.{Stores}
-use Rattle.strand.specs.frame_strand.declared.cells.Stop.{Stop}
+use Rattle.strand.specs.frame_strand.declared.cells.CellStop.{CellStop}
 use Rattle.strand_pages.specs.Accessing.{TableDoes}
 use Rattle.strand_pages.specs.Tables.{Table}
 use Rattle.strand.specs.OwnCells.{CellsDo, IsOwnPut, own_cell}
@@ -37,7 +37,7 @@ returns-in-Some-clause-does c =
 pub returns-in-None-clause-others : goal.returns-in-None-clause-others
 returns-in-None-clause-others c = λ a z may other. log_others c.args.self.now c.store.new.self a z (λ h. c.store.ensures.others a z h (subst (λ (y : ℤ). a ≢ y) (sym (to_z-of_z w64 c.args.at c.ranges.at)) other)) may
 
-of_log : (x : StrandCells) (b : Table) (a z : ℤ) {T : Type 0} (r : Result T Stop) → own_cell x a ≡ None → OnOk r (TableDoes x.log (Stores a z) b) → OnOk r (CellsDo x (Stores a z) (record x { log = b }))
+of_log : (x : StrandCells) (b : Table) (a z : ℤ) {T : Type 0} (r : Result T CellStop) → own_cell x a ≡ None → OnOk r (TableDoes x.log (Stores a z) b) → OnOk r (CellsDo x (Stores a z) (record x { log = b }))
 of_log x b a z (Ok t) none is = log_does x b (Stores a z) none is
 of_log x b a z (Err e) none is = tt
 

@@ -11,7 +11,7 @@ use Rattle.frame_engine.specs.Fits.{HasReturned}
 use Rattle.strand.specs.Layouts.{layout_above}
 use Rattle.std.proofs.Math.Logic.{∥∥₁_elim}
 use Rattle.frame_engine.specs.Names.{HasResult, sizes, taker_of}
-use Rattle.serial_stack.specs.Shown.{unboxed}
+use Rattle.serial_stack.specs.StackShown.{unboxed}
 use Rattle.serial_stack.proofs.Detaching.{unboxed_push}
 use Rattle.serial_stack.proofs.Returning.{home_again, result_prop, return_names, whole_home}
 use Rattle.strand.specs.declared.strand.Strand.{Strand}

@@ -20,7 +20,7 @@ use Rattle.serial_machine.specs.verifier.Budgets.{budget_of, IsDepthOf}
 use Rattle.schedule_workers.specs.declared.run.Run.{Run}
 use Rattle.schedule_workers.specs.Going.{Becomes, RunsSafely, StandsSafely}
 use Rattle.schedule_workers.specs.Layouts.{number_in}
-use Rattle.schedule_workers.specs.Shown.{IsShown}
+use Rattle.schedule_workers.specs.RunShown.{IsShown}
 
 -- ---- where a schedule leads
 

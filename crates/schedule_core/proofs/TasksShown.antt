@@ -13,7 +13,7 @@ use Rattle.schedule_workers.specs.declared.activation.Activation.{Activation}
 use Rattle.schedule_workers.specs.Layouts.{layout_of}
 use Rattle.schedule_workers.specs.Lowest.{IsLowestBelow, lowest, under}
 use Rattle.schedule_workers.specs.Scheduling.{hand_of}
-use Rattle.schedule_workers.specs.Shown.{CalleeStands, ShowsNode, place_of}
+use Rattle.schedule_workers.specs.RunShown.{CalleeStands, ShowsNode, place_of}
 use Rattle.schedule_workers.specs.Tasks.{FindsTop, nobody, no_task, task, top_within, IsLowest}
 use Rattle.schedule_workers.proofs.Onward.{free_callee, seen}
 use Rattle.schedule_workers.proofs.Standing.{may_go_on}

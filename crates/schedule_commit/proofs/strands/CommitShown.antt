@@ -30,7 +30,7 @@ use Rattle.schedule_workers.specs.declared.activation.Activation.{Activation}
 use Rattle.schedule_workers.specs.declared.run.Run.{Run}
 use Rattle.schedule_workers.specs.Going.{PointsUp, TextFits}
 use Rattle.schedule_workers.specs.Layouts.{alloca_at, layout_of, living, object_at}
-use Rattle.schedule_workers.specs.Shown.{CalleeStands, IsShown, ShowsAt, place_of}
+use Rattle.schedule_workers.specs.RunShown.{CalleeStands, IsShown, ShowsAt, place_of}
 use Rattle.schedule_workers.specs.Stalls.{Blocks, StallsAgree}
 use Rattle.schedule_workers.proofs.Changed.{Holds, changed_by, changed_to_shown, kept_holds}
 use Rattle.schedule_workers.proofs.Handing.{held_then, others_stay, seen_at, seen_then}
@@ -42,7 +42,7 @@ use Rattle.laws_strands.proofs.stacks.Rising.{rises}
 use Rattle.strand.specs.Layouts.{Segment, layout_above}
 use Rattle.strand.specs.OwnCells.{segment_of}
 use Rattle.strand.specs.Putting.{ArePutInto}
-use Rattle.strand.specs.serial_stack.Shown.{unboxed}
+use Rattle.strand.specs.serial_stack.StackShown.{unboxed}
 use Rattle.strand.specs.declared.strand.Strand.{Strand}
 use Rattle.strand.proofs.Committed.{strand_shown}
 use Rattle.strand.proofs.Living.{alloca_cells as text_cells, local_above, shared_above}
