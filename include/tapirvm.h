@@ -1,4 +1,4 @@
-/* The verifier and the machine for hosts in C, in the library that `rt lib` makes of crates/kernel_c.
+/* The verifier and the machine for hosts in C, in the library that `rt lib` makes of crates/tapirvm_c.
  *
  * A host judges the text of a module within some effort, keeps the module in a handle, and runs it as often as it likes: serially within some
  * fuel, row by row over many rows of arguments and cells, on threads of its own, or by a schedule. It may stop a run from another thread, and look

@@ -1,4 +1,4 @@
-//! What hosts in C call, as functions of Rattle: `kernel_c` has an export for each, and nothing else. So this much is proved once, and the little library
+//! What hosts in C call, as functions of Rattle: `tapirvm_c` has an export for each, and nothing else. So this much is proved once, and the little library
 //! that is proved again where it is built has little in it.
 //!
 //! A module is judged by [`open_module`], which keeps it in a [`Handle`], and run from there by [`run_module`], [`run_each_row`] and [`replay_module`].
