@@ -1,7 +1,23 @@
 //! What the program answers about runs of a module that the verifier took, but for those on threads.
 //!
-//! [`answer_verified`] answers a question: by the serial run, by a schedule or a seed (`runs`), or by the dialogues of `debug`. A run is told event by
-//! event by `watch`.
+//! - `answers`: who answers a question about a run (`answer_verified`): one of the following.
+//!
+//! Runs and their answers, in `runs`:
+//!
+//! - `job`: a module that is to run, with what was asked for (`Job`). `halt`: why a run did not begin or go on.
+//! - `data`: cells that come from files before a run, and go to files after it.
+//! - `running`: the serial run, a schedule that is replayed, and the lines of an answer.
+//! - `tell`: what is printed and written of a run's events. `telling`: the run, which is done once more for it.
+//!
+//! Runs event by event, in `watch`:
+//!
+//! - `watching`: a run of which each event gives a `Moment` of `views` (`Watch`).
+//! - `course`: where the events come from. `random`: events that a seed draws. `dice`: its numbers.
+//! - `items`: what an instruction is about to set. `objects`: what a word means that is a pointer.
+//!
+//! The dialogues of `tapirvm debug`:
+//!
+//! - `debug`: what is answered while somebody goes through a schedule. It has a map of its own.
 #![tactic(auto)]
 
 mod answers;

@@ -1,7 +1,10 @@
 //! What the program answers about runs on threads.
 //!
-//! [`run_on_workers`] runs a module on workers, each on a thread of its own, and tells of the run what is asked for: how long it takes by the number of
-//! workers (`speedup`), or what was recorded (`recorded`). Where such a run is shown as a picture or by figures, `strands` does it once more.
+//! - `workers`: runs a module on workers, each on a thread of its own, and tells what is asked for (`run_on_workers`).
+//! - `speedup`: how long runs take by the number of their workers.
+//! - `recorded`: a run of which more is told than the answer.
+//! - `strands`: such a run, done once more strand by strand, for its figures and its picture.
+//! - `clocks`: how long ago something was.
 #![tactic(auto)]
 
 mod clocks;

@@ -1,9 +1,24 @@
 //! What each verb of the program does, but for runs on threads, files and clocks.
 //!
-//! [`judged`] answers a question about a module, in `modules`, or says which module is to run; `cli_runs` answers one about its runs. [`answer_line`] is
-//! the whole program as one call, for a page: it takes the words of a command line, the texts of the files that they name and numbers to hash names with,
-//! and gives out what the program would print, and the files that it would write. A run on workers is drawn there by a seed, `--load` finds no file, and
-//! `--speedup` and `--time` do nothing.
+//! Answers about modules, in `modules`:
+//!
+//! - `judging`: from a question to its answer, or to a module that is to run (`judged`); `cli_runs` answers one about
+//!   its runs.
+//! - `requests`: what is answered before a module is judged.
+//! - `verdict`: the verdict within the effort that is granted (`verdict_on`). `accepted`: what `verify` answers of a
+//!   module that is accepted.
+//! - `reasons`: what `explain` prints. `faults`: faults at their lines, for editors.
+//! - `annotations`: lines put in, or taken out. `own_lines`: what is then told, by the lines of the text without them.
+//!   `limits`: what was not looked at for them.
+//! - `answer`: what is answered, and why there is no answer.
+//! - `json`: answers as JSON, as `docs/FORMATS.md` tells.
+//!
+//! The program as one call, for a page:
+//!
+//! - `play`: takes the words of a command line, the texts of the files that they name and numbers to hash names with,
+//!   and gives out what the program would print, and the files that it would write (`answer_line`). A run on workers is
+//!   drawn there by a seed, `--load` finds no file, and `--speedup` and `--time` do nothing.
+//! - `answers`: who answers a question where there are no threads. `framed`: an answer as bytes. `seed`: those numbers.
 #![tactic(auto)]
 
 mod answers;

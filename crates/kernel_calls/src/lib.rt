@@ -1,12 +1,34 @@
-//! What hosts in C call, as functions of Rattle: `tapirvm_c` has an export for each, and nothing else. So this much is proved once, and the little library
-//! that is proved again where it is built has little in it.
+//! What hosts in C call, as functions of Rattle: `tapirvm_c` has an export for each, and nothing else. So this much is
+//! proved once, and the little library that is proved again where it is built has little in it.
 //!
-//! A module is judged by [`open_module`], which keeps it in a [`Handle`], and run from there by [`run_module`], [`run_each_row`] and [`replay_module`].
-//! [`verify`] and [`verify_and_run`] judge a text anew and keep nothing. [`write_rule`] and [`write_explanation`] give reasons in words.
+//! What a handle holds stays in its block on the heap, so a meeting needs no memory for it.
 //!
-//! A run on threads has a [`BoardHandle`], and each of its threads a [`WorkerHandle`]: the host calls [`meet_board`] under a lock of its own, and
-//! [`turn_worker`] without it. A [`StopHandle`] stops runs from another thread. What a handle holds stays in its block on the heap, so a meeting needs no
-//! memory for it.
+//! The calls:
+//!
+//! - `judge`: the verdict on a text (`verify`). `open`: the same, and the module is kept (`open_module`).
+//! - `run`, `rows`, `replay`: a module that is kept runs once, over many rows, and by a schedule.
+//! - `serial`: the serial run over a row of cells, and the call that judges a text anew for it (`verify_and_run`).
+//! - `boards`: a run on threads that the host brings: `meet_board` under its lock, `turn_worker` without it.
+//! - `schedule`: what such a run has done, as text.
+//! - `stop`: what a host holds to stop runs (`StopHandle`), and the calls that set it.
+//! - `inside`: globals, arguments and cells of a module that is kept. `range`: what `requires` says of one argument.
+//! - `words`: rules, reasons and statuses in words.
+//!
+//! What is told, and what is held:
+//!
+//! - `told`: verdicts, outcomes and statuses, as the header has them.
+//! - `handle`, `board_handle`: what a host holds between its calls (`Handle`, `BoardHandle`, `WorkerHandle`).
+//! - `kernel`, `run_at`, `worker_at`, `stop_at`: what handles hold, as pointers of no type. `loose`: a box as its
+//!   pointer.
+//! - `block`: a run with its module, and a worker with its own hold on the module.
+//! - `prepared`: a module, decoded for its runs. `names`: the names of its arguments. `shared`: a module with several
+//!   owners.
+//!
+//! Below the calls:
+//!
+//! - `hosted`: a run whose host brings the threads and the lock (`HostedRun`, `HostedWorker`, `Stop`).
+//! - `until`: a serial run that may be stopped (`run_watched`).
+//! - `cells`: how many cells globals and frames have. `seed`: random numbers from the host, for the verifier's tables.
 #![tactic(auto)]
 
 mod block;

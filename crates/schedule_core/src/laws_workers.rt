@@ -2,7 +2,7 @@
 //! run here.
 //!
 //! - `Safe`: wherever a schedule leads, each worker's frame can do its next step (`workers_runs_are_safe`), and what the text names is there (`texts_fit`).
-//! - `Promise`: so a run that shows a state to which a schedule leads stands safely, shows such a state again after each event, and keeps the
+//! - `RunsPromise`: so a run that shows a state to which a schedule leads stands safely, shows such a state again after each event, and keeps the
 //!   schedule theorem.
 //! - `strands`: a worker's frame may go on apart from the machine, alone or over borders (`frames_go_alone`, `frames_go_as_strands`).
 

@@ -1,15 +1,27 @@
-//! What people are shown of modules, in `module`, and of a run's events.
+//! What people are shown of modules, and of a run's events. No machine is asked here: `cli_runs` runs a module and
+//! tells its events.
 //!
-//! A [`Moment`] is where an event found its task, what it came to, or why it was not enabled, and, where that is asked for, what it set.
-//! `trace` shows one as a line; [`Rounds`] tells when events could have happened at the earliest. [`Scene`] keeps who
-//! ran which task when, and `pictures` draws it. [`Figures`] are what each worker did, and a [`Script`] is the events as a schedule.
+//! Modules:
 //!
-//! Events as lines of JSON, as `docs/FORMATS.md` tells, and as one page for a browser: [`Names`] has the names that a module's text gives to registers
-//! and objects; `event` writes an event with them. A `page` is told a run's events, one after another, and writes them as data into a page
-//! that needs nothing else: the source, the time line, the tree of frames, registers and cells, and buttons to step through them. What it does with
-//! them is a script of its own text. [`quoted`] spells a text as JSON does.
+//! - `module`: the canonical text of a module, and what the verifier knows of each of its blocks (`printed`, `show`).
 //!
-//! A [`Teller`] is told each event, and hands it to all of these that are wanted. No machine is asked here: `cli_runs` runs a module and tells its events.
+//! One event:
+//!
+//! - `moment`: where an event found its task, what it came to, or why it was not enabled (`Moment`).
+//! - `change`: what it set.
+//! - `rounds`: when it could have happened at the earliest (`Rounds`).
+//! - `trace`: an event as a line. `event`: an event as JSON, as `docs/FORMATS.md` tells.
+//! - `names`: the names that a module's text gives to registers and objects. `spelling`: a text as JSON spells it.
+//!
+//! A run:
+//!
+//! - `teller`: is told each event, and hands it to all of these that are wanted (`Teller`). `told`: what is wanted, and
+//!   what was told.
+//! - `figures`: what each worker did, and how much could be done at once.
+//! - `pictures`: who ran which task when, as a picture (`Scene` keeps it).
+//! - `saved`: the events as a schedule (`Script`).
+//! - `page`: the events as one page for a browser, that needs nothing else. `style`: how it looks. `script`: what it
+//!   does.
 #![tactic(auto)]
 
 mod change;

@@ -1,4 +1,5 @@
-//! A debugger and what is shown with it.
+//! A debugger, and what is shown with it: lines of the module, a worker's task, the paths of live frames, sorted, and
+//! events in words.
 
 ghost use Rattle.std.specs.Prelude.{◌≤◌, length};
 
