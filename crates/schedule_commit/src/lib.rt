@@ -24,6 +24,6 @@ mod taking_back;
 pub use cells::{cell, put_writes};
 pub use fitting::{fitting_slot, hold_reads, is_same, same_numbers};
 pub use frame_strand::{FrameStrand, FrameStrandPause};
-pub use strand::{Strand, StrandPause, page_around};
+pub use strand::{BoardFrame, CodePlace, Strand, StrandPause, page_around};
 pub use strands::{fitting_base, has_no_child, publish};
 pub use taking::absorb;

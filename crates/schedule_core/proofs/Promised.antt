@@ -52,10 +52,12 @@ module _ (stage : Stage) (kept : ∥ IsMachine stage ∥₁) where
         safe = k.replays.state.well.safe;
       })
 
+  pub has_moves : HasMoves (program_of stage) (length stage.run.moves.items)
+  has_moves = ∥∥₁_elim kept (moves_prop (program_of stage) (length stage.run.moves.items)) (λ k. k.moves)
+
   pub text_fits : IsAccepted (program_of stage) → TextFits (program_of stage) stage.places (length stage.run.moves.items)
   text_fits accepted =
-      laws.texts_fit (program_of stage) accepted stage.places (∥∥₁_elim kept (places_prop (program_of stage) stage.places) (λ k. k.places)) (length stage.run.moves.items)
-      (∥∥₁_elim kept (moves_prop (program_of stage) (length stage.run.moves.items)) (λ k. k.moves))
+      laws.texts_fit (program_of stage) accepted stage.places (∥∥₁_elim kept (places_prop (program_of stage) stage.places) (λ k. k.places)) (length stage.run.moves.items) has_moves
 
 -- ---- one event more
 

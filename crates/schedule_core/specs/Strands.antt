@@ -6,7 +6,7 @@ use Rattle.frame_engine.specs.declared.activation.Places.{Places}
 use Rattle.frame_engine.specs.Fits.{HasMoves}
 use Rattle.schedule_workers.specs.Starts.{ArePlaces}
 use Rattle.schedule_commit.specs.strand.strand_pages.Tables.{log_of}
-use Rattle.schedule_commit.specs.strand.Along.{IsUnderWay}
+use Rattle.schedule_commit.specs.strand.Along.{IsSettled, IsUnderWay}
 use Rattle.schedule_commit.specs.strand.declared.strand.Strand.{Strand}
 use Rattle.schedule_workers.specs.Lent.{IsPartFor}
 use Rattle.schedule_commit.specs.strands.Fitting.{FitsStrand, HasNoChild, segment_block}
@@ -17,11 +17,15 @@ use Rattle.schedule_core.specs.Stages.{IsState, program_of}
 abbrev pub HasRoomFor : Program → Strand → Type 0
 HasRoomFor program x = HasMoves program (length x.moves.items)
 
--- the strand is under way in the module, whose objects begin at these places
+-- the strand is under way in the module, whose objects begin at these places, and its frames are as they are published
 pub record IsStrandOf (program : Program) (x : Strand) : Type 0 where
   pub places : Places
   pub places_are : ArePlaces program places
-  pub way : ∥ IsUnderWay program places x ∥₁
+  pub way : ∥ IsSettled program places x ∥₁
+
+-- no more than its frames' boxes were written
+abbrev pub HasSettled : Strand → Strand → Type 0
+HasSettled old new = new ≡ record old { top = new.top; below = new.below; spare = new.spare }
 
 -- the worker runs the base as it was loaded, at its path, without children if it had none, and each cell that was read
 -- holds what was read

@@ -49,16 +49,19 @@ mod view;
 
 pub use absorb::{places_of, steps_of};
 pub use frame::Event;
-pub use frame_engine::{Frame, Places};
+pub use frame_engine::{Frame, Item, Places};
 pub use frames::FrameView;
 pub use laws::ended_enables_nothing;
 pub use machine::Machine;
 pub use parked::Parked;
 pub use ready::Ticket;
 pub use schedule::replay;
-pub use schedule_commit::{FrameStrand, FrameStrandPause, Strand, StrandPause};
+pub use schedule_commit::{CodePlace, FrameStrand, FrameStrandPause, Strand, StrandPause};
 pub use serial_machine::{Decoded, Finished, Memory, RunFault, Verified, unmet_requirement};
 pub use shared_places::SharedPlaces;
 pub use stage::Stage;
-pub use strands::{advance_strand, blank_strand, fill_strand, fill_strand_ahead};
+pub use strands::{
+    advance_strand, blank_strand, fill_strand, fill_strand_ahead, has_ready_below, made_on_top,
+    next_item, next_place, settle_strand,
+};
 pub use task::{Status, TaskView};

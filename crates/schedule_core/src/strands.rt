@@ -1,22 +1,27 @@
 //! Strands: what a worker did outside of the machine, across calls, detaches and what ends them, done at once.
-ghost use Rattle.std.specs.Prelude.{◌≡◌, ◌↔◌, ◌≤◌, IfNone, IfOk, IfSome, IsSome, IsTrue, None, Ok, OnErr, OnOk, OnSome, false, length, true};
+ghost use Rattle.std.specs.Prelude.{◌≡◌, ◌↔◌, ◌≤◌, IfNone, IfOk, IfSome, IsSome, IsTrue, None, Ok, OnErr, OnOk, OnSome, Some, false, length, true};
+ghost use Rattle.std.specs.List.{list_any};
+ghost use Rattle.frame_engine.specs.Items.{item_of};
 ghost use Rattle.serial_machine.specs.Decoding.{IsCodeOf};
 ghost use Rattle.frame_engine.specs.Flat.{cell_in};
 ghost use Rattle.schedule_commit.specs.strand.strand_pages.Logs.{filled_log, page_around};
 ghost use Rattle.schedule_commit.specs.strand.strand_pages.Tables.{log_of};
 ghost use Rattle.schedule_commit.specs.strand.Along.{IsUnderWay};
 ghost use Rattle.schedule_commit.specs.strand.Boards.{NeedsBoard};
-ghost use Rattle.schedule_commit.specs.strand.Going.{IsGoing};
-ghost use Rattle.schedule_commit.specs.strand.serial_stack.StackShown.{item_here};
-ghost use Rattle.schedule_core.specs.Strands.{StrandFits, HasRoomFor, IsBegun, IsStrandOf, RunsNothing};
+ghost use Rattle.schedule_commit.specs.strand.Going.{GoesStill, IsGoing};
+ghost use Rattle.schedule_commit.specs.strand.Leaving.{is_detach, made_on_top};
+ghost use Rattle.schedule_commit.specs.strand.Spans.{next_item, next_place, slot_item};
+ghost use Rattle.schedule_core.specs.Strands.{StrandFits, HasRoomFor, HasSettled, IsBegun, IsStrandOf, RunsNothing};
 ghost use Rattle.schedule_core.specs.Spots.{KeepsSpots};
 ghost use Rattle.schedule_core.specs.Stages.{program_of};
 ghost use Rattle.schedule_core.specs.FrameStrands.{TakesSteps};
 
 use crate::machine::Machine;
-use frame_engine::{Places, most_moves};
+use frame_engine::{Item, Places, most_moves};
 use lists::OutOfMemory;
-use schedule_commit::{Strand, StrandPause, has_no_child, page_around, publish};
+use schedule_commit::{
+    BoardFrame, CodePlace, Strand, StrandPause, has_no_child, page_around, publish,
+};
 use serial_machine::{Decoded, Verified};
 use std::alloc::Global;
 
@@ -51,11 +56,67 @@ pub fn advance_strand(
     ensures base { OnOk result (strand.new.base ≡ strand.old.base) }
     ensures room { OnOk result (strand.new.done ≤ limit) }
     ensures more { OnOk result (strand.old.done ≤ strand.new.done) }
-    ensures board { IfOk result (λ pause. pause ≡ StrandPause.Border → NeedsBoard verified.now code.now.places strand.new (item_here verified.now strand.new.top.value)) }
+    ensures board { IfOk result (λ pause. pause ≡ StrandPause.Border → NeedsBoard verified.now code.now.places strand.new (next_item verified.now strand.new)) }
     ensures limit { IfOk result (λ pause. (pause ≡ StrandPause.Limit) ↔ (strand.new.done ≡ limit)) }
     ensures going { IfOk result (λ pause. ∥ IsGoing verified.now code.now.places strand.new pause ∥₁) }
 {
     strand.go(verified.program(), code.places(), code.tables(), limit)
+}
+
+/// What the frame that goes on does next.
+pub fn next_item<'p>(strand: &Strand, verified: &'p Verified, code: &Decoded) -> Item<'p>
+    requires code { IsCodeOf verified.now code.now }
+    requires way { ∥ IsUnderWay verified.now code.now.places strand.now ∥₁ }
+    ensures { next_item verified.now strand.now ≡ Some (item_of result) }
+{
+    strand.next_item(verified.program(), code.places(), code.tables())
+}
+
+/// Where that stands.
+pub fn next_place(strand: &Strand, verified: &Verified, code: &Decoded) -> CodePlace
+    requires code { IsCodeOf verified.now code.now }
+    requires way { ∥ IsUnderWay verified.now code.now.places strand.now ∥₁ }
+    ensures { next_place verified.now strand.now ≡ Some result }
+{
+    strand.next_place(verified.program(), code.places(), code.tables())
+}
+
+/// How many children the frame that goes on has made.
+pub fn made_on_top(strand: &Strand, verified: &Verified, code: &Decoded) -> u64
+    requires way { ∥ IsUnderWay verified.now code.now.places strand.now ∥₁ }
+    ensures { result ≡ made_on_top strand.now }
+{
+    strand.made_on_top(verified.program(), code.places())
+}
+
+/// Whether a frame below is behind a detach.
+pub fn has_ready_below(strand: &Strand, verified: &Verified, code: &Decoded) -> bool
+    requires code { IsCodeOf verified.now code.now }
+    requires way { ∥ IsUnderWay verified.now code.now.places strand.now ∥₁ }
+    ensures { result ≡ list_any (λ saved. is_detach (slot_item verified.now saved.at)) strand.now.span.windows.below.items }
+{
+    strand.has_ready(verified.program(), code.places(), code.tables())
+}
+
+/// The strand's frames are as they can be published.
+///
+/// # Errors
+///
+/// Memory was refused: the strand stands as before.
+pub fn settle_strand(
+    strand: &mut Strand,
+    verified: &Verified,
+    code: &Decoded,
+) -> Result<(), OutOfMemory>
+    requires code { IsCodeOf verified.now code.now }
+    requires moves { HasRoomFor verified.now strand.old }
+    requires way { ∥ IsUnderWay verified.now code.now.places strand.old ∥₁ }
+    ensures only { HasSettled strand.old strand.new }
+    ensures way { ∥ IsUnderWay verified.now code.now.places strand.new ∥₁ }
+    ensures still { GoesStill verified.now code.now.places strand.old strand.new }
+    ensures made { OnOk result (IsStrandOf verified.now strand.new) }
+{
+    strand.settle(verified.program(), code.places(), code.tables())
 }
 
 /// The page of the address, whose cell the strand needs, holds these values.
@@ -115,7 +176,13 @@ impl Machine<'_> {
     /// # Errors
     ///
     /// Memory was refused: the strand shows nothing any more.
-    pub fn load_strand(&self, worker: u8, strand: &mut Strand) -> Result<bool, OutOfMemory>
+    pub fn load_strand(
+        &self,
+        worker: u8,
+        strand: &mut Strand,
+        code: &Decoded,
+    ) -> Result<bool, OutOfMemory>
+        requires code { IsCodeOf (program_of self.now.stage) code.now }
         ensures begun { IfOk result (λ there. IsTrue there → IsBegun self.now.stage worker strand.new) }
         ensures moves { OnOk result (strand.new.moves ≡ strand.old.moves) }
         ensures same { result ≡ Ok false → strand.new ≡ strand.old }
@@ -130,10 +197,16 @@ impl Machine<'_> {
         let childless = has_no_child(&node.frame);
         let program = self.stage.verified.program();
         let part = self.stage.run.free_part(program, worker);
-        strand.load(
-            &node.frame.frame,
-            node.path.numbers.as_slice(),
+        let base = BoardFrame {
+            frame: &node.frame.frame,
+            path: node.path.numbers.as_slice(),
             childless,
+        };
+        strand.load(
+            program,
+            code.places(),
+            code.tables(),
+            &base,
             part.start as u64,
             part.cells,
             self.stage.run.cells.cells.len(),

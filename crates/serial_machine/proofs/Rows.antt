@@ -16,7 +16,8 @@ use Rattle.frame_engine.specs.Flat.{cell_in, is_cell}
 use Rattle.frame_engine.specs.declared.flat.Flat.{Flat}
 use Rattle.frame_engine.specs.Shows.{IsIn, Layout, ShowsCells, address}
 use Rattle.laws_schedule.proofs.laws_phases.defined.Written.{plain_keeps}
-use Rattle.serial_stack.specs.Steps.{Placed, Run, Goes, plain, sync, detach, call, reattach, ret, EndsWith, Walk, begins, goes_on, starting}
+use Rattle.laws_strands.specs.stacks.Strands.{Placed}
+use Rattle.serial_stack.specs.Steps.{Run, Goes, plain, sync, detach, call, reattach, ret, EndsWith, Walk, begins, goes_on, starting}
 use Rattle.serial_stack.proofs.Walks.{steps_mean}
 use Rattle.serial_stack.specs.Layouts.{size_in, start_in, alloca_sizes, end_of, for_body, with_allocas, of_globals, layout_of, frames_of}
 use Rattle.serial_stack.specs.Runs.{HasEnded}

@@ -22,7 +22,8 @@ use Rattle.frame_engine.specs.Flat.{cell_in, is_cell}
 use Rattle.frame_engine.specs.declared.flat.Flat.{Flat}
 use Rattle.frame_engine.specs.Shows.{Layout, ShowsCells}
 use Rattle.serial_stack.specs.Layouts.{end_of, frames_of, layout_of}
-use Rattle.serial_stack.specs.Steps.{Placed, Run, Goes, detach}
+use Rattle.laws_strands.specs.stacks.Strands.{Placed}
+use Rattle.serial_stack.specs.Steps.{Run, Goes, detach}
 use Rattle.serial_stack.specs.StackShown.{BeginsAt, CanGo, HasTaker, ShowsBelow, ShowsOn, ShowsRun, TextFits, place_of, unboxed}
 use Rattle.serial_stack.specs.declared.stack.Stack.{Stack}
 use Rattle.serial_stack.proofs.Places.{detach_here}

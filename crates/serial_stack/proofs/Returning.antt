@@ -32,7 +32,8 @@ use Rattle.frame_engine.specs.Flat.{cell_in, is_cell}
 use Rattle.frame_engine.specs.Names.{HasResult, Sizes, sizes, taker_of}
 use Rattle.frame_engine.specs.Shows.{Layout, ShowsCells}
 use Rattle.serial_stack.specs.Layouts.{end_of, layout_of}
-use Rattle.serial_stack.specs.Steps.{Placed, Run, Goes, ret}
+use Rattle.laws_strands.specs.stacks.Strands.{Placed}
+use Rattle.serial_stack.specs.Steps.{Run, Goes, ret}
 use Rattle.serial_stack.specs.StackShown.{BeginsAt, CanGo, HasTaker, Ends as EndsRun, ShowsBelow, ShowsOn, ShowsRun, TextFits, item_here, unboxed}
 use Rattle.serial_stack.specs.declared.stack.Stack.{Stack}
 use Rattle.serial_stack.proofs.Calling.{tall_below}

@@ -15,7 +15,7 @@ use Rattle.program.specs.declared.function.Program.{Program}
 use Rattle.frame_engine.specs.Flat.{cell_in, is_cell}
 use Rattle.frame_engine.specs.Shows.{IsIn, Layout, ShowsCells, address}
 use Rattle.serial_stack.specs.Layouts.{offset_in, size_in, start_in, of_globals, with_allocas, alloca_sizes, for_body, end_of, layout_of}
-use Rattle.serial_stack.specs.Steps.{Placed}
+use Rattle.laws_strands.specs.stacks.Strands.{Placed}
 
 summed : (a : ℕ) (cells : List ℕ) → fold (λ (s x : ℕ). s + x) a cells ≡ a + fold (λ (s x : ℕ). s + x) 0 cells
 summed a [] = omega arith

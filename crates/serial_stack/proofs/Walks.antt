@@ -9,7 +9,8 @@ use Rattle.semantics.specs.SerialMeaning.{Ending, Left, Gave, Outcome, IsSerialM
 use Rattle.semantics.proofs.Fuel.{more_fuel}
 use Rattle.linear.specs.declared.form.RegisterId.{RegisterId}
 use Rattle.program.specs.declared.function.Program.{Program}
-use Rattle.serial_stack.specs.Steps.{Placed, Run, Goes, plain, sync, detach, call, reattach, ret, Walk, begins, goes_on, starting}
+use Rattle.laws_strands.specs.stacks.Strands.{Placed}
+use Rattle.serial_stack.specs.Steps.{Run, Goes, plain, sync, detach, call, reattach, ret, Walk, begins, goes_on, starting}
 
 -- ---- what the rest of a run comes to
 

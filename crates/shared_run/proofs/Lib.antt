@@ -7,6 +7,7 @@ pub mod Calls
 pub mod Commits
 pub mod Made
 pub mod Strands
+pub mod Settling
 pub mod Resting
 -- for the crates above
 pub use Rattle.schedule_core.proofs as schedule_core

@@ -2,13 +2,8 @@
 use Rattle.std.proofs.Common.{◌≡◌, ◌≢◌, ℕ, zero, suc, ℤ, refl, sym, ap, ◌∙◌, subst, length, Bool, true, false, List, [], ◌∷◌, Option, Some, None}
 use Rattle.std.specs.Prelude.{◌↔◌, IsSome}
 use Rattle.std.proofs.Math.Logic.{∥∥₁_map}
-use Rattle.program.specs.declared.function.Block.{Block}
 use Rattle.program.specs.declared.function.Program.{Program}
-use Rattle.program.specs.declared.instruction.Ending.{Ending}
-use Rattle.program.specs.declared.instruction.Step.{Step}
-use Rattle.semantics.specs.Frames.{Ends, and_then, block_at, item_of}
 use Rattle.schedule_workers.specs.Starts.{ArePlaces}
-use Rattle.schedule_core.specs.frame_engine.declared.activation.Frame.{Frame}
 use Rattle.schedule_core.specs.frame_engine.declared.activation.Places.{Places}
 use Rattle.schedule_core.specs.frame_engine.Flat.{cell_in}
 use Rattle.schedule_core.specs.strand.strand_pages.Logs.{filled_log, page_around}
@@ -16,14 +11,14 @@ use Rattle.schedule_core.specs.strand.strand_pages.Tables.{log_of}
 use Rattle.schedule_core.specs.strand.Along.{IsUnderWay}
 use Rattle.schedule_core.specs.strand.Boards.{NeedsBoard}
 use Rattle.schedule_core.specs.strand.Going.{IsGoing}
-use Rattle.schedule_core.specs.strand.serial_stack.StackShown.{item_here}
+use Rattle.schedule_core.specs.strand.Spans.{next_item}
 use Rattle.schedule_core.specs.strand.declared.strand.Strand.{Strand}
 use Rattle.schedule_core.specs.strand.declared.going.StrandPause.{StrandPause}
 use Rattle.schedule_core.specs.strand.declared.going.StrandPause.TheVariants as pause
-use Rattle.schedule_core.specs.Strands.{HasRoomFor, IsStrandOf}
+use Rattle.schedule_core.specs.Strands.{HasRoomFor}
 use Rattle.shared_run.specs.declared.worker_strand.Standing.{Standing}
 use Rattle.shared_run.specs.declared.worker_strand.Standing.TheVariants.{Blank, Going, Border, Full, Need, Spoilt}
-use Rattle.shared_run.specs.Strands.{Apart, FillsAhead, Holds, IsUp, Onward, StandsSo, is_reattach}
+use Rattle.shared_run.specs.Strands.{Apart, FillsAhead, Holds, IsUp, Onward, StandsSo}
 use Rattle.shared_run.specs.Story.{Story}
 
 module _ (prog : Program) (places : Places) (x : Strand) where
@@ -44,15 +39,11 @@ module _ (prog : Program) (places : Places) (x : Strand) where
   has_room Spoilt h off = absurd (off refl)
 
   -- at a pause
-  pub holds_onward : (r : StrandPause) (s : Standing) → Onward r s → HasRoomFor prog x → (r ≡ pause.Border → NeedsBoard prog places x (item_here prog x.top.value)) → ∥ IsGoing prog places x r ∥₁ → Holds prog places x s
+  pub holds_onward : (r : StrandPause) (s : Standing) → Onward r s → HasRoomFor prog x → (r ≡ pause.Border → NeedsBoard prog places x (next_item prog x)) → ∥ IsGoing prog places x r ∥₁ → Holds prog places x s
   holds_onward pause.Border s is room board going = subst (λ y. Holds prog places x y) (sym is) (room, ∥∥₁_map going (λ g. g.way), board refl)
   holds_onward pause.Limit s is room board going = subst (λ y. Holds prog places x y) (sym is) (room, ∥∥₁_map going (λ g. g.way))
   holds_onward pause.Full s is room board going = subst (λ y. Holds prog places x y) (sym is) (room, going)
   holds_onward (pause.Need at) s is room board going = subst (λ y. Holds prog places x y) (sym is) (room, going)
-
-  pub strand_held : (code : Program) (s : Standing) → prog ≡ code → ArePlaces prog places → Holds prog places x s → IsUp s → IsStrandOf code x
-  strand_held code s is are h up =
-      subst (λ (q : Program). IsStrandOf q x) is (record { places = places; places_are = are; way = under_way s h up })
 
 -- wherever the module's objects begin, a strand that holds stands so
 pub stands_so : (prog code : Program) (places : Places) (y : Apart) → prog ≡ code → ArePlaces prog places → Holds prog places y.strand y.standing → StandsSo code y
@@ -64,47 +55,6 @@ goes_at pause.Border s n limit is at = (λ e. absurd (let h : Border ≡ Going =
 goes_at pause.Limit s n limit is at = (λ e. at.0 refl, λ e. is)
 goes_at pause.Full s n limit is at = (λ e. absurd (let h : Full ≡ Going = sym is ∙ e in cc), λ e. absurd (let h : pause.Full ≡ pause.Limit = at.1 e in cc))
 goes_at (pause.Need a) s n limit is at = (λ e. absurd (let h : Need a ≡ Going = sym is ∙ e in cc), λ e. absurd (let h : pause.Need a ≡ pause.Limit = at.1 e in cc))
-
--- ---- what comes next
-
-item_end : (steps : List Step) (ending : Ending) → item_of steps (Some ending) (length steps) ≡ Some (Ends ending.terminator)
-item_end [] ending = refl
-item_end (step ∷ steps) ending = item_end steps ending
-
-pub at_end : (result : Bool) (steps : List Step) (ending : Option Ending) (last : Ending) (index count : ℕ) → ending ≡ Some last → index ≡ count → count ≡ length steps →
-    result ≡ is_reattach (Some (Ends last.terminator)) → result ≡ is_reattach (item_of steps ending index)
-at_end result steps ending last index count is at all e =
-    e ∙ sym (ap is_reattach (ap (λ (o : Option Ending). item_of steps o index) is ∙ ap (item_of steps (Some last)) (at ∙ all) ∙ item_end steps last))
-
-before_end : (steps : List Step) (ending : Option Ending) (index : ℕ) → index ≢ length steps → false ≡ is_reattach (item_of steps ending index)
-before_end [] None index off = refl
-before_end [] (Some ending) zero off = absurd (off refl)
-before_end [] (Some ending) (suc index) off = refl
-before_end (step ∷ steps) ending zero off = refl
-before_end (step ∷ steps) ending (suc index) off = before_end steps ending index (λ e. off (ap suc e))
-
-pub none_before : (steps : List Step) (ending : Option Ending) (index count : ℕ) → index ≢ count → count ≡ length steps → false ≡ is_reattach (item_of steps ending index)
-none_before steps ending index count off all = before_end steps ending index (λ e. off (e ∙ sym all))
-
-no_end : (steps : List Step) (index : ℕ) → false ≡ is_reattach (item_of steps None index)
-no_end [] index = refl
-no_end (step ∷ steps) zero = refl
-no_end (step ∷ steps) (suc index) = no_end steps index
-
-pub none_without : (steps : List Step) (ending : Option Ending) (index : ℕ) → ending ≡ None → false ≡ is_reattach (item_of steps ending index)
-none_without steps ending index is = no_end steps index ∙ ap (λ (o : Option Ending). is_reattach (item_of steps o index)) (sym is)
-
--- by the block that stands there
-pub next_at : (result : Bool) (own code : Program) (f g : Frame) (b : Block) → own ≡ code → g ≡ f → Some b ≡ block_at own g.function.0 g.place.block.0 →
-    result ≡ is_reattach (item_of b.steps b.ending g.place.index) → result ≡ is_reattach (item_here code f)
-next_at result own code f g b is same at e =
-    subst (λ (p : Program). result ≡ is_reattach (item_here p f)) is (subst (λ (h : Frame). result ≡ is_reattach (item_here own h)) same
-    (e ∙ ap (λ (o : Option Block). is_reattach (and_then o (λ (x : Block). item_of x.steps x.ending g.place.index))) at))
-
-pub next_nowhere : (own code : Program) (f g : Frame) → own ≡ code → g ≡ f → None ≡ block_at own g.function.0 g.place.block.0 → false ≡ is_reattach (item_here code f)
-next_nowhere own code f g is same at =
-    subst (λ (p : Program). false ≡ is_reattach (item_here p f)) is (subst (λ (h : Frame). false ≡ is_reattach (item_here own h)) same
-    (ap (λ (o : Option Block). is_reattach (and_then o (λ (x : Block). item_of x.steps x.ending g.place.index))) at))
 
 -- ---- a page that is given ahead
 

@@ -4,8 +4,6 @@ use Rattle.std.specs.Prelude.{true, false, List, reverse}
 use Rattle.program.specs.declared.function.Program.{Program}
 use Rattle.program.specs.declared.instruction.Terminator.TheVariants as terminator
 use Rattle.semantics.specs.Frames.{Item, Does, Ends}
-use Rattle.frame.specs.declared.frame.Wait.{Wait}
-use Rattle.frame.specs.declared.frame.Wait.TheVariants.{Nothing, Region, Call}
 use Rattle.frame.specs.declared.event.Event.TheVariants.{Step}
 use Rattle.schedule_core.specs.frame_engine.declared.activation.Places.{Places}
 use Rattle.schedule_core.specs.frame_engine.Flat.{cell_in}
@@ -14,19 +12,21 @@ use Rattle.schedule_core.specs.strand.strand_pages.Tables.{log_of}
 use Rattle.schedule_core.specs.strand.Along.{IsUnderWay}
 use Rattle.schedule_core.specs.strand.Boards.{NeedsBoard}
 use Rattle.schedule_core.specs.strand.Going.{IsGoing}
-use Rattle.schedule_core.specs.strand.serial_stack.StackShown.{item_here}
+use Rattle.schedule_core.specs.strand.Leaving.{made_on_top}
+use Rattle.schedule_core.specs.strand.Spans.{next_item, next_place}
 use Rattle.schedule_workers.specs.Starts.{ArePlaces}
 use Rattle.schedule_core.specs.strand.declared.strand.Strand.{Strand}
 use Rattle.schedule_core.specs.strand.declared.going.StrandPause.{StrandPause}
 use Rattle.schedule_core.specs.strand.declared.going.StrandPause.TheVariants as pause
 use Rattle.schedule_core.specs.declared.ready.Ticket.{Ticket}
-use Rattle.schedule_core.specs.Strands.{StrandFits, HasRoomFor, IsBegun}
+use Rattle.schedule_core.specs.Strands.{HasRoomFor, HasSettled, IsBegun, StrandFits}
 use Rattle.schedule_core.specs.ReadyBelow.{AreReadyBelow}
 use Rattle.schedule_core.specs.FrameStrands.{TakesSteps}
 use Rattle.shared_run.specs.declared.answers.Loaded.{Loaded}
 use Rattle.shared_run.specs.declared.answers.Loaded.TheVariants as loaded
 use Rattle.shared_run.specs.declared.answers.Published.{Published}
 use Rattle.shared_run.specs.declared.answers.Published.TheVariants as published
+use Rattle.shared_run.specs.declared.frames.Top.{Top}
 use Rattle.shared_run.specs.declared.worker_strand.Standing.{Standing}
 use Rattle.shared_run.specs.declared.worker_strand.Standing.TheVariants.{Blank, Going, Border, Full, Need, Spoilt}
 use Rattle.shared_run.specs.Calls.{Appends, Same, Stays}
@@ -53,16 +53,10 @@ abbrev pub Holds : Program → Places → Strand → Standing → Type 0
 Holds prog places x Blank = HasRoomFor prog x
 Holds prog places x Going = HasRoomFor prog x × ∥ IsUnderWay prog places x ∥₁
 Holds prog places x Border = HasRoomFor prog x × ∥ IsUnderWay prog places x ∥₁ ×
-    NeedsBoard prog places x (item_here prog x.top.value)
+    NeedsBoard prog places x (next_item prog x)
 Holds prog places x Full = HasRoomFor prog x × ∥ IsGoing prog places x pause.Full ∥₁
 Holds prog places x (Need at) = HasRoomFor prog x × ∥ IsGoing prog places x (pause.Need at) ∥₁
 Holds prog places x Spoilt = ⊤
-
--- a frame behind a detach waits for nothing
-abbrev pub waits_for_nothing : Wait → Bool
-waits_for_nothing Nothing = true
-waits_for_nothing (Region region) = false
-waits_for_nothing (Call child register) = false
 
 -- a reattach stands there
 abbrev pub is_reattach : Option Item → Bool
@@ -115,6 +109,16 @@ Fills s x y false = (y ≡ x) × ((at : ℤ) → x.standing ≡ Need at → cell
 abbrev pub FillsAhead : Story → ℤ → Apart → Apart → Bool → Type 0
 FillsAhead s at x y true = (x.standing ≡ Going) × IsFilled s at x y
 FillsAhead s at x y false = y ≡ x
+
+-- no more than its frames' boxes were written
+pub record IsSettled (x y : Apart) : Type 0 where
+  pub standing : y.standing ≡ x.standing
+  pub only : HasSettled x.strand y.strand
+
+-- the frame that goes on stands there, and has made so many children
+pub record IsTop (prog : Program) (x : Strand) (top : Top) : Type 0 where
+  pub at : next_place prog x ≡ Some top.at
+  pub made : top.made ≡ made_on_top x
 
 -- ---- what is put on the board
 

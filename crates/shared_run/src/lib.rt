@@ -46,12 +46,13 @@ mod worker_strand;
 pub use answers::{Claimed, Committed, Fetched, Loaded, Published, Stepped};
 pub use bench::Bench;
 pub use board::Board;
+pub use frames::Top;
 pub use history::{Entry, History, Keeping};
 pub use outside::{advance, blank_frame_strand, clear};
 pub use rest::{BoardRest, StrandRest};
 pub use schedule_core::{
-    Decoded, Event, Finished, FrameStrand, FrameStrandPause, Machine, Memory, Places, RunFault,
-    Status, TaskView, Verified, places_of, replay, steps_of,
+    CodePlace, Decoded, Event, Finished, FrameStrand, FrameStrandPause, Machine, Memory, Places,
+    RunFault, Status, TaskView, Verified, places_of, replay, steps_of,
 };
 pub use seat::Seat;
 pub use shared::{Shared, Unended};

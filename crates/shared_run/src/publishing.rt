@@ -1,6 +1,7 @@
 //! What a board does with its workers' strands.
 ghost use Rattle.std.specs.Prelude.{OnOk};
-ghost use Rattle.shared_run.specs.Strands.{AreReadyTickets, Fills, FillsAhead, Loads, Publishes};
+ghost use Rattle.schedule_core.specs.Strands.{IsStrandOf};
+ghost use Rattle.shared_run.specs.Strands.{AreReadyTickets, Fills, FillsAhead, IsSettled, IsUp, Loads, Publishes};
 
 use crate::answers::{Loaded, Published};
 use crate::bench::Bench;
@@ -49,8 +50,21 @@ impl<L: Bench> Board<'_, L> {
     }
 
     /// What a strand did outside of the board, as steps of the seat's worker. So it is where the worker runs the base that was loaded, and each
-    /// cell that was read holds what was read. Where the strand stands at a border, the border's step is one of [`Board::step`].
-    pub fn publish(&mut self, seat: &mut Seat<L>, strand: &WorkerStrand<'_, L>) -> Published
+    /// cell that was read holds what was read. Where the strand stands at a border, the border's step is one of [`Board::step`]. The strand stands as before.
+    #[tactic(auto, using(crate::proofs::Settling::publishes_settled, crate::proofs::Settling::stays_so))]
+    pub fn publish(&mut self, seat: &mut Seat<L>, strand: &mut WorkerStrand<'_, L>) -> Published
+        ensures publishes { Publishes strand.old self.old self.new seat.old seat.new result }
+        ensures strand { IsSettled strand.old strand.new }
+    {
+        match strand.settle() {
+            Ok(()) => self.put(seat, strand),
+            Err(OutOfMemory) => Published::OutOfMemory,
+        }
+    }
+
+    /// The same of a strand whose frames are as the board takes them.
+    fn put(&mut self, seat: &mut Seat<L>, strand: &WorkerStrand<'_, L>) -> Published
+        requires made { IsUp strand.now.standing → IsStrandOf L.code strand.now.strand }
         ensures { Publishes strand.now self.old self.new seat.old seat.new result }
     {
         let Some(held) = strand.held() else {

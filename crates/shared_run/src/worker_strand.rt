@@ -1,23 +1,23 @@
 ghost use Rattle.std.specs.Prelude.{◌≡◌, ◌≢◌, ◌↔◌, ◌≤◌, IfOk, IfSome, IfNone, IsTrue, OnErr, OnOk, Ok, Some, false, length, true};
 ghost use Rattle.std.specs.List.{list_any};
-ghost use Rattle.semantics.specs.Frames.{Ends, item_of};
+ghost use Rattle.semantics.specs.Frames.{Ends};
 ghost use Rattle.schedule_core.specs.serial_machine.Decoding.{IsCodeOf};
-ghost use Rattle.schedule_core.specs.strand.serial_stack.StackShown.{item_here};
+ghost use Rattle.schedule_core.specs.strand.Leaving.{is_detach};
+ghost use Rattle.schedule_core.specs.strand.Spans.{next_item, slot_item};
 ghost use Rattle.schedule_core.specs.strand.strand_pages.Logs.{filled_log, is_open};
 ghost use Rattle.schedule_core.specs.strand.strand_pages.Tables.{log_of};
 ghost use Rattle.schedule_core.specs.Strands.{IsBegun, IsStrandOf, RunsNothing};
 ghost use Rattle.schedule_core.specs.Stages.{program_of};
 ghost use Rattle.shared_run.specs.Resting.{StaysPut};
-ghost use Rattle.shared_run.specs.Strands.{GoesOnBy, IsUp, Onward, StandsSo, is_reattach, waits_for_nothing};
+ghost use Rattle.shared_run.specs.Strands.{GoesOnBy, IsSettled, IsUp, Onward, StandsSo, is_reattach};
 
 use crate::bench::Bench;
 use crate::rest::StrandRest;
-use frame::{Wait, block_at};
 use lists::OutOfMemory;
-use program::{Block, Terminator};
+use program::Terminator;
 use schedule_core::{
-    Decoded, Machine, Strand, StrandPause, Verified, advance_strand, blank_strand, fill_strand,
-    fill_strand_ahead,
+    Decoded, Item, Machine, Strand, StrandPause, Verified, advance_strand, blank_strand,
+    fill_strand, fill_strand_ahead, has_ready_below, next_item, settle_strand,
 };
 use std::alloc::Global;
 use std::marker::{Model, PhantomData};
@@ -44,7 +44,7 @@ pub enum Standing {
 
 impl Standing {
     /// Whether a strand that stands so holds a frame.
-    fn is_up(self) -> bool
+    pub(crate) fn is_up(self) -> bool
         ensures { IsTrue result ↔ IsUp self }
     {
         match self {
@@ -65,32 +65,11 @@ impl Standing {
     }
 }
 
-/// Whether a frame that waits so stands behind a detach.
-fn waits_for_nothing(waits: Wait) -> bool
-    ensures { result ≡ waits_for_nothing waits }
-{
-    matches!(waits, Wait::Nothing)
-}
-
 /// Whether this is a reattach.
 fn is_reattach(terminator: &Terminator) -> bool
     ensures { result ≡ is_reattach (Some (Ends terminator.now)) }
 {
     matches!(terminator, Terminator::Reattach { .. })
-}
-
-/// Whether a reattach stands at this place of the block.
-#[tactic(auto, using(crate::proofs::Strands::at_end, crate::proofs::Strands::none_before, crate::proofs::Strands::none_without))]
-fn ends_by_reattach(block: &Block, index: usize) -> bool
-    ensures { result ≡ is_reattach (item_of block.now.steps block.now.ending index) }
-{
-    let Some(ending) = &block.ending else {
-        return false;
-    };
-    if index != block.steps.len() {
-        return false;
-    }
-    is_reattach(&ending.terminator)
 }
 
 /// A worker's strand, with the module: what it does outside of the board from the frame on that it runs there. Contracts see it and how it stands.
@@ -168,33 +147,36 @@ impl<'p, L: Bench> WorkerStrand<'p, L> {
 
     /// How many of its frames stand below the one that goes on.
     pub fn frames_below(&self) -> usize
-        ensures { result ≡ length self.now.strand.below.items }
+        ensures { result ≡ length self.now.strand.span.windows.below.items }
     {
-        self.strand.below.len()
+        self.strand.count_below()
     }
 
     /// Whether a frame below is behind a detach, so that its task is ready once the strand is published.
+    #[tactic(auto, using(crate::proofs::Strands::under_way, crate::proofs::Settling::ready_at))]
     pub fn has_ready_frame(&self) -> bool
-        ensures { result ≡ list_any (λ frame. waits_for_nothing frame.value.waits) self.now.strand.below.items }
+        ensures { IsUp self.now.standing → result ≡ list_any (λ saved. is_detach (slot_item L.code saved.at)) self.now.strand.span.windows.below.items }
     {
-        let mut frames = self.strand.below.iter();
-        frames.any(|frame| waits_for_nothing(frame.waits))
+        self.standing.is_up() && has_ready_below(&self.strand, self.verified, self.code)
     }
 
-    /// Whether a reattach is next.
-    #[tactic(auto, using(crate::proofs::Strands::next_at, crate::proofs::Strands::next_nowhere))]
+    /// Whether it holds a frame, and a reattach is next.
+    #[tactic(auto, using(crate::proofs::Strands::under_way, crate::proofs::Settling::none_by_step, crate::proofs::Settling::next_by_end))]
     pub fn is_at_reattach(&self) -> bool
-        ensures { result ≡ is_reattach (item_here L.code self.now.strand.top.value) }
+        ensures { IsUp self.now.standing → result ≡ is_reattach (next_item L.code self.now.strand) }
     {
-        let top = self.strand.top.as_ref();
-        match block_at(self.verified.program(), top.function, top.place.block) {
-            Some(block) => ends_by_reattach(block, top.place.index),
-            None => false,
+        if !self.standing.is_up() {
+            return false;
+        }
+        match next_item(&self.strand, self.verified, self.code) {
+            Item::Does(_) => false,
+            Item::Ends(terminator) => is_reattach(terminator),
         }
     }
 
     /// The strand, where it holds a frame.
     pub(crate) fn held(&self) -> Option<&Strand>
+        requires made { IsUp self.now.standing → IsStrandOf L.code self.now.strand }
         ensures there { IfSome result (λ strand. IsUp self.now.standing × (strand.now ≡ self.now.strand)) }
         ensures made { IfSome result (λ strand. IsStrandOf L.code strand.now) }
         ensures none { IfNone result (¬ IsUp self.now.standing) }
@@ -204,6 +186,22 @@ impl<'p, L: Bench> WorkerStrand<'p, L> {
         } else {
             None
         }
+    }
+
+    /// Its frames, where it holds one, are as a board takes them.
+    ///
+    /// # Errors
+    ///
+    /// Memory was refused: it stands as before.
+    #[tactic(auto, using(crate::proofs::Strands::under_way, crate::proofs::Settling::has_room_up, crate::proofs::Settling::holds_settled, crate::proofs::Settling::strand_of))]
+    pub(crate) fn settle(&mut self) -> Result<(), OutOfMemory>
+        ensures only { IsSettled self.old self.new }
+        ensures made { OnOk result (IsUp self.new.standing → IsStrandOf L.code self.new.strand) }
+    {
+        if !self.standing.is_up() {
+            return Ok(());
+        }
+        settle_strand(&mut self.strand, self.verified, self.code)
     }
 
     /// Holds no frame from here on.
@@ -240,7 +238,7 @@ impl<'p, L: Bench> WorkerStrand<'p, L> {
         ensures none { result ≢ Ok true → ¬ IsUp self.new.standing }
     {
         self.renew()?;
-        match machine.load_strand(worker, &mut self.strand) {
+        match machine.load_strand(worker, &mut self.strand, self.code) {
             Ok(true) => {
                 self.standing = Standing::Going;
                 Ok(true)

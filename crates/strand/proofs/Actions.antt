@@ -1,5 +1,5 @@
 -- What a strand that can go on does at a place that is no plain step.
-use Rattle.std.proofs.Common.{◌≡◌, List, [], ◌∷◌, refl, ◌∙◌, subst, Option, Some, None, ℤ}
+use Rattle.std.proofs.Common.{◌≡◌, List, [], ◌∷◌, refl, subst, Option, Some, None, ℤ}
 use Rattle.std.specs.Prelude.{IsSome}
 use Rattle.linear.specs.declared.form.RegisterId.{RegisterId}
 use Rattle.semantics.specs.Frames.{Value, Registers, Free, OnCall, Frame, Item, Does, Ends, item_at}
@@ -12,21 +12,17 @@ use Rattle.program.specs.declared.instruction.Operand.{Operand}
 use Rattle.program.specs.declared.instruction.Instruction.TheVariants as instruction
 use Rattle.program.specs.declared.instruction.Terminator.TheVariants as terminator
 use Rattle.frame_engine.specs.Shows.{Layout, Safe, TrapFree}
-use Rattle.frame_engine.specs.declared.activation.Places.{Places}
-use Rattle.serial_stack.specs.Steps as serial
 use Rattle.serial_stack.specs.Steps.{HasNoStep, IsStuck, Run}
-use Rattle.serial_stack.specs.StackShown.{item_here}
 use Rattle.serial_stack.proofs.Places.{call_here, detach_here, reattach_here, return_here, sync_here}
 use Rattle.strand.specs.frame_strand.Alone as alone
 use Rattle.laws_strands.specs.stacks.Footprint.{memory_of}
 use Rattle.laws_strands.specs.stacks.Strands as strands
-use Rattle.laws_strands.specs.stacks.Strands.{next_action}
+use Rattle.laws_strands.specs.stacks.Strands.{Placed, next_action}
 use Rattle.strand.specs.Layouts.{Segment, layout_above}
-use Rattle.strand.specs.StrandShown.{CanGo, ShowsStrand}
-use Rattle.strand.specs.declared.strand.Strand.{Strand}
+use Rattle.strand.specs.Steps.{CanGo}
 
 -- a frame below for which an action that does not trap can be done
-abbrev fake : Frame → Action → List serial.Placed
+abbrev fake : Frame → Action → List Placed
 fake f (Plain e) = []
 fake f (Detach r b c) = []
 fake f (Sync r b rs) = []
@@ -41,9 +37,6 @@ unstuck f (Sync r b rs) free h = h
 unstuck f (Call d g vs) free h = h
 unstuck f (Reattach r) free h = h
 unstuck f (Return v) free h = h
-
-pub placed : (l : Layout) (prog : Program) (places : Places) (s : Segment) (d : strands.Strand) (x : Strand) (i : Item) → ShowsStrand l prog places s d x → item_here prog x.top.value ≡ Some i → item_at prog d.top.frame.function d.top.frame.block d.top.frame.index ≡ Some i
-placed l prog places s d x i h e = let t = h.top.shown in (λ j. item_at prog (t.function j) (t.block j) (t.index j)) ∙ e
 
 module _ (prog : Program) (l : Layout) (s : Segment) (d : strands.Strand) (can : CanGo prog l s d) where
   pub safe : Safe prog (layout_above l prog s.start d.top d.below) d.top.path d.top.frame (memory_of d.footprint)

@@ -1,15 +1,12 @@
--- A frame of the same path, role and count of children stands as well: cells of frames to come, and where its own begin.
-use Rattle.std.proofs.Common.{◌≡◌, ℕ, ◌≤◌, List, [], ◌∷◌, sym, ◌∙◌, subst, arith, ℤ, true}
+-- Cells of frames to come, where the frame on top has the same path and as many children as before, or more.
+use Rattle.std.proofs.Common.{◌≡◌, ◌≤◌, List, [], ◌∷◌, ◌∙◌, subst, arith, true}
 use Rattle.semantics.specs.Paths.{Path, Under}
 use Rattle.semantics.specs.Cells.{Cell, owns}
-use Rattle.semantics.specs.Frames.{Role}
-use Rattle.program.specs.declared.function.Program.{Program}
-use Rattle.serial_stack.specs.StackShown as serial
 use Rattle.laws_strands.specs.stacks.Strands.{Placed}
 use Rattle.laws_strands.specs.stacks.Footprint.{Footprint}
 use Rattle.laws_strands.proofs.stacks.Rising.{Rises}
-use Rattle.strand.specs.Layouts.{IsToCome, end_above}
-use Rattle.strand.specs.StrandShown.{BeginsAt, NoneMet, NotMet}
+use Rattle.strand.specs.Layouts.{IsToCome}
+use Rattle.strand.specs.Met.{NoneMet, NotMet}
 use Rattle.strand.proofs.Coming.{AreClear, IsClear, base_to_come, under_up}
 
 pub met_top : (f : Footprint) (t : Placed) (below : List Placed) → NoneMet f t below → NotMet f t
@@ -32,11 +29,6 @@ met_same f t u below path made met = met_again f t u below (comes_later t u path
 -- what a new frame has to make the one below had
 pub comes_above : (t c : Placed) → c.path ≡ t.frame.made ∷ t.path → (x : Path) → IsToCome c x → IsToCome t x
 comes_above t c path x come = record { child = t.frame.made; later = omega arith; under = under_up come.child (t.frame.made ∷ t.path) x (subst (λ (p : Path). Under (come.child ∷ p) x) path come.under) }
-
-pub begins_same : (prog : Program) (start : ℕ) (t u : Placed) (below : List Placed) (home at : ℤ) → u.frame.role ≡ t.frame.role → at ≡ home → BeginsAt prog start t below home → BeginsAt prog start u below at
-begins_same prog start t u [] home at role same b = tt
-begins_same prog start t u (g ∷ rest) home at role same b =
-    subst (λ (q : Role). serial.BeginsAt q at (end_above prog start g rest)) (sym role) (subst (λ (z : ℤ). serial.BeginsAt t.frame.role z (end_above prog start g rest)) (sym same) b)
 
 -- Where nothing is known of a path's cells before, and they are none of those of which something may be known afterwards, nothing is.
 module _ (f g : Footprint) (P : Cell → Type 0) (others : (y : Cell) → (P y → ⊥) → (g.reads y ≡ f.reads y) × (g.writes y ≡ f.writes y)) where

@@ -16,7 +16,9 @@ use Rattle.laws_strands.specs.stacks.Strands as strands
 use Rattle.laws_strands.specs.stacks.Strands.{IsStrand, at}
 use Rattle.strand.specs.Layouts.{IsOutside, Segment, end_above}
 use Rattle.strand.specs.OwnCells.{segment_of}
-use Rattle.strand.specs.StrandShown.{CanGo, ShowsStrand}
+use Rattle.strand.specs.Boxes.{ShowsStrand}
+use Rattle.strand.specs.Spans.{ShowsSpan}
+use Rattle.strand.specs.Steps.{CanGo}
 use Rattle.strand.specs.declared.strand.Strand.{Strand}
 
 -- The machine's frame shows one that may go on as a strand: wherever it comes within 65,536 instructions with no more
@@ -35,18 +37,20 @@ abbrev pub GoesAsStrandFrom : Program → Places → Layout → Frame → Strand
 GoesAsStrandFrom prog places l g x =
     GoesAsStrand prog places l (reverse x.base.path.items) g x.base.frame x.base.childless (segment_of x.cells)
 
--- a strand of the frame g is shown
-pub record IsAlong (prog : Program) (places : Places) (l : Layout) (g : Frame) (x : Strand) : Type 0 where
-  pub strand : strands.Strand
-  pub is : IsStrand prog strand
-  pub base : strand.base ≡ at (reverse x.base.path.items) g
-  pub shown : ShowsStrand l prog places (segment_of x.cells) strand x
-
 -- some frame of the definitions that the loaded one shows that may go on as a strand
 pub record MayGo (prog : Program) (places : Places) (x : Strand) : Type 0 where
   pub layout : Layout
   pub frame : Frame
   pub goes : GoesAsStrandFrom prog places layout frame x
+
+-- ---- in windows
+
+-- a strand of the frame g is shown
+pub record IsAlong (prog : Program) (places : Places) (l : Layout) (g : Frame) (x : Strand) : Type 0 where
+  pub strand : strands.Strand
+  pub is : IsStrand prog strand
+  pub base : strand.base ≡ at (reverse x.base.path.items) g
+  pub shown : ShowsSpan l prog places (segment_of x.cells) strand x
 
 -- a base is loaded, and whatever frame of the definitions it shows, it is a strand of that frame
 pub record IsUnderWay (prog : Program) (places : Places) (x : Strand) : Type 0 where
@@ -54,7 +58,24 @@ pub record IsUnderWay (prog : Program) (places : Places) (x : Strand) : Type 0 w
   pub short : x.done ≤ 65536
   pub along : (l : Layout) (g : Frame) → GoesAsStrandFrom prog places l g x → IsAlong prog places l g x
 
--- the same of a frame that is to be loaded, the root's number first in its path
+-- ---- in boxes, as it is published
+
+-- a strand of the frame g is shown
+pub record IsAlongSettled (prog : Program) (places : Places) (l : Layout) (g : Frame) (x : Strand) : Type 0 where
+  pub strand : strands.Strand
+  pub is : IsStrand prog strand
+  pub base : strand.base ≡ at (reverse x.base.path.items) g
+  pub shown : ShowsStrand l prog places (segment_of x.cells) strand x
+
+-- so is a strand whose frames were written into boxes since it went on last
+pub record IsSettled (prog : Program) (places : Places) (x : Strand) : Type 0 where
+  pub started : MayGo prog places x
+  pub short : x.done ≤ 65536
+  pub along : (l : Layout) (g : Frame) → GoesAsStrandFrom prog places l g x → IsAlongSettled prog places l g x
+
+-- ---- before it is loaded
+
+-- some frame of the definitions that the machine's shows may go on as a strand; the root's number is first in its path
 pub record MayBegin (prog : Program) (places : Places) (path : List ℕ) (f : machine.Frame) (childless : Bool)
     (s : Segment) : Type 0 where
   pub layout : Layout

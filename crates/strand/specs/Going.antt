@@ -23,3 +23,7 @@ pub record IsGoing (prog : Program) (places : Places) (x : Strand) (r : StrandPa
   pub way : IsUnderWay prog places x
   pub stops : (l : Layout) (g : Frame) (goes : GoesAsStrandFrom prog places l g x) →
       Stopped prog l (way.along l g goes).strand x.cells r
+
+-- at each pause it stands as before
+abbrev pub GoesStill : Program → Places → Strand → Strand → Type 0
+GoesStill prog places old new = (r : StrandPause) → ∥ IsGoing prog places old r ∥₁ → ∥ IsGoing prog places new r ∥₁

@@ -1,11 +1,11 @@
 -- Where the cells of a worker's own frames lie: in its segment, the allocas of each frame after those of the frames
 -- below it.
-use Rattle.std.specs.Prelude.{◌≡◌, ℕ, ◌+◌, ◌<◌, ◌≤◌, ◌≢◌, List, [], ◌∷◌, sum, false, ℤ, pos}
+use Rattle.std.specs.Prelude.{◌≡◌, ℕ, ◌+◌, ◌<◌, ◌≤◌, ◌≢◌, List, ◌∷◌, false, ℤ, pos}
 use Rattle.semantics.specs.Paths.{Path, Under}
 use Rattle.semantics.specs.Cells.{Cell, owns}
 use Rattle.program.specs.declared.function.Program.{Program}
 use Rattle.frame_engine.specs.Shows.{IsIn, Layout}
-use Rattle.serial_stack.specs.Layouts.{alloca_sizes, for_body, with_allocas}
+use Rattle.serial_stack.specs.Layouts.{Ground, end_from, layout_on}
 use Rattle.laws_strands.specs.stacks.Strands.{Placed}
 
 -- so many addresses from a start on
@@ -13,20 +13,17 @@ pub record Segment : Type 0 where
   pub start : ℕ
   pub count : ℕ
 
--- where the next frame's allocas begin, over a base with none in the segment
+-- a base whose own allocas lie in the layout, and none of which lies in the segment
+abbrev pub base_on : Layout → ℕ → Ground
+base_on l start = record { layout = l; end = start; holds_last = false }
+
+-- where the next frame's allocas begin
 abbrev pub end_above : Program → ℕ → Placed → List Placed → ℕ
-end_above prog start t [] = start
-end_above prog start t (g ∷ rest) =
-    for_body t.frame.role (end_above prog start g rest + sum (alloca_sizes prog t.frame.function))
-    (end_above prog start g rest)
+end_above prog start t below = end_from start false prog (t ∷ below)
 
 -- the machine's layout with the allocas of the frames above the base
 abbrev pub layout_above : Layout → Program → ℕ → Placed → List Placed → Layout
-layout_above l prog start t [] = l
-layout_above l prog start t (g ∷ rest) =
-    for_body t.frame.role (with_allocas t.path (alloca_sizes prog t.frame.function) (end_above prog start g rest)
-    (layout_above l prog start g rest))
-    (layout_above l prog start g rest)
+layout_above l prog start t below = layout_on (base_on l start) prog (t ∷ below)
 
 -- the address is none of the segment's
 abbrev pub IsOutside : Segment → ℤ → Type 0

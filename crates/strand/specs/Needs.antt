@@ -17,9 +17,7 @@ use Rattle.strand_pages.specs.Tables.{log_of}
 use Rattle.laws_strands.specs.FrameStrands as frame_strands
 use Rattle.laws_strands.specs.FrameStrands.{access_of}
 use Rattle.laws_strands.specs.stacks.Strands as strands
-use Rattle.laws_strands.specs.stacks.Strands.{IsStrand}
-use Rattle.strand.specs.StrandShown.{CanGo, GoneOn, ShowsStrand}
-use Rattle.strand.specs.Layouts.{Segment}
+use Rattle.strand.specs.Steps.{GoneOn, OfStrands}
 use Rattle.strand.specs.declared.cells.StrandCells.{StrandCells}
 use Rattle.strand.specs.declared.strand.Strand.{Strand}
 
@@ -61,6 +59,5 @@ PausesAt prog l d b (engine_pause.Stopped (stop.Need at)) = NeedsCell prog l d b
 -- the strand goes on to this pause
 abbrev pub GoesTo : Program → Places → Strand → Strand → engine.Pause CellStop → Type 0
 GoesTo prog places old new r =
-    (l : Layout) (s : Segment) (d : strands.Strand) → IsStrand prog d → ShowsStrand l prog places s d old →
-    CanGo prog l s d →
-    (e : GoneOn l prog places s d new) × PausesAt prog l e.strand new.cells r
+    OfStrands prog places old
+    (λ l s d. (e : GoneOn l prog places s d new) × PausesAt prog l e.strand new.cells r)

@@ -1,19 +1,34 @@
 ghost use Rattle.std.specs.Prelude.{◌≡◌, [], IfOk, OnOk, length, max};
-ghost use Rattle.program.specs.declared.function.Program.{Program};
-ghost use Rattle.frame_engine.specs.declared.activation.Places.{Places};
 ghost use Rattle.frame_engine.specs.Activation.{FrameFits};
+ghost use Rattle.code_tables.specs.Coded.{AreTables};
 ghost use Rattle.strand.specs.frame_strand.Standing.{IsCopy};
 ghost use Rattle.strand_pages.specs.Logs.{empty_log, pages_of};
 ghost use Rattle.strand_pages.specs.Tables.{log_of};
 ghost use Rattle.strand.specs.Along.{IsUnderWay, MayBegin};
+ghost use Rattle.strand.specs.Loading.{HasText, IsPlaceOf};
 ghost use Rattle.strand.specs.OwnCells.{segment_of};
 
 use crate::cells::StrandCells;
-use crate::strand::{Base, Strand};
-use frame_engine::{Frame, blank};
+use crate::span::Span;
+use crate::strand::{Base, Strand, have_words};
+use crate::stretch::steps_at;
+use code_tables::Tables;
+use frame_engine::{Frame, Places, blank};
 use lists::OutOfMemory;
+use program::Program;
 use std::alloc::Global;
 use strand_pages::{PageLog, copy_frame};
+use window_runs::{Position, slot_of};
+
+/// A frame of the board that a strand is to begin with.
+#[derive(Clone, Copy)]
+pub struct BoardFrame<'a> {
+    pub frame: &'a Frame,
+    /// Its path, the root's number first.
+    pub path: &'a [u64],
+    /// Whether no child lives that a sync of it waits for.
+    pub childless: bool,
+}
 
 /// Room for so many phi moves.
 fn spare_words(alloc: Global, count: usize) -> Result<Vec<i64>, OutOfMemory>
@@ -28,11 +43,24 @@ fn spare_words(alloc: Global, count: usize) -> Result<Vec<i64>, OutOfMemory>
 fn become_copy(target: &mut Frame, source: &Frame) -> Result<(), OutOfMemory>
     ensures { OnOk result (IsCopy source.now target.new) }
 {
-    let count = source.registers.len();
-    target.registers.truncate(count);
-    target.registers.resize(count, 0)?;
+    have_words(&mut target.registers, source.registers.len())?;
     copy_frame(target, source);
     Ok(())
+}
+
+/// Where a frame stands whose window is the first.
+fn place_of(program: &Program, places: &Places, tables: &Tables, frame: &Frame) -> Position
+    requires text { HasText program.now places.now }
+    requires tables { AreTables program.now places.now tables.now }
+    requires stands { FrameFits program.now frame.now }
+    ensures { IsPlaceOf program.now frame.now result }
+{
+    let pc = slot_of(tables, frame.function, frame.place);
+    Position {
+        pc,
+        end: frame.registers.len(),
+        steps: steps_at(tables, pc),
+    }
 }
 
 impl Strand {
@@ -61,41 +89,45 @@ impl Strand {
             cells,
             end: 0,
             moves,
+            span: Span::none(alloc),
         })
     }
 
-    /// Begins with a copy of the board's frame, whose path has the root's number first. `childless` says that no child lives that a sync of the
-    /// frame waits for. The allocas of its own frames get `room` addresses from `start` on. `cells` is how many cells the board has.
+    /// Begins with a copy of the board's frame. The allocas of its own frames get `room` addresses from `start` on. `cells` is how many cells the
+    /// board has.
     ///
     /// # Errors
     ///
     /// Memory was refused: the strand shows nothing any more.
     pub fn load(
         &mut self,
-        frame: &Frame,
-        path: &[u64],
-        childless: bool,
+        program: &Program,
+        places: &Places,
+        tables: &Tables,
+        base: &BoardFrame<'_>,
         start: u64,
         room: usize,
         cells: usize,
     ) -> Result<(), OutOfMemory>
-        ensures path { OnOk result (self.new.base.path.items ≡ path.now) }
-        ensures loaded { OnOk result (IsCopy frame.now self.new.base.frame) }
-        ensures childless { OnOk result (self.new.base.childless ≡ childless) }
+        requires text { HasText program.now places.now }
+        requires tables { AreTables program.now places.now tables.now }
+        requires stands { FrameFits program.now base.now.frame.now }
+        ensures path { OnOk result (self.new.base.path.items ≡ base.now.path.now) }
+        ensures loaded { OnOk result (IsCopy base.now.frame.now self.new.base.frame) }
+        ensures childless { OnOk result (self.new.base.childless ≡ base.now.childless) }
         ensures moves { OnOk result (self.new.moves ≡ self.old.moves) }
         ensures done { OnOk result (self.new.done ≡ 0) }
         ensures segment { OnOk result (segment_of self.new.cells ≡ record { start = start; count = room }) }
         ensures log { OnOk result (log_of self.new.cells.log ≡ empty_log (max (log_of self.old.cells.log).pages (pages_of cells))) }
-        ensures way { OnOk result ((prog : Program) (places : Places) → FrameFits prog frame.now →
-            MayBegin prog places path.now frame.now childless (record { start = start; count = room }) →
-            IsUnderWay prog places self.new) }
+        ensures way { OnOk result (MayBegin program.now places.now base.now.path.now base.now.frame.now base.now.childless
+            (record { start = start; count = room }) → IsUnderWay program.now places.now self.new) }
     {
         self.base.path.clear();
-        self.base.path.extend_from_slice(path)?;
-        become_copy(&mut self.base.frame, frame)?;
-        become_copy(self.top.as_mut(), frame)?;
-        self.spare.append(&mut self.below)?;
-        self.base.childless = childless;
+        self.base.path.extend_from_slice(base.path)?;
+        become_copy(&mut self.base.frame, base.frame)?;
+        self.span
+            .take_in(base.frame, place_of(program, places, tables, base.frame))?;
+        self.base.childless = base.childless;
         self.done = 0;
         self.deepest = 0;
         self.end = start;

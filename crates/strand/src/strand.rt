@@ -1,6 +1,7 @@
-ghost use Rattle.std.specs.Prelude.{◌≡◌, ◌++◌, ◌∷◌, [], OnOk};
+ghost use Rattle.std.specs.Prelude.{◌≡◌, ◌++◌, ◌∷◌, [], OnOk, length};
 
 use crate::cells::StrandCells;
+use crate::span::Span;
 use frame_engine::{Frame, blank};
 use lists::OutOfMemory;
 use std::alloc::Global;
@@ -33,9 +34,20 @@ pub struct Strand {
     pub end: u64,
     /// Room for the phi moves of an edge.
     pub moves: Vec<i64>,
+    /// Its frames, in windows. Those in boxes are what `settle` has written last.
+    pub span: Span,
 }
 
-/// A frame that is over, or a new one.
+/// Has so many words. What they hold counts for nothing.
+#[inline(always)]
+pub(crate) fn have_words(words: &mut Vec<i64>, count: usize) -> Result<(), OutOfMemory>
+    ensures { OnOk result (length words.new.items ≡ count) }
+{
+    words.truncate(count);
+    Ok(words.resize(count, 0)?)
+}
+
+/// A frame of one that is over, or a new one.
 #[inline(always)]
 pub(crate) fn fresh(spare: &mut Vec<Box<Frame>>, alloc: Global) -> Result<Box<Frame>, OutOfMemory> {
     match spare.pop() {
@@ -49,20 +61,11 @@ impl Strand {
     #[inline(always)]
     pub(crate) fn push(&mut self, frame: Box<Frame>) -> Result<(), OutOfMemory>
         ensures below { OnOk result (self.new.below.items ≡ self.old.below.items ++ self.old.top ∷ []) }
-        ensures only { OnOk result (self.new ≡ record self.old { top = frame; below = self.new.below }) }
+        ensures top { OnOk result (self.new.top ≡ frame) }
+        ensures only { self.new ≡ record self.old { top = self.new.top; below = self.new.below } }
     {
         let maker = mem::replace(&mut self.top, frame);
         self.below.push(maker)?;
-        Ok(())
-    }
-
-    /// The frame, which stood below the one on top, goes on.
-    #[inline(always)]
-    pub(crate) fn go_back_to(&mut self, frame: Box<Frame>) -> Result<(), OutOfMemory>
-        ensures only { OnOk result (self.new ≡ record self.old { top = frame; spare = self.new.spare }) }
-    {
-        let over = mem::replace(&mut self.top, frame);
-        self.spare.push(over)?;
         Ok(())
     }
 }

@@ -6,6 +6,7 @@ pub mod WindowsKept
 pub mod Calling
 pub mod Leaving
 pub mod Forking
+pub mod Syncing
 pub mod Starting
 pub mod Resolving
 pub mod Cells

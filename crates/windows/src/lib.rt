@@ -2,7 +2,8 @@
 //! loops. The steps are those of `serial_stack`. A frame stands at the slot of a code. The codes, which mean the program, stand in `code_tables`, and
 //! the loop over them in `window_runs`.
 //!
-//! - `windows`: the row. A frame's registers stand behind its caller's, and nothing is zeroed.
+//! - `windows`: the row. A frame's registers stand behind its caller's, and nothing is zeroed. A frame from elsewhere is taken in as the only one
+//!   (`take_in`), and a window's words are given out (`take_out`).
 //! - `passing`: what a call passes, with names resolved.
 //! - `sites`: calls of the program's text, resolved.
 //! - `borders`: each step over a border shows the definitions' frames again.

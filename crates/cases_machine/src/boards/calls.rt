@@ -87,7 +87,7 @@ impl<L: Bench> Player<'_, L> {
         seat: &mut Seat<L>,
         tickets: &mut Vec<Ticket>,
     ) -> bool {
-        match board.publish(seat, &self.strand) {
+        match board.publish(seat, &mut self.strand) {
             Published::Done => {
                 let levels = self.strand.frames_below();
                 board.ready_tickets(&*seat, levels, tickets).is_err()

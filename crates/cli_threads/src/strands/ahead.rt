@@ -1,9 +1,9 @@
 //! What stands ahead of a frame.
 
-use cli_runs::Frame;
 use frame::block_at;
 use lists::OutOfMemory;
 use program::{Block, Function, Instruction, Program, Terminator};
+use shared_run::CodePlace;
 use std::alloc::Global;
 
 /// What a frame does behind its plain instructions.
@@ -96,18 +96,18 @@ impl Runs {
         Ok(Runs { functions })
     }
 
-    /// How many plain instructions follow the frame's place.
-    fn plain(&self, frame: &Frame) -> Option<u64> {
-        let blocks = self.functions.as_slice().get(frame.function.0)?;
-        let places = blocks.as_slice().get(frame.place.block.0)?;
-        places.as_slice().get(frame.place.index).copied()
+    /// How many plain instructions follow the place.
+    fn plain(&self, at: CodePlace) -> Option<u64> {
+        let blocks = self.functions.as_slice().get(at.function.0)?;
+        let places = blocks.as_slice().get(at.block.0)?;
+        places.as_slice().get(at.index).copied()
     }
 
-    /// What stands ahead of the frame in its block.
-    pub(crate) fn ahead(&self, program: &Program, frame: &Frame) -> Ahead {
-        let plain = self.plain(frame).unwrap_or(0);
-        let then = match block_at(program, frame.function, frame.place.block) {
-            Some(block) => behind(block, frame.place.index.saturating_add(plain as usize)),
+    /// What stands ahead of a frame in its block, where it goes on at this place.
+    pub(crate) fn ahead(&self, program: &Program, at: CodePlace) -> Ahead {
+        let plain = self.plain(at).unwrap_or(0);
+        let then = match block_at(program, at.function, at.block) {
+            Some(block) => behind(block, at.index.saturating_add(plain as usize)),
             None => Then::Enter,
         };
         Ahead { plain, then }

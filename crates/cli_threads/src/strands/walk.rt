@@ -91,7 +91,10 @@ impl<L: Bench> Walk<'_, '_, L> {
         if self.strand.standing() == Standing::Blank {
             self.load(worker)?;
         }
-        let ahead = self.runs.ahead(self.program, self.strand.top());
+        let Some(top) = self.strand.top() else {
+            return Err(OutOfMemory);
+        };
+        let ahead = self.runs.ahead(self.program, top.at);
         let is_told = self.told.scene.is_some() && ahead.then.is_of_tasks();
         if is_told && ahead.plain == 0 {
             return self.step_at_board(worker);
@@ -101,7 +104,6 @@ impl<L: Bench> Walk<'_, '_, L> {
         } else {
             ahead.plain.saturating_add(1)
         };
-        let number = self.strand.top().made;
         let before = self.strand.done();
         let standing = self.strand.advance(count.min(most));
         if standing == Standing::Spoilt {
@@ -109,7 +111,7 @@ impl<L: Bench> Walk<'_, '_, L> {
         }
         let done = self.strand.done().saturating_sub(before);
         if done > 0 {
-            self.pass(worker, ahead, number, done);
+            self.pass(worker, ahead, top.made, done);
             return Ok(done);
         }
         self.make_way(worker, standing)
@@ -203,7 +205,7 @@ impl<L: Bench> Walk<'_, '_, L> {
             let Some(seat) = self.seats.as_mut_slice().get_mut(usize::from(worker)) else {
                 return Err(OutOfMemory);
             };
-            match self.board.publish(seat, &self.strand) {
+            match self.board.publish(seat, &mut self.strand) {
                 Published::Done => {}
                 Published::Stranger | Published::OutOfMemory => return Err(OutOfMemory),
             }

@@ -34,7 +34,8 @@ use Rattle.laws_strands.specs.stacks.Law.{CountsAre, IsOrderly, Runs, absorbed, 
 use Rattle.laws_strands.proofs.stacks.Counting.{strands_count}
 use Rattle.laws_strands.proofs.stacks.Rising.{AreBehind, IsBehind, Rises, behind, new_is_none, rises}
 use Rattle.strand.specs.Layouts.{Segment, end_above, layout_above}
-use Rattle.strand.specs.StrandShown.{CanGo, ShowsBelow, ShowsOn, ShowsStrand}
+use Rattle.strand.specs.Boxes.{ShowsBelow, ShowsOn, ShowsStrand}
+use Rattle.strand.specs.Steps.{CanGo}
 use Rattle.strand.specs.declared.strand.Strand.{Strand}
 use Rattle.strand.proofs.Coming.{under_long}
 use Rattle.strand.proofs.Over.{low_end, room_below}

@@ -19,7 +19,7 @@ use Rattle.schedule_commit.proofs.Sound.{never_traps}
 use Rattle.laws_strands.specs.Law.{Happen, steps_by}
 use Rattle.laws_strands.specs.stacks.Law.{IsOrderly, absorbed}
 use Rattle.laws_strands.proofs.stacks.Law.{strands_are_steps}
-use Rattle.strand.specs.Along.{IsUnderWay}
+use Rattle.strand.specs.Along.{IsSettled}
 use Rattle.strand.specs.declared.strand.Strand.{Strand}
 use Rattle.schedule_commit.specs.strands.Absorbing.{Absorbs, DoesStrand, GoAsStrandsIn, LeavesStallsByStrand}
 use Rattle.schedule_commit.specs.strands.Committing.{IsBase, IsCommitted}
@@ -30,7 +30,7 @@ use Rattle.schedule_commit.proofs.strands.Noting.{last_off}
 use Rattle.schedule_commit.proofs.strands.CommitShown.{committed_shown, committed_stalls, mid_tree}
 use Rattle.schedule_commit.proofs.strands.Stood.{AreSeated, final_tree, seated, still_there}
 
-module _ (prog : Program) (places : Places) (moves : ℕ) (text : TextFits prog places moves) (k new : Run) (x : Strand) (worker slot : ℕ) (fits : FitsStrand prog k worker x slot) (within : worker < length k.hands.items) (way : IsUnderWay prog places x)
+module _ (prog : Program) (places : Places) (moves : ℕ) (text : TextFits prog places moves) (k new : Run) (x : Strand) (worker slot : ℕ) (fits : FitsStrand prog k worker x slot) (within : worker < length k.hands.items) (way : IsSettled prog places x)
     (mid : Frames Activation) (links : List (Link Activation)) (are : AreLinks worker x links) (slots : List ℕ) (adds : AddsChain k.cactus mid slot links slots) (grows : GrowsChain k.cactus mid slot links)
     (did : IsCommitted (record k { cactus = mid }) new worker slot x slots) where
   abbrev node : Node Activation

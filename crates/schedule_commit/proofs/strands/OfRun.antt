@@ -35,9 +35,10 @@ use Rattle.laws_strands.specs.stacks.Strands.{IsStrand, Placed}
 use Rattle.laws_strands.specs.Law.{steps_by}
 use Rattle.laws_strands.specs.stacks.Law.{Fits, IsOrderly, ReadsAgree, Runs, absorbed}
 use Rattle.laws_strands.proofs.stacks.Law.{reads_are_there, strands_are_steps}
-use Rattle.strand.specs.Along.{GoesAsStrand, IsAlong, IsLent, IsUnderWay}
+use Rattle.strand.specs.Along.{GoesAsStrand, IsAlongSettled, IsLent, IsSettled}
 use Rattle.strand.specs.OwnCells.{segment_of}
-use Rattle.strand.specs.StrandShown.{CanGo, ShowsStrand}
+use Rattle.strand.specs.Boxes.{ShowsStrand}
+use Rattle.strand.specs.Steps.{CanGo}
 use Rattle.strand.specs.declared.strand.Strand.{Strand}
 use Rattle.schedule_commit.specs.strands.Absorbing.{GoAsStrandsIn}
 use Rattle.schedule_commit.specs.strands.Fitting.{FitsStrand, HasNoChild, segment_block}
@@ -65,7 +66,7 @@ all_clear s q made false clear (r ∷ synced) none = absurd (let h : r ∷ synce
 
 -- ---- the strand
 
-module _ (prog : Program) (places : Places) (moves : ℕ) (text : TextFits prog places moves) (k : Run) (worker slot : ℕ) (x : Strand) (fits : FitsStrand prog k worker x slot) (way : IsUnderWay prog places x)
+module _ (prog : Program) (places : Places) (moves : ℕ) (text : TextFits prog places moves) (k : Run) (worker slot : ℕ) (x : Strand) (fits : FitsStrand prog k worker x slot) (way : IsSettled prog places x)
     (m : Machine) (shown : IsShown prog places m k) (safe : RunsSafely prog (length k.hands.items) m) (orderly : IsOrderly m) (loads : GoAsStrandsIn prog places m) where
   abbrev node : Node Activation
   node = fits.node
@@ -115,7 +116,7 @@ module _ (prog : Program) (places : Places) (moves : ℕ) (text : TextFits prog 
       (copy_shows node.frame.frame x.base.frame (copy_back x.base.frame node.frame.frame fits.frame) l places p g s.shows.shown)
       (s.shows.waits ∙ ap wait_of fits.frame.waits) x.base.childless clear)
 
-  abbrev along : IsAlong prog places l g x
+  abbrev along : IsAlongSettled prog places l g x
   along = way.along l g goes
 
   goes_on : may_go m.core p g.made g.waits ≡ true

@@ -32,7 +32,7 @@ use Rattle.laws_strands.specs.stacks.Law.{absorbed}
 use Rattle.laws_strands.proofs.stacks.Law.{strands_are_steps}
 use Rattle.strand.specs.Layouts.{end_above}
 use Rattle.strand.specs.OwnCells.{segment_of}
-use Rattle.strand.specs.StrandShown.{ShowsBelow}
+use Rattle.strand.specs.Boxes.{ShowsBelow}
 use Rattle.strand.proofs.Over.{low_end}
 use Rattle.strand.specs.serial_stack.StackShown.{unboxed}
 use Rattle.strand.specs.declared.strand.Strand.{Strand}

@@ -23,7 +23,7 @@ use Rattle.frame_engine.specs.Shows.{Layout}
 use Rattle.frame_engine.proofs.Turns.{there_is}
 use Rattle.schedule_workers.specs.Going.{TextFits}
 use Rattle.strand.specs.Layouts.{Segment}
-use Rattle.strand.specs.StrandShown.{ShowsBelow, ShowsOn, ShowsStrand}
+use Rattle.strand.specs.Boxes.{ShowsBelow, ShowsOn, ShowsStrand}
 use Rattle.strand.specs.serial_stack.StackShown.{unboxed}
 use Rattle.strand.specs.declared.strand.Strand.{Strand}
 use Rattle.schedule_commit.specs.strands.Linking.{RegionsFit, frames_of}

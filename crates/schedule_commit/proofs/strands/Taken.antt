@@ -19,7 +19,7 @@ use Rattle.schedule_workers.specs.declared.run.Run.{Run}
 use Rattle.schedule_workers.specs.Follows.{Follows}
 use Rattle.schedule_workers.specs.Going.{TextFits}
 use Rattle.schedule_workers.specs.Scheduling.{hand_of}
-use Rattle.strand.specs.Along.{IsUnderWay}
+use Rattle.strand.specs.Along.{IsSettled}
 use Rattle.strand.specs.declared.strand.Strand.{Strand}
 use Rattle.schedule_commit.specs.strands.Absorbing.{DoesStrand, LeavesStallsByStrand, StandsForStrands}
 use Rattle.schedule_commit.specs.strands.Committing.{IsCommitted, MayCount}
@@ -44,8 +44,8 @@ committed_follows k new x worker slot mid links slots given adds same made =
     let did : IsCommitted (record k { cactus = mid }) new worker slot x slots = subst (λ (ss : List ℕ). IsCommitted (record k { cactus = mid }) new worker slot x ss) same made in
     subst (λ (f : Frames Activation). Follows k.cactus f) (sym did.cactus) (commit_follows k.cactus mid slot links slots adds.0 did.base adds.1)
 
-module _ (prog : Program) (places : Places) (moves : ℕ) (text : TextFits prog places moves) (k : Run) (x : Strand) (worker slot : ℕ) (fits : FitsStrand prog k worker x slot) (way : ∥ IsUnderWay prog places x ∥₁) (safe : ∥ StandsForStrands prog places k ∥₁) where
-  strand_of : IsUnderWay prog places x → (st : StandsForStrands prog places k) → IsStrandOfRun prog places k worker x st.machine
+module _ (prog : Program) (places : Places) (moves : ℕ) (text : TextFits prog places moves) (k : Run) (x : Strand) (worker slot : ℕ) (fits : FitsStrand prog k worker x slot) (way : ∥ IsSettled prog places x ∥₁) (safe : ∥ StandsForStrands prog places k ∥₁) where
+  strand_of : IsSettled prog places x → (st : StandsForStrands prog places k) → IsStrandOfRun prog places k worker x st.machine
   strand_of w st = strand_of_run prog places moves text k worker slot x fits w st.machine st.shown st.safe st.orderly st.loads
 
   pub regions : RegionsFit x

@@ -14,7 +14,7 @@ use Rattle.schedule_workers.specs.RunShown.{IsShown}
 use Rattle.schedule_workers.specs.Stalls.{Blocks, StallsAgree, last_blocks}
 use Rattle.strand.specs.Along.{LoadsGoAsStrands}
 use Rattle.strand.specs.OwnCells.{segment_of}
-use Rattle.strand.specs.StrandShown.{ShowsStrand}
+use Rattle.strand.specs.Boxes.{ShowsStrand}
 use Rattle.strand.specs.declared.strand.Strand.{Strand}
 
 -- a worker's frame of the machine may be loaded as the base of a strand

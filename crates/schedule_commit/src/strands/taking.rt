@@ -1,7 +1,7 @@
 ghost use Rattle.std.specs.Prelude.{◌≡◌, ◌↔◌, ℕ, true, false, IfOk, IsTrue, Ok, OnErr, length};
 ghost use Rattle.schedule_workers.specs.Follows.{Follows};
 ghost use Rattle.schedule_workers.specs.Going.{TextFits};
-ghost use Rattle.strand.specs.Along.{IsUnderWay};
+ghost use Rattle.strand.specs.Along.{IsSettled};
 ghost use Rattle.schedule_commit.specs.strands.Absorbing.{DoesStrand, LeavesStallsByStrand, StandsForStrands};
 ghost use Rattle.schedule_commit.specs.strands.Fitting.{FitsStrand};
 
@@ -28,7 +28,7 @@ pub fn publish(
     strand: &Strand,
 ) -> Result<bool, OutOfMemory>
     requires text { TextFits program.now places.now (length run.old.moves.items) }
-    requires way { ∥ IsUnderWay program.now places.now strand.now ∥₁ }
+    requires way { ∥ IsSettled program.now places.now strand.now ∥₁ }
     requires safe { ∥ StandsForStrands program.now places.now run.old ∥₁ }
     ensures exactly { IfOk result (λ done. IsTrue done ↔ ((slot : ℕ) × FitsStrand program.now run.old worker strand.now slot)) }
     ensures does { result ≡ Ok true → ∥ DoesStrand program.now places.now run.old run.new worker strand.now ∥₁ }

@@ -43,7 +43,8 @@ use Rattle.laws_schedule.proofs.Promise.{accepted_programs_keep_their_promise}
 use Rattle.laws_schedule.proofs.Serially.{Found}
 use Rattle.store.specs.verifier.Accepted.{IsProgramOf}
 use Rattle.store.specs.verifier.Budgets.{budget_of}
-use Rattle.serial_stack.specs.Steps.{Placed, Run, HasNoStep, IsStuck, Walk, starting}
+use Rattle.laws_strands.specs.stacks.Strands.{Placed}
+use Rattle.serial_stack.specs.Steps.{Run, HasNoStep, IsStuck, Walk, starting}
 use Rattle.serial_stack.specs.Layouts.{frames_of, layout_of}
 use Rattle.serial_stack.specs.StackShown.{CanGo, CanGoOn, IsOld}
 use Rattle.serial_machine.specs.Safe.{HasCellsOf, SerialRunsAreSafe}

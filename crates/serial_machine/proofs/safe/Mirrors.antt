@@ -16,7 +16,8 @@ use Rattle.laws_schedule.specs.laws_phases.defined.Values.{NamesObjects}
 use Rattle.laws_schedule.specs.safe.Objects.{KnowsObjects}
 use Rattle.laws_schedule.proofs.safe.Objects.{Known, known_kept, first_known}
 use Rattle.serial_stack.specs.Steps as stack
-use Rattle.serial_stack.specs.Steps.{Placed, Run, Goes, Walk, begins, goes_on, starting}
+use Rattle.laws_strands.specs.stacks.Strands.{Placed}
+use Rattle.serial_stack.specs.Steps.{Run, Goes, Walk, begins, goes_on, starting}
 use Rattle.serial_machine.proofs.safe.Stacks.{at_path, Stacked, stack_of, higher, lower, none_higher, on_top, no_children, IsAwake, may, none_left, put, put_two, gone, handed, AreOwners}
 
 pub under_long : (x y : Path) → Under x y → length x ≤ length y

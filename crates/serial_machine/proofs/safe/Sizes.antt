@@ -12,7 +12,8 @@ use Rattle.frame_engine.specs.Shows.{Layout, IsIn}
 use Rattle.laws_schedule.specs.laws_phases.defined.Names.{IsNamed}
 use Rattle.laws_schedule.specs.laws_phases.defined.Values.{NamesObjects}
 use Rattle.laws_schedule.specs.safe.Objects.{HasCells, HasCell}
-use Rattle.serial_stack.specs.Steps.{Placed, Run}
+use Rattle.laws_strands.specs.stacks.Strands.{Placed}
+use Rattle.serial_stack.specs.Steps.{Run}
 use Rattle.serial_stack.specs.Layouts.{size_in, alloca_sizes, allocas_in, with_allocas, for_body, end_of, layout_of, frames_of}
 use Rattle.serial_machine.specs.Safe.{HasCellsOf}
 use Rattle.serial_machine.proofs.safe.Stacks.{at_path, IsOwner, AreOwners}

@@ -6,7 +6,8 @@ use Rattle.semantics.specs.Frames.{Wait, Free, OnRegion, OnCall, Halted, Role, C
 use Rattle.semantics.specs.State.{State, all_below, may_go, childless, outside, override}
 use Rattle.semantics.proofs.Actions.{same_path_itself}
 use Rattle.semantics.proofs.Places.{same_path_apart}
-use Rattle.serial_stack.specs.Steps.{Placed, Run}
+use Rattle.laws_strands.specs.stacks.Strands.{Placed}
+use Rattle.serial_stack.specs.Steps.{Run}
 
 abbrev pub at_path : List Placed → Path → Option Frame
 at_path [] x = None

@@ -9,7 +9,8 @@ use Rattle.semantics.specs.SerialMeaning.{Ending, Left, Gave, Outcome, written, 
 use Rattle.semantics.specs.SerialMeaning.{one_more, both_outcomes, at_last}
 use Rattle.linear.specs.declared.form.RegisterId.{RegisterId}
 use Rattle.program.specs.declared.function.Program.{Program}
-use Rattle.serial_stack.specs.Steps.{Placed, Run, Goes, plain, sync, detach, call, reattach, ret, IsNotFree, IsNotCalling, HasNoStep, Walk, begins, goes_on, starting}
+use Rattle.laws_strands.specs.stacks.Strands.{Placed}
+use Rattle.serial_stack.specs.Steps.{Run, Goes, plain, sync, detach, call, reattach, ret, IsNotFree, IsNotCalling, HasNoStep, Walk, begins, goes_on, starting}
 use Rattle.serial_stack.proofs.Walks.{ComesTo, over, GoesOn, Rests, rests_deep, outcome_is}
 use Rattle.serial_machine.specs.walks.Along.{GoesOnTo, WalksGoOn}
 use Rattle.serial_machine.proofs.walks.Apart.{meaning_means, plain_apart, sync_apart, detach_apart, call_apart, reattach_apart, return_apart}

@@ -11,7 +11,8 @@ use Rattle.program.specs.declared.instruction.Instruction.{Instruction}
 use Rattle.program.specs.declared.instruction.Instruction.TheVariants as instruction
 use Rattle.program.specs.declared.instruction.Terminator.{Terminator}
 use Rattle.program.specs.declared.instruction.Terminator.TheVariants as terminator
-use Rattle.serial_stack.specs.Steps.{Placed, Run, Goes, plain, sync, detach, call, reattach, ret, Walk, begins, goes_on, starting}
+use Rattle.laws_strands.specs.stacks.Strands.{Placed}
+use Rattle.serial_stack.specs.Steps.{Run, Goes, plain, sync, detach, call, reattach, ret, Walk, begins, goes_on, starting}
 use Rattle.serial_machine.specs.walks.Along.{IsWithin, AreWithin, IsCounted, WalksCount}
 
 -- ---- an instruction goes one place on at most

@@ -11,7 +11,8 @@ use Rattle.laws_schedule.specs.laws_conditions.theorem.SerialConditions.{Says, F
 use Rattle.semantics.specs.SerialMeaning.{one_more, both_outcomes, at_last}
 use Rattle.linear.specs.declared.form.RegisterId.{RegisterId}
 use Rattle.program.specs.declared.function.Program.{Program}
-use Rattle.serial_stack.specs.Steps.{Placed, Run, Goes, plain, sync, detach, call, reattach, ret, Walk, begins, goes_on, starting}
+use Rattle.laws_strands.specs.stacks.Strands.{Placed}
+use Rattle.serial_stack.specs.Steps.{Run, Goes, plain, sync, detach, call, reattach, ret, Walk, begins, goes_on, starting}
 use Rattle.serial_machine.specs.walks.Along.{WalksKeepTests, KeepsAlong}
 
 -- so it is whatever is kept

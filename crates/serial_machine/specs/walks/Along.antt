@@ -7,7 +7,8 @@ use Rattle.laws_schedule.specs.laws_conditions.theorem.SerialConditions.{Says, F
 use Rattle.semantics.specs.SerialMeaning.{Gave, Outcome, IsSerialMeaning}
 use Rattle.semantics.specs.State.{root_frame}
 use Rattle.program.specs.declared.function.Program.{Program}
-use Rattle.serial_stack.specs.Steps.{Placed, Run, IsStuck, Walk, starting}
+use Rattle.laws_strands.specs.stacks.Strands.{Placed}
+use Rattle.serial_stack.specs.Steps.{Run, IsStuck, Walk, starting}
 
 -- after n steps of a serial run whose outcome is o: one more instruction is left at least, and there are no more frames
 -- than o has

@@ -96,7 +96,7 @@ fn publish<L: Bench, T: Tasks>(
     board: &mut Board<'_, L>,
     tasks: &mut T,
     seat: &mut Seat<L>,
-    strand: &WorkerStrand<'_, L>,
+    strand: &mut WorkerStrand<'_, L>,
     habits: &mut Habits,
     reason: Reason,
 ) -> Met {

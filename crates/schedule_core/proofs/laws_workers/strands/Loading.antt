@@ -24,7 +24,7 @@ use Rattle.serial_machine.proofs.laws_schedule.safe.Safe.{schedules_are_safe}
 use Rattle.schedule_commit.specs.frame_strand.Alone.{StaysSafeAlone}
 use Rattle.schedule_commit.specs.strand.Along.{IsLent, LoadsGoAsStrands}
 use Rattle.schedule_commit.specs.strand.Layouts.{Segment, layout_above}
-use Rattle.schedule_commit.specs.strand.StrandShown.{CanGo}
+use Rattle.schedule_commit.specs.strand.Steps.{CanGo}
 use Rattle.schedule_commit.proofs.strand.Coming.{under_long}
 use Rattle.schedule_commit.proofs.strand.Living as text
 use Rattle.schedule_commit.proofs.strand.Living.{fresh, local_above, shared_above}

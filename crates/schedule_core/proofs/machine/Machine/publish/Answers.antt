@@ -2,7 +2,7 @@ use Rattle.std.proofs.Common.{length, ap, subst, sym, Vec, Global, ℤ}
 use Rattle.program.specs.declared.function.Program.{Program}
 use Rattle.frame_engine.specs.declared.activation.Places.{Places}
 use Rattle.schedule_workers.specs.Going.{TextFits}
-use Rattle.schedule_commit.specs.strand.Along.{IsUnderWay}
+use Rattle.schedule_commit.specs.strand.Along.{IsSettled}
 use Rattle.schedule_commit.specs.strands.Absorbing.{StandsForStrands}
 use Rattle.schedule_core.specs.Stages.{program_of}
 use Rattle.schedule_core.proofs.Commits.{same_places}
@@ -22,9 +22,9 @@ pub publish-requires-clause-way : goal.publish-requires-clause-way
 publish-requires-clause-way c =
     let old = c.args.self.now.stage in
     let made = c.requires.made in
-    subst (λ (p : Places). ∥ IsUnderWay c.program-program.result.now p c.args.strand.now ∥₁) (sym c.get.ensures)
-    (subst (λ (q : Program). ∥ IsUnderWay q old.places c.args.strand.now ∥₁) (sym c.program-program.ensures.value)
-    (subst (λ (q : Places). ∥ IsUnderWay (program_of old) q c.args.strand.now ∥₁) (same_places old c.args.self.now.kept made.places made.places_are) made.way))
+    subst (λ (p : Places). ∥ IsSettled c.program-program.result.now p c.args.strand.now ∥₁) (sym c.get.ensures)
+    (subst (λ (q : Program). ∥ IsSettled q old.places c.args.strand.now ∥₁) (sym c.program-program.ensures.value)
+    (subst (λ (q : Places). ∥ IsSettled (program_of old) q c.args.strand.now ∥₁) (same_places old c.args.self.now.kept made.places made.places_are) made.way))
 
 pub publish-requires-clause-safe : goal.publish-requires-clause-safe
 publish-requires-clause-safe c =
