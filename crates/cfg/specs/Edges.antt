@@ -7,7 +7,7 @@ use Rattle.program.specs.declared.instruction.Operand.{Operand}
 use Rattle.program.specs.declared.instruction.PhiEntry.{PhiEntry}
 use Rattle.program.specs.declared.instruction.Phi.{Phi}
 use Rattle.program.specs.declared.instruction.Terminator.{Terminator}
-use Rattle.program.specs.declared.instruction.Terminator.TheVariants.{Jump, Branch, Switch, Return, Detach, Reattach}
+use Rattle.program.specs.declared.instruction.Terminator.TheVariants.{Jump, Branch, Switch, Detach}
 use Rattle.program.specs.declared.instruction.Terminator.TheVariants.{Sync}
 use Rattle.program.specs.declared.instruction.Ending.{Ending}
 use Rattle.program.specs.declared.function.Block.{Block}
@@ -46,11 +46,10 @@ edges_along blocks from (Branch condition when_true when_false) = edge_to blocks
     edge_to blocks from ByBranch when_false
 edges_along blocks from (Switch width value default cases) = edge_to blocks from ByBranch default ++
     flat_map (λ c. edge_to blocks from ByBranch c.target) cases
-edges_along blocks from (Return value) = []
 edges_along blocks from (Detach region body continuation) = edge_to blocks from Detached body ++
     edge_to blocks from Continued continuation
-edges_along blocks from (Reattach region continuation) = []
 edges_along blocks from (Sync region target) = edge_to blocks from (Synced region) target
+edges_along blocks from other = []
 
 abbrev pub edges_at_end : List Block → ℕ → Option Ending → List Edge
 edges_at_end blocks from None = []

@@ -93,19 +93,13 @@ IsEndUncovered functions f block line known broken =
 
 abbrev pub IsUncoveredAt : List Function → Function → ℕ → Block → ℕ → List Fact → List EdgeFacts → Terminator → Broken →
     Type 0
-IsUncoveredAt functions function f block line known edges (terminator.Jump target) broken =
-    Any (λ e. IsEdgeUncovered functions function f block line e broken) edges
-IsUncoveredAt functions function f block line known edges (terminator.Branch condition when_true when_false) broken =
-    Any (λ e. IsEdgeUncovered functions function f block line e broken) edges
-IsUncoveredAt functions function f block line known edges (terminator.Switch width value default cases) broken =
-    Any (λ e. IsEdgeUncovered functions function f block line e broken) edges
 IsUncoveredAt functions function f block line known edges (terminator.Return value) broken =
     IsEndUncovered functions f block line known broken
 IsUncoveredAt functions function f block line known edges (terminator.Detach region body continuation) broken =
     IsForkUncovered functions function f block line known body.0 continuation.0 broken
 IsUncoveredAt functions function f block line known edges (terminator.Reattach region continuation) broken =
     IsEndUncovered functions f block line known broken
-IsUncoveredAt functions function f block line known edges (terminator.Sync region target) broken =
+IsUncoveredAt functions function f block line known edges other broken =
     Any (λ e. IsEdgeUncovered functions function f block line e broken) edges
 
 -- with what is known at the terminator and on the edges
@@ -130,18 +124,9 @@ IsNotFalling function line known arguments broken =
     broken
 
 abbrev pub IsCallNotFalling : Function → ℕ → ℕ → List Fact → Instruction → Broken → Type 0
-IsCallNotFalling function f line known (instruction.Binary d operator width x y) broken = ⊥
-IsCallNotFalling function f line known (instruction.Compare d predicate width x y) broken = ⊥
-IsCallNotFalling function f line known (instruction.Convert d conversion x) broken = ⊥
-IsCallNotFalling function f line known (instruction.Alloca d alloca) broken = ⊥
-IsCallNotFalling function f line known (instruction.ElementPointer d object index) broken = ⊥
-IsCallNotFalling function f line known (instruction.Load d address) broken = ⊥
-IsCallNotFalling function f line known (instruction.Store x address) broken = ⊥
-IsCallNotFalling function f line known (instruction.StoreZeros cells object) broken = ⊥
-IsCallNotFalling function f line known (instruction.AtomicAdd address x) broken = ⊥
 IsCallNotFalling function f line known (instruction.Call d callee arguments) broken = (callee.0 ≡ f) ×
     IsNotFalling function line known arguments broken
-IsCallNotFalling function f line known (instruction.StartRegion d) broken = ⊥
+IsCallNotFalling function f line known other broken = ⊥
 
 -- at one of a block's steps, with what is known there
 abbrev pub AreStepsNotFalling : Function → ℕ → Block → (ℕ → List Fact) → Broken → Type 0

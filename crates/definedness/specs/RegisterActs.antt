@@ -82,7 +82,6 @@ instruction_needs allocas line (Binary register operator width left right) = ope
 instruction_needs allocas line (Compare register predicate width left right) = operand_needs line left ++
     operand_needs line right
 instruction_needs allocas line (Convert register conversion value) = operand_needs line value
-instruction_needs allocas line (Alloca register alloca) = []
 instruction_needs allocas line (ElementPointer register name index) = object_needs allocas line name ++
     operand_needs line index
 instruction_needs allocas line (Load register address) = address_needs allocas line address
@@ -91,7 +90,7 @@ instruction_needs allocas line (StoreZeros cells name) = object_needs allocas li
 instruction_needs allocas line (AtomicAdd address value) = address_needs allocas line address ++
     operand_needs line value
 instruction_needs allocas line (Call register callee arguments) = flat_map (argument_needs allocas line) arguments
-instruction_needs allocas line (StartRegion register) = []
+instruction_needs allocas line other = []
 
 -- the register that an instruction defines
 abbrev pub definition_of : Instruction → Option RegisterId
@@ -101,11 +100,9 @@ definition_of (Convert register conversion value) = Some register
 definition_of (Alloca register alloca) = Some register
 definition_of (ElementPointer register name index) = Some register
 definition_of (Load register address) = Some register
-definition_of (Store value address) = None
-definition_of (StoreZeros cells name) = None
-definition_of (AtomicAdd address value) = None
 definition_of (Call register callee arguments) = register
 definition_of (StartRegion register) = Some register
+definition_of other = None
 
 abbrev pub definition_gives : Option RegisterId → List Act
 definition_gives None = []

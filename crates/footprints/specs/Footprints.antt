@@ -1,5 +1,5 @@
 -- The rules on zones, over the places and edges of a function.
-use Rattle.std.specs.Prelude.{ℕ, ◌==◌, pos, ◌+ℤ◌, ℤ, Bool, true, false, not, ◌&&◌, ◌||◌, if◌then◌else◌, List, [], ◌∷◌}
+use Rattle.std.specs.Prelude.{ℕ, ◌==◌, pos, ◌+ℤ◌, ℤ, Bool, true, false, not, ◌&&◌, ◌||◌, List, [], ◌∷◌}
 use Rattle.std.specs.Prelude.{Option, Some, None, slice_get}
 use Rattle.std.specs.List.{list_any, list_all}
 use Rattle.std.specs.Option.{option_map}
@@ -28,7 +28,7 @@ use Rattle.program.specs.declared.function.Block.{Block}
 use Rattle.program.specs.declared.function.Function.{Function}
 use Rattle.program.specs.Steps.{first_said}
 use Rattle.ranges.specs.cfg.declared.structure.Way.{Way}
-use Rattle.ranges.specs.cfg.declared.structure.Way.TheVariants.{Branch, Detached, Continued, Synced}
+use Rattle.ranges.specs.cfg.declared.structure.Way.TheVariants.{Detached, Continued, Synced}
 use Rattle.ranges.specs.declared.table.EdgeFacts.{EdgeFacts}
 use Rattle.ranges.specs.ranges_owed.Inequalities.{argument_moves}
 use Rattle.footprints.specs.declared.access.Cell.{Cell}
@@ -97,9 +97,8 @@ abbrev pub cell_use : Place → ℕ → Mode → Option Cell → Use
 cell_use p line mode cell = access_use p (option_map (λ c. cells_zone line mode c 1) cell)
 
 abbrev pub argument_object : Option Argument → Option ObjectName
-argument_object None = None
-argument_object (Some (argument.Number x)) = None
 argument_object (Some (argument.Object o)) = Some o
+argument_object other = None
 
 -- the caller's object behind a callee's name
 abbrev pub put_object : List Argument → ObjectName → Option ObjectName
@@ -136,11 +135,6 @@ call_use p None arguments = no_use
 call_use p (Some callee) arguments = callee_use p callee arguments
 
 abbrev pub step_use : Place → List Function → List Step → ℕ → Instruction → Use
-step_use p functions steps line (instruction.Binary d operator width x y) = no_use
-step_use p functions steps line (instruction.Compare d predicate width x y) = no_use
-step_use p functions steps line (instruction.Convert d conversion x) = no_use
-step_use p functions steps line (instruction.Alloca d alloca) = no_use
-step_use p functions steps line (instruction.ElementPointer d object index) = no_use
 step_use p functions steps line (instruction.Load d address) = cell_use p line Reads (address_cell steps address)
 step_use p functions steps line (instruction.Store x address) = cell_use p line Writes (address_cell steps address)
 step_use p functions steps line (instruction.StoreZeros cells object) =
@@ -148,7 +142,7 @@ step_use p functions steps line (instruction.StoreZeros cells object) =
 step_use p functions steps line (instruction.AtomicAdd address x) = cell_use p line Adds (address_cell steps address)
 step_use p functions steps line (instruction.Call d callee arguments) =
     call_use p (slice_get functions callee.0) arguments
-step_use p functions steps line (instruction.StartRegion d) = no_use
+step_use p functions steps line other = no_use
 
 abbrev pub foot_of : Option Block → List Zone
 foot_of None = []
@@ -156,13 +150,8 @@ foot_of (Some block) = block.foot
 
 -- the foot of the child of a detach
 abbrev pub child_foot : List Block → Terminator → List Zone
-child_foot blocks (terminator.Jump target) = []
-child_foot blocks (terminator.Branch condition when_true when_false) = []
-child_foot blocks (terminator.Switch width value default cases) = []
-child_foot blocks (terminator.Return value) = []
 child_foot blocks (terminator.Detach region body continuation) = foot_of (slice_get blocks body.0)
-child_foot blocks (terminator.Reattach region continuation) = []
-child_foot blocks (terminator.Sync region target) = []
+child_foot blocks other = []
 
 -- what a terminator touches: the foot of a new child
 abbrev pub end_use : Place → List Block → Terminator → Use
@@ -172,10 +161,9 @@ end_use p blocks t = foot_use p (child_foot blocks t)
 
 -- whether what is pending of a region goes on along an edge
 abbrev pub hands_on : Way → RegisterId → Bool
-hands_on Branch region = true
 hands_on Detached region = false
-hands_on Continued region = true
 hands_on (Synced synced) region = not (synced.0 == region.0)
+hands_on other region = true
 
 -- an edge where these facts are all that is known
 abbrev pub with_facts : List Fact → EdgeFacts → EdgeFacts
@@ -197,17 +185,9 @@ foot_passed e waiting region foot = list_all (λ (z : Zone). is_passed e waiting
 
 -- a new child's foot, on the edge to the continuation
 abbrev pub child_passed_on : List Block → EdgeFacts → List Pending → Way → Terminator → Bool
-child_passed_on blocks e waiting Branch t = true
-child_passed_on blocks e waiting Detached t = true
-child_passed_on blocks e waiting (Synced region) t = true
-child_passed_on blocks e waiting Continued (terminator.Jump target) = true
-child_passed_on blocks e waiting Continued (terminator.Branch condition when_true when_false) = true
-child_passed_on blocks e waiting Continued (terminator.Switch width value default cases) = true
-child_passed_on blocks e waiting Continued (terminator.Return value) = true
 child_passed_on blocks e waiting Continued (terminator.Detach region body continuation) =
     foot_passed e waiting region (foot_of (slice_get blocks body.0))
-child_passed_on blocks e waiting Continued (terminator.Reattach region continuation) = true
-child_passed_on blocks e waiting Continued (terminator.Sync region target) = true
+child_passed_on blocks e waiting one other = true
 
 abbrev pub pending_of : Option Block → List Pending
 pending_of None = []

@@ -10,7 +10,7 @@ use Rattle.program.specs.declared.function.Function.{Function}
 use Rattle.program.specs.declared.function.Program.{Program}
 use Rattle.refusal.specs.declared.broken.Broken.{Broken}
 use Rattle.ranges.specs.region_match.declared.task.Task.{Task}
-use Rattle.ranges.specs.region_match.declared.task.Task.TheVariants.{Unreached, Body, Child}
+use Rattle.ranges.specs.region_match.declared.task.Task.TheVariants.{Child}
 use Rattle.ranges.specs.region_match.declared.tables.Regions.{Regions}
 use Rattle.ranges.specs.region_match.Tasks.{task_at, tasks_in}
 use Rattle.ranges.specs.region_match.Rules.{ending_at}
@@ -45,14 +45,12 @@ foot_at_end blocks (Some terminator) = child_foot blocks terminator
 
 -- the zones of the function for its own blocks, the foot of the child for a child's
 abbrev pub covering_of : Function → Task → List Zone
-covering_of function Unreached = function.zones
-covering_of function Body = function.zones
 covering_of function (Child detach) = foot_at_end function.blocks (ending_at function.blocks detach.0)
+covering_of function other = function.zones
 
 abbrev pub is_own_block : Task → Bool
-is_own_block Unreached = true
-is_own_block Body = true
 is_own_block (Child detach) = false
+is_own_block other = true
 
 abbrev pub place_in : Function → Task → Block → List Fact → Place
 place_in function task block facts = place_of facts (covering_of function task) (is_own_block task) block.pending

@@ -30,34 +30,22 @@ as_written zone = span zone.object [] zone
 
 abbrev pub same_object : ObjectName → ObjectName → Bool
 same_object (Global a) (Global b) = a.0 == b.0
-same_object (Global a) (Alloca b) = false
-same_object (Global a) (Parameter b) = false
-same_object (Alloca a) (Global b) = false
 same_object (Alloca a) (Alloca b) = a.0 == b.0
-same_object (Alloca a) (Parameter b) = false
-same_object (Parameter a) (Global b) = false
-same_object (Parameter a) (Alloca b) = false
 same_object (Parameter a) (Parameter b) = a.0 == b.0
+same_object one other = false
 
 -- a zone of this mode lets its cells be used by that mode: `writes` by every mode, any other only by its own
 abbrev pub mode_covers : Mode → Mode → Bool
 mode_covers Writes mode = true
 mode_covers Reads Reads = true
-mode_covers Reads Writes = false
-mode_covers Reads Adds = false
-mode_covers Adds Reads = false
-mode_covers Adds Writes = false
 mode_covers Adds Adds = true
+mode_covers one other = false
 
 -- uses of one cell in any order come to the same: two reads, or two adds
 abbrev pub modes_agree : Mode → Mode → Bool
 modes_agree Reads Reads = true
-modes_agree Reads Writes = false
-modes_agree Reads Adds = false
-modes_agree Writes mode = false
-modes_agree Adds Reads = false
-modes_agree Adds Writes = false
 modes_agree Adds Adds = true
+modes_agree one other = false
 
 -- ---- what facts show
 

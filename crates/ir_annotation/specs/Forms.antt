@@ -3,7 +3,7 @@ use Rattle.std.specs.Prelude.{◌==◌, ℕ, ℤ, pos, neg_ℤ, ◌+ℤ◌, Bool
 use Rattle.std.specs.Prelude.{insert, slice_get, slice_set}
 use Rattle.std.specs.Prelude.{slice_index_or, Option, Some, None, Result, Ok, Err, if◌then◌else◌}
 use Rattle.std.specs.declared.cmp.Ordering.{Ordering}
-use Rattle.std.specs.declared.cmp.Ordering.TheVariants.{Less, Equal, Greater}
+use Rattle.std.specs.declared.cmp.Ordering.TheVariants.{Less}
 use Rattle.std.specs.Ordering.{nat_cmp, int_eq}
 use Rattle.std.specs.Cmp.Lexicographic.{slice_cmp}
 use Rattle.std.specs.List.{prefix_len, list_all, filter_map}
@@ -92,8 +92,7 @@ pub record Total : Type 0 where
 
 abbrev pub is_less : Ordering → Bool
 is_less Less = true
-is_less Equal = false
-is_less Greater = false
+is_less other = false
 
 -- the term's name stands before the name in the order of bytes
 abbrev pub is_before : List ℕ → SumTerm → Bool

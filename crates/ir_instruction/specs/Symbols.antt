@@ -46,8 +46,6 @@ symbol_at line t = symbol_of t.kind (text_at line t)
 abbrev pub is_within_limits : Symbol → Bool
 is_within_limits (Register name) = nat_le (length name) 64
 is_within_limits (Global name) = nat_le (length name) 64
-is_within_limits (Number (Small n)) = true
 is_within_limits (Number (Large digits)) = false
 is_within_limits (Word name) = nat_le (length name) 64
-is_within_limits (Mark byte) = true
-is_within_limits Note = true
+is_within_limits other = true

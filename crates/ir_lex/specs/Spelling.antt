@@ -66,6 +66,5 @@ abbrev pub is_printed : ℕ → Bool
 is_printed b = (nat_le 33 b && nat_le b 126) && not (b == 59)
 
 abbrev pub is_note_mark : List ℕ → Bool
-is_note_mark [] = false
-is_note_mark (b ∷ []) = false
 is_note_mark (b ∷ c ∷ bs) = b == 59 && c == 33
+is_note_mark other = false

@@ -18,9 +18,8 @@ alloca_cells None = 0
 alloca_cells (Some a) = a.cells
 
 abbrev pub parameter_cells : Option ParameterKind → ℕ
-parameter_cells None = 0
-parameter_cells (Some parameter.Number) = 0
 parameter_cells (Some (parameter.Pointer cells)) = cells
+parameter_cells other = 0
 
 -- the cells of an object as the function's text declares it
 abbrev pub object_cells : Program → Function → ObjectName → ℕ

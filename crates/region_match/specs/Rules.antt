@@ -9,7 +9,7 @@ use Rattle.program.specs.declared.instruction.Step.{Step}
 use Rattle.program.specs.declared.instruction.Phi.{Phi}
 use Rattle.program.specs.declared.instruction.Ending.{Ending}
 use Rattle.program.specs.declared.instruction.Terminator.{Terminator}
-use Rattle.program.specs.declared.instruction.Terminator.TheVariants.{Jump, Branch, Switch, Return, Detach, Reattach}
+use Rattle.program.specs.declared.instruction.Terminator.TheVariants.{Return, Detach, Reattach}
 use Rattle.program.specs.declared.instruction.Terminator.TheVariants.{Sync}
 use Rattle.program.specs.declared.function.Block.{Block}
 use Rattle.cfg.specs.declared.structure.Way.{Way}
@@ -69,15 +69,13 @@ IsInside blocks b = (detach : ℕ) × (outer : List ℕ) × HasTask blocks b (de
 
 -- which rule the terminator of a block breaks by itself
 abbrev pub IsEndingWrong : List Block → List BlockEdges → ℕ → Terminator → ℕ → Type 0
-IsEndingWrong bodies blocks b (Jump target) number = ⊥
-IsEndingWrong bodies blocks b (Branch condition when_true when_false) number = ⊥
-IsEndingWrong bodies blocks b (Switch width value default cases) number = ⊥
 IsEndingWrong bodies blocks b (Return value) number = (number ≡ 305) × IsInside blocks b
 IsEndingWrong bodies blocks b (Detach region body continuation) number = (number ≡ 303) ×
     IsForeign bodies blocks b region
 IsEndingWrong bodies blocks b (Reattach region continuation) number =
     ((number ≡ 301) × IsStray bodies blocks b region) ⊎ ((number ≡ 302) × IsElsewhere bodies blocks b continuation)
 IsEndingWrong bodies blocks b (Sync region target) number = (number ≡ 303) × IsForeign bodies blocks b region
+IsEndingWrong bodies blocks b other number = ⊥
 
 abbrev pub IsEndingBroken : List Block → List BlockEdges → ℕ → Option Ending → Broken → Type 0
 IsEndingBroken bodies blocks b None broken = ⊥
@@ -91,13 +89,9 @@ IsPendingBroken bodies blocks b pending broken = Any (λ p. (broken.number ≡ 3
 
 -- a `ret` or a reattach
 abbrev pub is_leave : Terminator → Bool
-is_leave (Jump target) = false
-is_leave (Branch condition when_true when_false) = false
-is_leave (Switch width value default cases) = false
 is_leave (Return value) = true
-is_leave (Detach region body continuation) = false
 is_leave (Reattach region continuation) = true
-is_leave (Sync region target) = false
+is_leave other = false
 
 -- a sync within this region
 abbrev pub IsSync : Option Terminator → RegisterId → Type 0

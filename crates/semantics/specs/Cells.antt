@@ -14,9 +14,8 @@ pub record Cell : Type 0 where
 
 abbrev pub same_object : Object → Object → Bool
 same_object (Shared g) (Shared h) = eqb g h
-same_object (Shared g) (Local o n) = false
-same_object (Local o n) (Shared g) = false
 same_object (Local o n) (Local q m) = same_path o q && eqb n m
+same_object one other = false
 
 abbrev pub same_cell : Cell → Cell → Bool
 same_cell c d = same_object c.object d.object && eqb c.index d.index

@@ -111,9 +111,8 @@ abbrev pub waiting : Frame → Option RegisterId → Frame
 waiting f d = record f { index = suc f.index; made = suc f.made; waits = OnCall f.made d }
 
 abbrev pub with_result : Registers → Option RegisterId → Option ℤ → Registers
-with_result r None result = r
-with_result r (Some d) None = r
 with_result r (Some d) (Some z) = set_register r d (Word z)
+with_result r one other = r
 
 abbrev pub resumed : Frame → Option RegisterId → Option ℤ → Frame
 resumed g d result = record g { registers = with_result g.registers d result; waits = Free }
@@ -205,17 +204,14 @@ none_within s p made region = all_below made (λ k. outside region (s.frames (k 
 abbrev pub may_go : State → Path → ℕ → Wait → Bool
 may_go s p made Free = true
 may_go s p made (OnRegion region) = none_within s p made region
-may_go s p made (OnCall k d) = false
-may_go s p made Halted = false
+may_go s p made other = false
 
 abbrev pub childless : State → Path → ℕ → Bool
 childless s p made = all_below made (λ k. is_none (s.frames (k ∷ p)))
 
 abbrev pub hand_over : Path → Path → Frame → Wait → Option ℤ → Option Change
 hand_over p above g (OnCall k d) result = Some (return_change p above g d result)
-hand_over p above g Free result = None
-hand_over p above g (OnRegion r) result = None
-hand_over p above g Halted result = None
+hand_over p above g other result = None
 
 abbrev pub to_caller : Path → Path → Option Frame → Option ℤ → Option Change
 to_caller p above None result = None

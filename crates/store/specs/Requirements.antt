@@ -31,9 +31,8 @@ abbrev pub value_at : List ℤ → Combination → Option ℤ
 value_at arguments form = with_terms arguments form.constant form.terms
 
 abbrev pub at_most : Option ℤ → Option ℤ → Bool
-at_most None high = false
-at_most (Some a) None = false
 at_most (Some a) (Some b) = int_le a b
+at_most one other = false
 
 abbrev pub is_met : List ℤ → Inequality → Bool
 is_met arguments r = at_most (value_at arguments r.low) (value_at arguments r.high)

@@ -51,21 +51,18 @@ expected parameters place = option_map parameter_of (slice_get parameters place)
 
 -- a number where the callee has a number, if it has a parameter there
 abbrev pub takes_number : Option Parameter → Bool
-takes_number None = true
-takes_number (Some parameter.Number) = true
 takes_number (Some (parameter.Pointer cells)) = false
+takes_number other = true
 
 -- a pointer where the callee has one, if it has a parameter there
 abbrev pub takes_object : Option Parameter → Bool
-takes_object None = true
 takes_object (Some parameter.Number) = false
-takes_object (Some (parameter.Pointer cells)) = true
+takes_object other = true
 
 -- as many cells as the parameter's extent, at least
 abbrev pub fits_extent : ℕ → Option Parameter → Bool
-fits_extent cells None = true
-fits_extent cells (Some parameter.Number) = true
 fits_extent cells (Some (parameter.Pointer extent)) = nat_le extent cells
+fits_extent cells other = true
 
 -- an argument for a parameter: 202 where they differ, 204 where the object is too short
 abbrev pub argument_of : Items → Scope → ℕ → Option Parameter → ArgumentText → Result Argument TypeFault
@@ -83,14 +80,9 @@ arguments_of items scope line parameters arguments =
 
 abbrev pub is_same_object : ObjectName → ObjectName → Bool
 is_same_object (object.Global a) (object.Global b) = nat_eq a.0 b.0
-is_same_object (object.Global a) (object.Alloca b) = false
-is_same_object (object.Global a) (object.Parameter b) = false
-is_same_object (object.Alloca a) (object.Global b) = false
 is_same_object (object.Alloca a) (object.Alloca b) = nat_eq a.0 b.0
-is_same_object (object.Alloca a) (object.Parameter b) = false
-is_same_object (object.Parameter a) (object.Global b) = false
-is_same_object (object.Parameter a) (object.Alloca b) = false
 is_same_object (object.Parameter a) (object.Parameter b) = nat_eq a.0 b.0
+is_same_object one other = false
 
 -- the argument passes this object
 abbrev pub passes : ObjectName → Argument → Bool
@@ -108,10 +100,8 @@ are_distinct (first ∷ others) = not (is_passed_again first others) && are_dist
 
 -- the argument passes a global that is among the named ones
 abbrev pub is_named_below : List Bool → Argument → Bool
-is_named_below named (argument.Number value) = false
 is_named_below named (argument.Object (object.Global id)) = slice_index_or named id.0 false
-is_named_below named (argument.Object (object.Alloca id)) = false
-is_named_below named (argument.Object (object.Parameter id)) = false
+is_named_below named other = false
 
 -- a function each: the globals that it and those that it calls name
 abbrev pub Named : Type 0

@@ -77,12 +77,7 @@ convert_of scope line register conversion value =
 
 abbrev pub as_alloca : ℕ → Holding → Result AllocaId TypeFault
 as_alloca line (holding.Object (object.Alloca id) cells) = Ok id
-as_alloca line (holding.Object (object.Global id) cells) = Err (breaks 202 line)
-as_alloca line (holding.Object (object.Parameter id) cells) = Err (breaks 202 line)
-as_alloca line (holding.Number width) = Err (breaks 202 line)
-as_alloca line holding.Truth = Err (breaks 202 line)
-as_alloca line holding.Element = Err (breaks 202 line)
-as_alloca line holding.Region = Err (breaks 202 line)
+as_alloca line other = Err (breaks 202 line)
 
 -- the number of the `alloca` that defines a register
 abbrev pub alloca_id_of : Scope → ℕ → List ℕ → Result AllocaId TypeFault

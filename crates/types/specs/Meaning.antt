@@ -40,9 +40,8 @@ as_main id (Some function) =
 
 -- 201 at line 1 where no function is called `@main`
 abbrev pub found_main : List FunctionText → Option Item → Result FunctionId TypeFault
-found_main functions None = Err (breaks 201 1)
-found_main functions (Some (item.Global id cells)) = Err (breaks 201 1)
 found_main functions (Some (item.Function id)) = as_main id (slice_get functions id.0)
+found_main functions other = Err (breaks 201 1)
 
 abbrev pub main_of : Items → List FunctionText → Result FunctionId TypeFault
 main_of items functions = found_main functions (look_up items (codes "main"))

@@ -29,10 +29,9 @@ use Rattle.types.specs.names.Table.{look_up}
 
 -- the parameter: 201 where no parameter has the name
 abbrev pub as_parameter : ℕ → Option Named → Result Register TypeFault
-as_parameter line None = Err (breaks 201 line)
-as_parameter line (Some (named.Label block)) = Err (breaks 201 line)
 as_parameter line (Some (named.Register register)) =
     made_of (λ _. register) (unless_of (is_parameter register.origin) (breaks 201 line))
+as_parameter line other = Err (breaks 201 line)
 
 abbrev pub parameter_of : Scope → ℕ → List ℕ → Result Register TypeFault
 parameter_of scope line name = as_parameter line (look_up scope name)

@@ -13,7 +13,7 @@ use Rattle.syntax.specs.declared.module.Function.{Function as FunctionText}
 use Rattle.syntax.specs.declared.module.Parameter.{Parameter as ParameterText}
 use Rattle.syntax.specs.declared.module.Parameter.TheVariants as parameter
 use Rattle.syntax.specs.declared.operator.Conversion.{Conversion}
-use Rattle.syntax.specs.declared.operator.Conversion.TheVariants.{Truncate, SignExtend, ZeroExtend}
+use Rattle.syntax.specs.declared.operator.Conversion.TheVariants.{Truncate}
 use Rattle.syntax.specs.declared.operator.Width.{Width}
 use Rattle.syntax.specs.declared.operator.Width.TheVariants.{Bits64, Bits32}
 use Rattle.types.specs.declared.names.layout.Layout.{Layout}
@@ -34,8 +34,7 @@ kind_of holding.Region = kind.Region
 -- the width of what a conversion gives
 abbrev pub target_width : Conversion → Width
 target_width Truncate = Bits32
-target_width SignExtend = Bits64
-target_width ZeroExtend = Bits64
+target_width other = Bits64
 
 -- with the next register
 abbrev pub with_register : Layout → List ℕ → Holding → Origin → Layout
@@ -89,11 +88,9 @@ with_instruction layout line from (text.ElementPointer register base index) =
     with_register layout register holding.Element from
 with_instruction layout line from (text.Load register address) =
     with_register layout register (holding.Number Bits64) from
-with_instruction layout line from (text.Store value address) = layout
-with_instruction layout line from (text.StoreZeros cells address) = layout
-with_instruction layout line from (text.AtomicAdd address value) = layout
 with_instruction layout line from (text.Call register callee arguments) = with_call layout register from
 with_instruction layout line from (text.StartRegion register) = with_register layout register holding.Region from
+with_instruction layout line from other = layout
 
 abbrev pub with_step : ℕ → Layout → StepText → Layout
 with_step block layout step = with_instruction layout step.line (origin.Step block) step.instruction

@@ -22,9 +22,8 @@ use Rattle.types.specs.names.Table.{look_up}
 
 -- with what a name behind `@` stands for, where no call names it
 abbrev pub with_object : Mentions → Option Item → Mentions
-with_object found None = found
 with_object found (Some (item.Global id cells)) = record found { globals = found.globals ++ id.0 ∷ [] }
-with_object found (Some (item.Function id)) = found
+with_object found other = found
 
 -- with what a call names
 abbrev pub with_callee : Mentions → Option Item → Mentions
@@ -45,10 +44,6 @@ with_arguments items found [] = found
 with_arguments items found (argument ∷ arguments) = with_arguments items (with_argument items found argument) arguments
 
 abbrev pub with_instruction : Items → Mentions → InstructionText → Mentions
-with_instruction items found (text.Binary register operator width left right) = found
-with_instruction items found (text.Compare register predicate width left right) = found
-with_instruction items found (text.Convert register conversion value) = found
-with_instruction items found (text.Alloca register size) = found
 with_instruction items found (text.ElementPointer register base index) = with_address items found base
 with_instruction items found (text.Load register address) = with_address items found address
 with_instruction items found (text.Store value address) = with_address items found address
@@ -56,7 +51,7 @@ with_instruction items found (text.StoreZeros cells address) = with_address item
 with_instruction items found (text.AtomicAdd address value) = with_address items found address
 with_instruction items found (text.Call register callee arguments) =
     with_arguments items (with_callee found (look_up items callee)) arguments
-with_instruction items found (text.StartRegion register) = found
+with_instruction items found other = found
 
 abbrev pub with_steps : Items → Mentions → List StepText → Mentions
 with_steps items found [] = found

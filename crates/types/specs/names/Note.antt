@@ -1,5 +1,5 @@
 -- Zones, what is pending, and what is left.
-use Rattle.std.specs.Prelude.{ℕ, List, [], Option, Some, None, Result, Ok, Err}
+use Rattle.std.specs.Prelude.{ℕ, List, [], Option, Some, Result, Ok, Err}
 use Rattle.linear.specs.declared.form.RegisterId.{RegisterId}
 use Rattle.program.specs.declared.annotation.Left.{Left}
 use Rattle.program.specs.declared.annotation.Measure.{Measure}
@@ -28,9 +28,8 @@ use Rattle.types.specs.names.Table.{look_up}
 
 -- a global; a function's name is an unknown one here (201)
 abbrev pub noted_global : ℕ → Option Item → Result ObjectName TypeFault
-noted_global line None = Err (breaks 201 line)
 noted_global line (Some (item.Global id cells)) = Ok (object.Global id)
-noted_global line (Some (item.Function id)) = Err (breaks 201 line)
+noted_global line other = Err (breaks 201 line)
 
 -- the object that a register holds: a `getelementptr` result is 204, what is no pointer 202
 abbrev pub noted_holding : ℕ → Register → Result ObjectName TypeFault
