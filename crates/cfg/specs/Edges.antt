@@ -35,9 +35,8 @@ moves_from from phis = filter_map (move_from from) phis
 
 -- the edge from a block to another; none where the function has no such block
 abbrev pub edge_to : List Block → ℕ → Way → BlockId → List Edge
-edge_to blocks from way to =
-    option_to_list (option_map (λ target. record { to = to; way = way; moves = moves_from from target.phis })
-    (slice_get blocks to.0))
+edge_to blocks from way to = option_to_list
+    (option_map (λ target. record { to = to; way = way; moves = moves_from from target.phis }) (slice_get blocks to.0))
 
 -- the edges of a terminator in its order; a reattach has none
 abbrev pub edges_along : List Block → ℕ → Terminator → List Edge

@@ -31,9 +31,8 @@ Avoids stop (leg ∷ legs) = (stop leg.from ≡ false) × Avoids stop legs
 
 -- a path leads from a start to a block, and leaves no stop
 abbrev pub IsReached : List BlockEdges → List Bool → List Bool → ℕ → Type 0
-IsReached blocks starts stops to =
-    (from : ℕ) × (slice_index_or starts from false ≡ true) × (legs : List Leg) × IsPath blocks from legs to ×
-    Avoids (λ b. slice_index_or stops b false) legs
+IsReached blocks starts stops to = (from : ℕ) × (slice_index_or starts from false ≡ true) × (legs : List Leg) ×
+    IsPath blocks from legs to × Avoids (λ b. slice_index_or stops b false) legs
 
 -- a path leads from the entry to a block
 abbrev pub IsOnPath : List BlockEdges → ℕ → Type 0

@@ -71,8 +71,7 @@ IsBlockBroken blocks b block broken = IsPhiBroken blocks b block.phis broken ⊎
     (IsLabelBroken blocks b block.line broken ⊎ IsEndBroken block broken)
 
 abbrev pub IsFunctionBroken : Function → Broken → Type 0
-IsFunctionBroken function broken =
-    (b : ℕ) × (block : Block) × (slice_get function.blocks b ≡ Some block) ×
+IsFunctionBroken function broken = (b : ℕ) × (block : Block) × (slice_get function.blocks b ≡ Some block) ×
     IsBlockBroken (graph_of function).blocks b block broken
 
 abbrev pub IsGraphBroken : Program → Broken → Type 0

@@ -25,17 +25,14 @@ register_table function = registers_from function 0 function.blocks
 
 -- 401: a use of a register, and a path from the entry to it on which no definition of the register stands before it
 abbrev pub IsUndefined : Function → Broken → Type 0
-IsUndefined function broken =
-    IsTableBroken (IsMissing (graph_of function).blocks (map given_of (register_table function))) 401
-    (register_table function) broken
+IsUndefined function broken = IsTableBroken (IsMissing (graph_of function).blocks
+    (map given_of (register_table function))) 401 (register_table function) broken
 
 -- on each path from the entry to a use of a register, a definition of it stands before the use
 abbrev pub AreRegistersDefined : Function → Type 0
-AreRegistersDefined function =
-    (b : ℕ) (block : BlockActs) (k n line : ℕ) (legs : List Leg)
-    → slice_get (register_table function) b ≡ Some block → slice_get block.acts k ≡ Some (Needs n line) →
-    IsPath (graph_of function).blocks 0 legs b
-    → Contains (defined_along (map given_of (register_table function)) legs ++ gives (take k block.acts)) n
+AreRegistersDefined function = (b : ℕ) (block : BlockActs) (k n line : ℕ) (legs : List Leg) → slice_get (register_table
+    function) b ≡ Some block → slice_get block.acts k ≡ Some (Needs n line) → IsPath (graph_of function).blocks 0 legs
+    b → Contains (defined_along (map given_of (register_table function)) legs ++ gives (take k block.acts)) n
 
 abbrev pub alloca_table : Function → List BlockActs
 alloca_table function = map (λ block. record { acts = alloca_acts function.allocas block }) function.blocks
@@ -43,9 +40,8 @@ alloca_table function = map (λ block. record { acts = alloca_acts function.allo
 -- 402: a load or the passing of an alloca that nothing before it in its block stores, where no labelling has the alloca
 -- for sure when the block begins
 abbrev pub IsUnsure : Function → Broken → Type 0
-IsUnsure function broken =
-    IsTableBroken (IsNeverSure function.blocks (graph_of function).blocks (map given_of (alloca_table function))) 402
-    (alloca_table function) broken
+IsUnsure function broken = IsTableBroken (IsNeverSure function.blocks (graph_of function).blocks
+    (map given_of (alloca_table function))) 402 (alloca_table function) broken
 
 abbrev pub IsFunctionBroken : Function → Broken → Type 0
 IsFunctionBroken function broken = IsUndefined function broken ⊎ IsUnsure function broken

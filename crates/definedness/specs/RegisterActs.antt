@@ -144,9 +144,7 @@ abbrev pub phi_gives : Phi → List Act
 phi_gives phi = Gives phi.register.0 ∷ []
 
 abbrev pub note_needs : List AllocaOf → Block → List Act
-note_needs allocas block =
-    flat_map inequality_needs block.keeps
-    ++ (flat_map (pending_needs allocas) block.pending ++
+note_needs allocas block = flat_map inequality_needs block.keeps ++ (flat_map (pending_needs allocas) block.pending ++
     (left_needs block.left ++ flat_map (zone_needs allocas) block.foot))
 
 -- the registers below this number are defined

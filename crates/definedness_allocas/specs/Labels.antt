@@ -28,7 +28,5 @@ IsAdded Stores Forks Ends l region from other = ⊥
 pub record IsLabelling (Stores : ℕ → Type 0) (Forks : ℕ → RegisterId → Type 0) (Ends : ℕ → ℕ →
     Type 0) (blocks : List BlockEdges) (l : Labels) : Type 0 where
   pub entry : (region : Option RegisterId) → l region 0 ≡ false
-  pub edges : (a : ℕ)
-      → All (λ e. (region : Option RegisterId) → l region e.to.0 ≡ true → IsHeld Stores l region a ⊎
-      IsAdded Stores Forks Ends l region a e.way)
-      (edges_of blocks a)
+  pub edges : (a : ℕ) → All (λ e. (region : Option RegisterId) → l region e.to.0 ≡ true → IsHeld Stores l region a ⊎
+      IsAdded Stores Forks Ends l region a e.way) (edges_of blocks a)

@@ -73,25 +73,16 @@ form_at x offset = record { terms = operand_terms x; constant = operand_constant
 
 -- so many cells of an object from an index on
 abbrev pub cells_zone : ℕ → Mode → Cell → ℕ → Zone
-cells_zone line mode cell count = record {
-  line = line;
-  mode = mode;
-  object = cell.object;
-  low = form_at cell.index 0;
-  high = form_at cell.index count;
-}
+cells_zone line mode cell count = record
+    { line = line; mode = mode; object = cell.object; low = form_at cell.index 0; high = form_at cell.index count }
 
 -- ---- what a step or a terminator touches
 
 -- 601: an access; one through a pointer of another block is not covered
 abbrev pub access_use : Place → Option Zone → Use
 access_use p None = record { number = 601; covered = false; clear = true }
-access_use p (Some z) = record {
-  number = 601;
-  covered = is_allowed p (as_written z);
-  clear =
-      is_clear p (as_written z);
-}
+access_use p (Some z) =
+    record { number = 601; covered = is_allowed p (as_written z); clear = is_clear p (as_written z) }
 
 abbrev pub cell_use : Place → ℕ → Mode → Option Cell → Use
 cell_use p line mode cell = access_use p (option_map (λ c. cells_zone line mode c 1) cell)
@@ -171,10 +162,8 @@ with_facts facts e = record { to = e.to; way = e.way; moves = e.moves; facts = f
 
 -- 603: what is pending of the region at the target, with what its phis take put in, covers it
 unfoldable pub is_passed : EdgeFacts → List Pending → RegisterId → Zone → Bool
-is_passed e waiting region z =
-    is_empty e.facts (as_written z)
-    || list_any (λ (q : Pending). (q.region.0 == region.0) && covers e.facts (span q.zone.object e.moves q.zone)
-    (as_written z)) waiting
+is_passed e waiting region z = is_empty e.facts (as_written z) || list_any (λ (q : Pending). (q.region.0 == region.0) &&
+    covers e.facts (span q.zone.object e.moves q.zone) (as_written z)) waiting
 
 abbrev pub are_passed : EdgeFacts → List Pending → List Pending → Bool
 are_passed e waiting pending =
@@ -195,6 +184,5 @@ pending_of (Some block) = block.pending
 
 -- 603: each pending zone of the source, and a new child's foot
 abbrev pub passes_on : List Block → List Pending → Terminator → EdgeFacts → Bool
-passes_on blocks pending t e =
-    are_passed e (pending_of (slice_get blocks e.to.0)) pending && child_passed_on blocks e
-    (pending_of (slice_get blocks e.to.0)) e.way t
+passes_on blocks pending t e = are_passed e (pending_of (slice_get blocks e.to.0)) pending &&
+    child_passed_on blocks e (pending_of (slice_get blocks e.to.0)) e.way t

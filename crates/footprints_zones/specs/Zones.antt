@@ -68,20 +68,13 @@ is_empty facts z = shows_order facts z.moves z.zone.low z.moves z.zone.high
 
 -- it has each cell of the other, for each use that the other has them for
 unfoldable pub covers : List Fact → Span → Span → Bool
-covers facts z y =
-    same_object z.object y.object
-    && (mode_covers z.zone.mode y.zone.mode
-    && (shows_order facts y.moves y.zone.low z.moves z.zone.low
-    && shows_order facts z.moves z.zone.high y.moves y.zone.high))
+covers facts z y = same_object z.object y.object && (mode_covers z.zone.mode y.zone.mode && (shows_order facts y.moves
+    y.zone.low z.moves z.zone.low && shows_order facts z.moves z.zone.high y.moves y.zone.high))
 
 -- they have no cell in common
 unfoldable pub is_apart : List Fact → Span → Span → Bool
-is_apart facts z y =
-    not (same_object z.object y.object)
-    || (is_empty facts z
-    || (is_empty facts y
-    || (shows_order facts z.moves z.zone.low y.moves y.zone.high
-    || shows_order facts y.moves y.zone.low z.moves z.zone.high)))
+is_apart facts z y = not (same_object z.object y.object) || (is_empty facts z || (is_empty facts y || (shows_order facts
+    z.moves z.zone.low y.moves y.zone.high || shows_order facts y.moves y.zone.low z.moves z.zone.high)))
 
 -- they may have a cell in common, and the order of its uses may matter
 unfoldable pub conflict : List Fact → Span → Span → Bool
@@ -89,12 +82,9 @@ conflict facts z y = not (modes_agree z.zone.mode y.zone.mode || is_apart facts 
 
 -- they may, where the second has any cell, and the order of its uses may matter
 unfoldable pub meets : List Fact → Span → Span → Bool
-meets facts z y =
-    not (modes_agree z.zone.mode y.zone.mode
-    || (not (same_object z.object y.object)
-    || (is_empty facts z
-    || (shows_order facts z.moves z.zone.low y.moves y.zone.high
-    || shows_order facts y.moves y.zone.low z.moves z.zone.high))))
+meets facts z y = not (modes_agree z.zone.mode y.zone.mode ||
+    (not (same_object z.object y.object) || (is_empty facts z || (shows_order facts z.moves z.zone.low y.moves
+    y.zone.high || shows_order facts y.moves y.zone.low z.moves z.zone.high))))
 
 -- one of the zones covers it, or it is empty
 unfoldable pub is_covered : List Fact → List Zone → Span → Bool

@@ -33,8 +33,7 @@ abbrev pub as_signed : Bool → Cut → List SignedText
 as_signed is_negative cut = record { is_negative = is_negative; text = cut.first } ∷ cut.rest
 
 abbrev pub onto_cut : ℕ → Cut → Cut
-onto_cut b cut =
-    if b == 43 then record { first = []; rest = as_signed false cut }
+onto_cut b cut = if b == 43 then record { first = []; rest = as_signed false cut }
     else if b == 45 then record { first = []; rest = as_signed true cut }
     else record { first = b ∷ cut.first; rest = cut.rest }
 
@@ -68,8 +67,7 @@ abbrev pub is_no_star : ℕ → Bool
 is_no_star b = not (b == 42)
 
 abbrev pub term_by_number : Bool → List ℕ → Result (Limited SignedTerm) ℕ
-term_by_number is_negative text =
-    let end : ℕ = prefix_len is_no_star text in
+term_by_number is_negative text = let end : ℕ = prefix_len is_no_star text in
     number_of 9223372036854775807 (take end text) >>= λ number. term_behind is_negative number (drop end text)
 
 -- a number, a register, or a number * a register
@@ -110,18 +108,13 @@ with_more amount t = record t { coefficient = t.coefficient +ℤ amount }
 
 -- with a multiple of a register, in its place
 abbrev pub added : List SumTerm → List ℕ → ℤ → List SumTerm
-added ts name amount =
-    let place : ℕ = prefix_len (is_before name) ts in
-    let new : SumTerm = record { register = name; coefficient = amount } in
-    if is_at ts place name then slice_set ts place (with_more amount (slice_index_or ts place new)) else insert ts place
-    new
+added ts name amount = let place : ℕ = prefix_len (is_before name) ts in
+    let new : SumTerm = record { register = name; coefficient = amount } in if is_at ts place name then slice_set ts
+    place (with_more amount (slice_index_or ts place new)) else insert ts place new
 
 abbrev pub with_amount : Total → Bool → Option (List ℕ) → ℤ → Total
-with_amount total is_within None amount = record {
-  terms = total.terms;
-  constant = total.constant +ℤ amount;
-  is_within_limits = total.is_within_limits && is_within;
-}
+with_amount total is_within None amount = record
+    { terms = total.terms; constant = total.constant +ℤ amount; is_within_limits = total.is_within_limits && is_within }
 with_amount total is_within (Some name) amount = record {
   terms = added total.terms name amount;
   constant = total.constant;
@@ -142,11 +135,8 @@ nothing = record { terms = []; constant = pos 0; is_within_limits = true }
 
 -- no term where the coefficient is 0
 abbrev pub kept : SumTerm → Option Term
-kept t = if int_eq t.coefficient (pos 0) then None else Some (record {
-  register = t.register;
-  coefficient =
-      (narrowed t.coefficient).value;
-})
+kept t = if int_eq t.coefficient (pos 0) then None
+    else Some (record { register = t.register; coefficient = (narrowed t.coefficient).value })
 
 abbrev pub is_narrow : SumTerm → Bool
 is_narrow t = (narrowed t.coefficient).is_within_limits

@@ -27,8 +27,7 @@ inequality_of line (left ∷ relation ∷ right ∷ []) =
     form_of left >>= λ l. relation_of relation >>= λ r. form_of right >>= λ h.
     Ok (record {
       value = record { line = line; left = l.value; relation = r; right = h.value };
-      is_within_limits =
-          l.is_within_limits && h.is_within_limits;
+      is_within_limits = l.is_within_limits && h.is_within_limits;
     })
 inequality_of line _ = Err 103
 
@@ -52,8 +51,7 @@ measure_of line (form ∷ max ∷ bound ∷ []) =
     form_of form >>= λ f. bound_of max bound >>= λ n.
     Ok (record {
       value = record { line = line; form = f.value; bound = n.value };
-      is_within_limits =
-          f.is_within_limits && n.is_within_limits;
+      is_within_limits = f.is_within_limits && n.is_within_limits;
     })
 measure_of line _ = Err 103
 
@@ -63,8 +61,7 @@ budget_from_words line (calls ∷ instructions ∷ []) =
     number_of 1000000000000 calls >>= λ k. number_of 1000000000000 instructions >>= λ s.
     Ok (record {
       value = record { line = line; self_calls = k.value; instructions = s.value };
-      is_within_limits =
-          k.is_within_limits && s.is_within_limits;
+      is_within_limits = k.is_within_limits && s.is_within_limits;
     })
 budget_from_words line _ = Err 103
 
@@ -74,8 +71,7 @@ left_of line (calls ∷ instructions ∷ []) =
     form_of calls >>= λ k. form_of instructions >>= λ s.
     Ok (record {
       value = record { line = line; self_calls = k.value; instructions = s.value };
-      is_within_limits =
-          k.is_within_limits && s.is_within_limits;
+      is_within_limits = k.is_within_limits && s.is_within_limits;
     })
 left_of line _ = Err 103
 
@@ -91,8 +87,7 @@ pending_of line (region ∷ words) =
     register_of region >>= λ s. moded_zone_of line words >>= λ z.
     Ok (record {
       value = record { region = s.value; zone = z.value };
-      is_within_limits =
-          s.is_within_limits && z.is_within_limits;
+      is_within_limits = s.is_within_limits && z.is_within_limits;
     })
 
 abbrev pub as_line : {A : Type 0} → (A → Annotation) → Limited A → AnnotationLine

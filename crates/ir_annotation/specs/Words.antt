@@ -41,26 +41,15 @@ register_of (sigil ∷ name) = if sigil == 37 then name_of name else Err 103
 -- a register, or @ and a name
 abbrev pub object_of : List ℕ → Result (Limited Address) ℕ
 object_of [] = Err 103
-object_of (sigil ∷ name) =
-    if sigil == 37 then (name_of name >>= λ n. Ok (record {
-      value = address.Register n.value;
-      is_within_limits =
-          n.is_within_limits;
-    }))
-    else if sigil == 64 then (name_of name >>= λ n. Ok (record {
-      value = address.Global n.value;
-      is_within_limits =
-          n.is_within_limits;
-    }))
-    else Err 103
+object_of (sigil ∷ name) = if sigil == 37 then (name_of name >>=
+    λ n. Ok (record { value = address.Register n.value; is_within_limits = n.is_within_limits }))
+    else if sigil == 64 then (name_of name >>=
+    λ n. Ok (record { value = address.Global n.value; is_within_limits = n.is_within_limits })) else Err 103
 
 abbrev pub relation_of : List ℕ → Result Relation ℕ
 relation_of word = if bytes_eq word (codes "<=") then Ok AtMost else if bytes_eq word
     (codes ">=") then Ok AtLeast else Err 103
 
 abbrev pub mode_of : List ℕ → Result Mode ℕ
-mode_of word =
-    if bytes_eq word (codes "reads") then Ok Reads
-    else if bytes_eq word (codes "writes") then Ok Writes
-    else if bytes_eq word (codes "adds") then Ok Adds
-    else Err 103
+mode_of word = if bytes_eq word (codes "reads") then Ok Reads else if bytes_eq word (codes "writes") then Ok Writes
+    else if bytes_eq word (codes "adds") then Ok Adds else Err 103

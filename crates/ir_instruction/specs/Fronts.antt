@@ -82,9 +82,8 @@ count_at _ = None
 
 -- [N x i64]
 abbrev pub array_at : List Symbol → Option (ℕ × List Symbol)
-array_at line =
-    mark_at 91 line >>= count_at >>= λ count.
-    word_at (codes "x") count.1 >>= word_at (codes "i64") >>= mark_at 93 >>= λ rest. Some (count.0, rest)
+array_at line = mark_at 91 line >>= count_at >>= λ count. word_at (codes "x") count.1 >>= word_at (codes "i64") >>=
+    mark_at 93 >>= λ rest. Some (count.0, rest)
 
 -- so many bytes, as cells
 abbrev pub bytes_at : List Symbol → Option (ℕ × List Symbol)
@@ -93,14 +92,10 @@ bytes_at _ = None
 
 -- i64 or i32
 abbrev pub width_at : List Symbol → Option (Width × List Symbol)
-width_at line =
-    if is_word (codes "i64") line then Some (width.Bits64, behind line)
-    else if is_word (codes "i32") line then Some (width.Bits32, behind line)
-    else None
+width_at line = if is_word (codes "i64") line then Some (width.Bits64, behind line)
+    else if is_word (codes "i32") line then Some (width.Bits32, behind line) else None
 
 -- i64 or void
 abbrev pub result_type_at : List Symbol → Option (ResultType × List Symbol)
-result_type_at line =
-    if is_word (codes "i64") line then Some (result_type.Number, behind line)
-    else if is_word (codes "void") line then Some (result_type.Void, behind line)
-    else None
+result_type_at line = if is_word (codes "i64") line then Some (result_type.Number, behind line)
+    else if is_word (codes "void") line then Some (result_type.Void, behind line) else None

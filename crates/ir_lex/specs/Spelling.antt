@@ -55,11 +55,8 @@ is_marked_name (b ∷ bs) = (b == 37 || b == 64) && is_name bs
 
 -- what a run is
 abbrev pub kind_of : List ℕ → Option Kind
-kind_of run =
-    if is_name run then Some Word
-    else if is_number run then Some Number
-    else if is_marked_name run then Some Name
-    else None
+kind_of run = if is_name run then Some Word else if is_number run then Some Number
+    else if is_marked_name run then Some Name else None
 
 -- a word of an annotation has printed ASCII and no semicolon
 abbrev pub is_printed : ℕ → Bool

@@ -19,12 +19,8 @@ cells_in None = 0
 cells_in (Some f) = function_cells f
 
 abbrev pub counts_in : Module → Option Function → Counts
-counts_in m open_one = record {
-  global_cells = global_cells m;
-  registers = registers_in open_one;
-  alloca_cells =
-      cells_in open_one;
-}
+counts_in m open_one =
+    record { global_cells = global_cells m; registers = registers_in open_one; alloca_cells = cells_in open_one }
 
 -- of what was read
 abbrev pub counts_of : Draft → Counts
@@ -46,8 +42,7 @@ pub record IsSmall (c : Counts) : Type 0 where
 abbrev pub with_instruction : Counts → Instruction → Counts
 with_instruction c i = record c {
   registers = c.registers + length (option_list (defined_register i));
-  alloca_cells =
-      c.alloca_cells + instruction_cells i;
+  alloca_cells = c.alloca_cells + instruction_cells i;
 }
 
 -- with one more item

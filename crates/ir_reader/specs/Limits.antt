@@ -39,9 +39,8 @@ unfoldable pub register_count : Function → ℕ
 register_count f = length f.parameters + sum_by block_register_count f.blocks
 
 abbrev pub are_function_notes_within : FunctionNotes → Bool
-are_function_notes_within n =
-    nat_le (length n.requirements) 32 && nat_le (length n.guarantees) 32
-    && nat_le (length n.reads) 32 && nat_le (length n.writes) 32 && nat_le (length n.adds) 32
+are_function_notes_within n = nat_le (length n.requirements) 32 && nat_le (length n.guarantees) 32 &&
+    nat_le (length n.reads) 32 && nat_le (length n.writes) 32 && nat_le (length n.adds) 32
 
 abbrev pub are_block_notes_within : BlockNotes → Bool
 are_block_notes_within n = nat_le (length n.keeps) 32 && nat_le (length n.pending) 32 && nat_le (length n.foot) 32

@@ -53,15 +53,8 @@ no_block_notes line = record {
 }
 
 abbrev pub new_block : ℕ → List ℕ → Block
-new_block line label = record {
-  line = line;
-  label = label;
-  notes = no_block_notes line;
-  phis = [];
-  steps = [];
-  ending =
-      None;
-}
+new_block line label =
+    record { line = line; label = label; notes = no_block_notes line; phis = []; steps = []; ending = None }
 
 abbrev pub with_global : Module → Global → Module
 with_global m g = record m { globals = m.globals ++ g ∷ [] }

@@ -9,10 +9,8 @@ use Rattle.linear.specs.Forms.{Combination, coefficient_of, IsRising, AreSmall}
 
 -- a register times a number
 abbrev pub term_form : RegisterId → ℤ → Combination
-term_form register coefficient = record {
-  terms = record { register = register; coefficient = coefficient } ∷ [];
-  constant = pos 0;
-}
+term_form register coefficient =
+    record { terms = record { register = register; coefficient = coefficient } ∷ []; constant = pos 0 }
 
 -- each coefficient and the constant are within the bounds of a form
 pub record IsBounded (f : Combination) : Type 0 where
@@ -43,23 +41,14 @@ is_bounded z = nat_lt (unsigned_abs z) 16777216
 
 -- the term of a register at its place, in front of the terms of greater registers
 abbrev pub placed_at : List Term → ℕ → RegisterId → ℤ → Option ℤ → Option (List Term)
-placed_at ts place register amount None =
-    if is_bounded (pos 0 +ℤ amount) then Some (insert ts place (record {
-      register = register;
-      coefficient =
-          pos 0 +ℤ amount;
-    })) else None
-placed_at ts place register amount (Some c) =
-    if is_bounded (c +ℤ amount) then Some (slice_set ts place (record {
-      register = register;
-      coefficient =
-          c +ℤ amount;
-    })) else None
+placed_at ts place register amount None = if is_bounded (pos 0 +ℤ amount) then Some (insert ts place
+    (record { register = register; coefficient = pos 0 +ℤ amount })) else None
+placed_at ts place register amount (Some c) = if is_bounded (c +ℤ amount) then Some (slice_set ts place
+    (record { register = register; coefficient = c +ℤ amount })) else None
 
 -- the terms with a register times a number, unless its coefficient would pass the bounds
 unfoldable pub placed : List Term → RegisterId → ℤ → Option (List Term)
-placed ts register amount =
-    placed_at ts (prefix_len (is_below register.0) ts) register amount
+placed ts register amount = placed_at ts (prefix_len (is_below register.0) ts) register amount
     (coefficient_at ts (prefix_len (is_below register.0) ts) register.0)
 
 abbrev pub with_terms : ℤ → Option (List Term) → Option Combination
@@ -72,6 +61,5 @@ with_term f register amount = with_terms f.constant (placed f.terms register amo
 
 -- a form with a number, unless its constant would pass the bounds
 abbrev pub with_constant : Combination → ℤ → Option Combination
-with_constant f amount =
-    if nat_lt (unsigned_abs (amount +ℤ f.constant)) 1267650600228229401496703205376
-    then Some (record { terms = f.terms; constant = amount +ℤ f.constant }) else None
+with_constant f amount = if nat_lt (unsigned_abs (amount +ℤ f.constant))
+    1267650600228229401496703205376 then Some (record { terms = f.terms; constant = amount +ℤ f.constant }) else None

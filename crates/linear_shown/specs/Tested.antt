@@ -17,9 +17,8 @@ abbrev pub agree_along : List Term → Combination → ℕ → Combination → �
 agree_along terms e a f b g = list_all (λ t. agrees e a f b g t.register.0) terms
 
 abbrev pub is_sum : Combination → Combination → Combination → ℕ → ℕ → Bool
-is_sum e f g a b =
-    (agree_along e.terms e a f b g && (agree_along f.terms e a f b g && agree_along g.terms e a f b g))
-    && int_le ((pos a *ℤ f.constant) +ℤ (pos b *ℤ g.constant)) e.constant
+is_sum e f g a b = (agree_along e.terms e a f b g && (agree_along f.terms e a f b g &&
+    agree_along g.terms e a f b g)) && int_le ((pos a *ℤ f.constant) +ℤ (pos b *ℤ g.constant)) e.constant
 
 -- 1, and the sizes of the coefficients
 abbrev pub factors_of : Combination → List ℕ

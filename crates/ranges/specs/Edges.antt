@@ -81,9 +81,8 @@ edge_to to way sums = record { to = to; way = way; sums = sums }
 -- the edges of a terminator in its order, each with what its being taken makes known; a reattach has none
 abbrev pub edges_out : List Step → Terminator → List EdgeSums
 edges_out steps (terminator.Jump target) = edge_to target Branch [] ∷ []
-edges_out steps (terminator.Branch condition when_true when_false) =
-    edge_to when_true Branch (branch_sums (compared condition steps) true) ∷
-    (edge_to when_false Branch (branch_sums (compared condition steps) false) ∷ [])
+edges_out steps (terminator.Branch condition when_true when_false) = edge_to when_true Branch (branch_sums
+    (compared condition steps) true) ∷ (edge_to when_false Branch (branch_sums (compared condition steps) false) ∷ [])
 edges_out steps (terminator.Switch width value default cases) = edge_to default Branch [] ∷
     map (λ c. edge_to c.target Branch (case_sums value c.number)) cases
 edges_out steps (terminator.Detach region body continuation) = edge_to body Detached [] ∷

@@ -50,15 +50,13 @@ ending_shows (Some ending) = ending.shows
 
 -- at the step of this number of a block of this number
 abbrev pub facts_at_step : List Function → Function → ℕ → Block → ℕ → List Fact
-facts_at_step functions function b block i =
-    with_shows (facts_before functions (start_facts function b block) block.steps i)
-    (step_shows (slice_get block.steps i))
+facts_at_step functions function b block i = with_shows (facts_before functions (start_facts function b block)
+    block.steps i) (step_shows (slice_get block.steps i))
 
 -- at the terminator
 abbrev pub facts_at_end : List Function → Function → ℕ → Block → List Fact
-facts_at_end functions function b block =
-    with_shows (facts_before functions (start_facts function b block) block.steps (length block.steps))
-    (ending_shows block.ending)
+facts_at_end functions function b block = with_shows (facts_before functions (start_facts function b block) block.steps
+    (length block.steps)) (ending_shows block.ending)
 
 -- the facts of each edge at the end of a block, in the order of its terminator
 abbrev pub edges_known : List Function → Function → ℕ → Block → Option Ending → List EdgeFacts
@@ -88,8 +86,7 @@ pub record IsBlockTable (functions : List Function) (function : Function) (b : �
 pub record IsFunctionTable (functions : List Function) (function : Function) (table : FunctionFacts) : Type 0 where
   pub blocks : length table.blocks ≡ length function.blocks
   pub each : (b : ℕ) (block : Block) (facts : BlockFacts) → slice_get function.blocks b ≡ Some block →
-      slice_get table.blocks b ≡ Some facts
-      → IsBlockTable functions function b block facts
+      slice_get table.blocks b ≡ Some facts → IsBlockTable functions function b block facts
 
 -- the facts of a program's places and edges
 pub record AreFacts (program : Program) (facts : Facts) : Type 0 where

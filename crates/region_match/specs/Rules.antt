@@ -47,15 +47,12 @@ IsStarted bodies blocks region detaches = (b : ℕ) × (block : Block) × (slice
 
 -- 301: a reattach in no task, or within another region than its detach's
 abbrev pub IsStray : List Block → List BlockEdges → ℕ → RegisterId → Type 0
-IsStray bodies blocks b region =
-    HasTask blocks b []
-    ⊎ ((detach : ℕ) × (outer : List ℕ) × HasTask blocks b (detach ∷ outer)
-    × ((continuation : BlockId) → IsDetach (ending_at bodies detach) region continuation → ⊥))
+IsStray bodies blocks b region = HasTask blocks b [] ⊎ ((detach : ℕ) × (outer : List ℕ) × HasTask blocks b
+    (detach ∷ outer) × ((continuation : BlockId) → IsDetach (ending_at bodies detach) region continuation → ⊥))
 
 -- 302: a reattach to another continuation than its detach's
 abbrev pub IsElsewhere : List Block → List BlockEdges → ℕ → BlockId → Type 0
-IsElsewhere bodies blocks b continuation =
-    (detach : ℕ) × (outer : List ℕ) × HasTask blocks b (detach ∷ outer) ×
+IsElsewhere bodies blocks b continuation = (detach : ℕ) × (outer : List ℕ) × HasTask blocks b (detach ∷ outer) ×
     ((region : RegisterId) → IsDetach (ending_at bodies detach) region continuation → ⊥)
 
 -- 303: the task of a use did not start the region
@@ -115,10 +112,9 @@ pub record IsOpen (bodies : List Block) (blocks : List BlockEdges) (detach to : 
   pub unsynced : IsUnsynced bodies region legs
 
 abbrev pub IsOpenEnd : List Block → List BlockEdges → Broken → Type 0
-IsOpenEnd bodies blocks broken =
-    (to : ℕ) × (block : Block) × (ending : Ending) × (slice_get bodies to ≡ Some block) × (block.ending ≡ Some ending)
-    × (is_leave ending.terminator ≡ true) × (broken.number ≡ 304) × (broken.line ≡ ending.line)
-    × (detach : ℕ) × IsOpen bodies blocks detach to
+IsOpenEnd bodies blocks broken = (to : ℕ) × (block : Block) × (ending : Ending) × (slice_get bodies to ≡ Some block) ×
+    (block.ending ≡ Some ending) × (is_leave ending.terminator ≡ true) × (broken.number ≡ 304) ×
+    (broken.line ≡ ending.line) × (detach : ℕ) × IsOpen bodies blocks detach to
 
 -- an edge leads to the block this way
 abbrev pub IsEntered : List BlockEdges → ℕ → Way → Type 0
@@ -126,15 +122,12 @@ IsEntered blocks b way = (a : ℕ) × Any (λ e. (e.to.0 ≡ b) × (e.way ≡ wa
 
 -- 307, at an instruction: a region starts in an entry block or a detached block
 abbrev pub IsStartBroken : List BlockEdges → ℕ → List Step → Broken → Type 0
-IsStartBroken blocks b steps broken =
-    (b ≢ 0) × (IsEntered blocks b Detached → ⊥)
-    × Any (λ step. (broken.number ≡ 307) × (broken.line ≡ step.line) × (region : RegisterId) ×
-    (step.instruction ≡ StartRegion region)) steps
+IsStartBroken blocks b steps broken = (b ≢ 0) × (IsEntered blocks b Detached → ⊥) × Any (λ step. (broken.number ≡ 307) ×
+    (broken.line ≡ step.line) × (region : RegisterId) × (step.instruction ≡ StartRegion region)) steps
 
 -- 307, at a phi: detached and continuation blocks have none
 abbrev pub IsPhiBroken : List BlockEdges → ℕ → List Phi → Broken → Type 0
-IsPhiBroken blocks b phis broken =
-    (IsEntered blocks b Detached ⊎ IsEntered blocks b Continued) ×
+IsPhiBroken blocks b phis broken = (IsEntered blocks b Detached ⊎ IsEntered blocks b Continued) ×
     Any (λ phi. (broken.number ≡ 307) × (broken.line ≡ phi.line)) phis
 
 -- 307, at a `foot` line: it stands on detached blocks
@@ -152,6 +145,5 @@ IsLabelBroken blocks b block broken = (broken.number ≡ 307) × (broken.line �
 
 -- 307, in all its forms
 abbrev pub IsPlaceBroken : List BlockEdges → ℕ → Block → Broken → Type 0
-IsPlaceBroken blocks b block broken =
-    (IsStartBroken blocks b block.steps broken ⊎ IsPhiBroken blocks b block.phis broken)
-    ⊎ (IsFootBroken blocks b block.foot broken ⊎ IsLabelBroken blocks b block broken)
+IsPlaceBroken blocks b block broken = (IsStartBroken blocks b block.steps broken ⊎ IsPhiBroken blocks b block.phis
+    broken) ⊎ (IsFootBroken blocks b block.foot broken ⊎ IsLabelBroken blocks b block broken)

@@ -37,8 +37,7 @@ given globals x = given_in globals x.object x.index
 
 -- each declared cell of a global holds a number
 abbrev pub AreFull : Program → Memory → Type 0
-AreFull prog memory =
-    (g i : ℕ) (global : Global) → slice_get prog.globals g ≡ Some global → i < global.cells →
+AreFull prog memory = (g i : ℕ) (global : Global) → slice_get prog.globals g ≡ Some global → i < global.cells →
     IsSome (memory (record { object = Shared g; index = i }))
 
 -- what the machine's memory holds of a global, by its name

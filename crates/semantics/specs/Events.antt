@@ -165,9 +165,5 @@ event prog workers e m = unless_trapped m.trapped (sound_event prog workers e m)
 
 -- worker 0 runs the root, the others are idle
 abbrev pub start : Program → List ℤ → Memory → Machine
-start prog arguments memory = record {
-  core = start_state prog arguments memory;
-  hands =
-      λ w. cond (eqb 0 w) (Some []) None;
-  trapped = None;
-}
+start prog arguments memory =
+    record { core = start_state prog arguments memory; hands = λ w. cond (eqb 0 w) (Some []) None; trapped = None }

@@ -38,13 +38,8 @@ one_more o = record o { count = suc o.count }
 
 -- a child or callee and then the rest
 abbrev pub both_outcomes : Outcome → Outcome → Outcome
-both_outcomes o u = record {
-  ending = u.ending;
-  memory = u.memory;
-  count = suc (o.count + u.count);
-  depth =
-      max (suc o.depth) u.depth;
-}
+both_outcomes o u =
+    record { ending = u.ending; memory = u.memory; count = suc (o.count + u.count); depth = max (suc o.depth) u.depth }
 
 abbrev pub at_last : Ending → Memory → Outcome
 at_last ending m = record { ending = ending; memory = m; count = 1; depth = 1 }

@@ -82,8 +82,7 @@ detached f region body continuation =
       registers = f.registers;
       made = 0;
       waits = Free;
-      role =
-          Child region continuation;
+      role = Child region continuation;
       home = f.home;
     }
 
@@ -129,16 +128,8 @@ abbrev pub both : Path → Option Frame → Path → Option Frame → Path → O
 both p f q g x = cond (same_path p x) (Some f) (cond (same_path q x) (Some g) None)
 
 abbrev pub frame_change : (Path → Option (Option Frame)) → ℕ → Change
-frame_change frames depth = record {
-  frames = frames;
-  reads = no_cells;
-  writes = no_writes;
-  adds = no_adds;
-  depth =
-      depth;
-  result = None;
-  trap = None;
-}
+frame_change frames depth = record
+    { frames = frames; reads = no_cells; writes = no_writes; adds = no_adds; depth = depth; result = None; trap = None }
 
 abbrev pub plain_change : Path → Frame → Effect → Change
 plain_change p f e =
@@ -153,9 +144,8 @@ plain_change p f e =
     }
 
 abbrev pub detach_change : Path → Frame → ℕ → ℕ → ℕ → Change
-detach_change p f region body continuation =
-    frame_change (both p (Some (continued f continuation)) (f.made ∷ p) (Some (detached f region body continuation)))
-    (length p + 2)
+detach_change p f region body continuation = frame_change (both p (Some (continued f continuation))
+    (f.made ∷ p) (Some (detached f region body continuation))) (length p + 2)
 
 abbrev pub reattach_change : Path → Change
 reattach_change p = frame_change (only p None) 0
@@ -172,10 +162,8 @@ abbrev pub clears : Path → Cell → Option (Option ℤ)
 clears p x = cond (owns p x.object) (Some None) None
 
 abbrev pub return_change : Path → Path → Frame → Option RegisterId → Option ℤ → Change
-return_change p above g d result = record (frame_change (both p None above (Some (resumed g d result))) 0) {
-  writes =
-      clears p;
-}
+return_change p above g d result =
+    record (frame_change (both p None above (Some (resumed g d result))) 0) { writes = clears p }
 
 abbrev pub end_change : Path → Option ℤ → Change
 end_change p result = record (frame_change (only p None) 0) { writes = clears p; result = result }

@@ -39,8 +39,7 @@ is_met arguments r = at_most (value_at arguments r.low) (value_at arguments r.hi
 
 abbrev pub unmet_of : List ℤ → Option Function → Option ℕ
 unmet_of arguments None = Some 0
-unmet_of arguments (Some main) =
-    cond (eqb (length main.parameters) (length arguments))
+unmet_of arguments (Some main) = cond (eqb (length main.parameters) (length arguments))
     (option_map (λ k. suc k) (position (λ r. not (is_met arguments r)) main.requirements)) (Some 0)
 
 -- 0 for a wrong number of arguments of main, else its first requirement that they do not meet, counted from 1

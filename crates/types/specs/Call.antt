@@ -66,8 +66,7 @@ fits_extent cells other = true
 
 -- an argument for a parameter: 202 where they differ, 204 where the object is too short
 abbrev pub argument_of : Items → Scope → ℕ → Option Parameter → ArgumentText → Result Argument TypeFault
-argument_of items scope line parameter (text.Number value) =
-    and_then (operand_of scope line Bits64 value)
+argument_of items scope line parameter (text.Number value) = and_then (operand_of scope line Bits64 value)
     (λ v. made_of (λ _. argument.Number v) (unless_of (takes_number parameter) (breaks 202 line)))
 argument_of items scope line parameter (text.Pointer address) =
     and_then (both_of (object_of items scope line address) (unless_of (takes_object parameter) (breaks 202 line))) (λ p.
@@ -114,18 +113,15 @@ is_any_named (Some named) arguments = list_any (is_named_below named) arguments
 -- the arguments of a call of a known function: 202 where the results differ, 203 where the counts do
 abbrev pub fitting_arguments : Items → Scope → ℕ → Bool → FunctionText → List ArgumentText →
     Result (List Argument) TypeFault
-fitting_arguments items scope line has_result callee arguments =
-    made_of (λ p. p.0)
-    (both_of (arguments_of items scope line callee.parameters arguments)
-    (both_of (unless_of (fits_result has_result callee.result_type) (breaks 202 line))
+fitting_arguments items scope line has_result callee arguments = made_of (λ p. p.0) (both_of (arguments_of items scope
+    line callee.parameters arguments) (both_of (unless_of (fits_result has_result callee.result_type) (breaks 202 line))
     (unless_of (nat_eq (length arguments) (length callee.parameters)) (breaks 203 line))))
 
 -- which pointers may be passed: 204 where two are one object or a global is named below; 205 where the callee stands
 -- below
 abbrev pub passed_call : Named → ℕ → ℕ → FunctionId → List Argument → Result ResolvedCall TypeFault
-passed_call named caller line id arguments =
-    and_then (unless_of (are_distinct arguments) (breaks 204 line)) (λ _.
-    and_then (unless_of (not (is_any_named (slice_get named id.0) arguments)) (breaks 204 line)) (λ _.
+passed_call named caller line id arguments = and_then (unless_of (are_distinct arguments) (breaks 204 line))
+    (λ _. and_then (unless_of (not (is_any_named (slice_get named id.0) arguments)) (breaks 204 line)) (λ _.
     made_of (λ _. record { callee = id; arguments = arguments }) (unless_of (nat_le id.0 caller) (breaks 205 line))))
 
 -- a call of a known function
@@ -136,8 +132,7 @@ known_call items named scope caller line has_result id callee arguments =
 
 -- a call whose callee is none: its arguments are judged all the same
 abbrev pub refused_call : Items → Scope → ℕ → List ArgumentText → TypeFault → Result ResolvedCall TypeFault
-refused_call items scope line arguments fault =
-    let refused : Result (Unit {0}) TypeFault = Err fault in
+refused_call items scope line arguments fault = let refused : Result (Unit {0}) TypeFault = Err fault in
     and_then (both_of (arguments_of items scope line [] arguments) refused) (λ _. Err fault)
 
 abbrev pub found_call : Items → Named → Scope → ℕ → ℕ → Bool → FunctionId → Option FunctionText → List ArgumentText →

@@ -54,8 +54,7 @@ program_with whole main functions = record { globals = map global_of whole.globa
 
 -- the program that a module means by these tables of names, else its earliest fault
 abbrev pub program_from : Items → Named → Module → Result Program TypeFault
-program_from items named whole =
-    made_of (λ p. program_with whole p.0 p.1)
+program_from items named whole = made_of (λ p. program_with whole p.0 p.1)
     (both_of (main_of items whole.functions) (functions_of items whole.functions named))
 
 -- for each function of the module just the globals that it names, itself or by those that it calls

@@ -29,9 +29,8 @@ as_item (Err fault) = Err fault
 
 -- behind '%d =' and a word
 abbrev pub worded_definition : ℕ → List ℕ → List ℕ → List Symbol → Option Item
-worded_definition at d text rest =
-    if bytes_eq text (codes "phi") then option_map (λ g. item.Phi (phi_from at d g)) (gaps_of phi_shape rest)
-    else if bytes_eq text (codes "call") then option_map item.Instruction (call d rest)
+worded_definition at d text rest = if bytes_eq text (codes "phi") then option_map (λ g. item.Phi (phi_from at d g))
+    (gaps_of phi_shape rest) else if bytes_eq text (codes "call") then option_map item.Instruction (call d rest)
     else option_map item.Instruction (fixed d text rest)
 
 -- behind '%d ='
@@ -41,14 +40,11 @@ definition at d _ = None
 
 -- behind a first word that is no label
 unfoldable pub worded : List ℕ → List Symbol → Option Item
-worded text rest =
-    if bytes_eq text (codes "define") then option_map define_from (gaps_of define_shape rest)
-    else if bytes_eq text (codes "store") then option_map item.Instruction (store rest)
-    else if bytes_eq text (codes "atomicrmw") then option_map (λ g. item.Instruction (atomic_from g))
-    (gaps_of atomic_shape rest)
+worded text rest = if bytes_eq text (codes "define") then option_map define_from (gaps_of define_shape rest)
+    else if bytes_eq text (codes "store") then option_map item.Instruction (store rest) else if bytes_eq text
+    (codes "atomicrmw") then option_map (λ g. item.Instruction (atomic_from g)) (gaps_of atomic_shape rest)
     else if bytes_eq text (codes "call") then option_map (λ g. item.Instruction (call_void_from g))
-    (gaps_of call_void_shape rest)
-    else option_map item.Terminator (terminator_in text rest)
+    (gaps_of call_void_shape rest) else option_map item.Terminator (terminator_in text rest)
 
 -- The item of a line that has tokens and is no annotation; at is the line's number. A word before a colon is a label,
 -- however it is spelled.

@@ -51,8 +51,7 @@ guarantee_term_of scope line outcome name =
 
 -- a register that holds a number of either width, else 202
 abbrev pub number_of : Scope → ℕ → List ℕ → Result Register TypeFault
-number_of scope line name =
-    and_then (register_of scope line name)
+number_of scope line name = and_then (register_of scope line name)
     (λ register. made_of (λ _. register) (unless_of (is_number register.holding) (breaks 202 line)))
 
 -- 206: an instruction of the block itself defines the register
@@ -72,10 +71,9 @@ is_small_coefficient coefficient = int_le (negsuc 999999) coefficient && int_le 
 
 -- a term: 206 beside the faults of its register
 abbrev pub term_of : Scope → AnnotationPlace → ℕ → TermText → Result Term TypeFault
-term_of scope place line term =
-    made_of (λ p. record { register = p.0; coefficient = term.coefficient })
-    (both_of (term_register_of scope place line term.register) (unless_of (is_small_coefficient term.coefficient)
-    (breaks 206 line)))
+term_of scope place line term = made_of (λ p. record { register = p.0; coefficient = term.coefficient })
+    (both_of (term_register_of scope place line term.register)
+    (unless_of (is_small_coefficient term.coefficient) (breaks 206 line)))
 
 -- the number of registers and the constant of a form keep their limits
 abbrev pub keeps_limits : FormText → Bool
@@ -101,10 +99,8 @@ ordered_form line terms constant = with_all line (constant_form constant) terms
 
 -- `F`
 abbrev pub form_in_scope : Scope → AnnotationPlace → ℕ → FormText → Result Form TypeFault
-form_in_scope scope place line form =
-    and_then (both_of (all_of (λ _. term_of scope place line) form.terms)
-    (unless_of (keeps_limits form) (breaks 206 line)))
-    (λ p. ordered_form line p.0 form.constant)
+form_in_scope scope place line form = and_then (both_of (all_of (λ _. term_of scope place line) form.terms)
+    (unless_of (keeps_limits form) (breaks 206 line))) (λ p. ordered_form line p.0 form.constant)
 
 -- what a register is multiplied by
 abbrev pub coefficient_in : List Term → RegisterId → ℤ
@@ -126,9 +122,8 @@ is_close a b = int_le (negsuc 999999) (a -ℤ b) && int_le (a -ℤ b) (pos 10000
 
 -- the terms of the difference of two forms keep their limits
 abbrev pub are_terms_within : List Term → List Term → Bool
-are_terms_within left right =
-    nat_le (count_by (is_changed right) left + count_by (is_new left) right) 4
-    && list_all (λ term. is_close term.coefficient (coefficient_in right term.register)) left
+are_terms_within left right = nat_le (count_by (is_changed right) left + count_by (is_new left) right) 4 &&
+    list_all (λ term. is_close term.coefficient (coefficient_in right term.register)) left
 
 -- so does its constant
 abbrev pub is_within_numbers : ℤ → ℤ → Bool
@@ -145,16 +140,13 @@ inequality_between line AtLeast left right = record { line = line; low = right; 
 
 -- 206 where the difference of both sides passes a limit
 abbrev pub limited_inequality : InequalityText → Form → Form → Result Inequality TypeFault
-limited_inequality text left right =
-    made_of (λ _. inequality_between text.line text.relation left right)
-    (unless_of (is_difference_within left.terms text.left.constant right.terms text.right.constant)
-    (breaks 206 text.line))
+limited_inequality text left right = made_of (λ _. inequality_between text.line text.relation left right) (unless_of
+    (is_difference_within left.terms text.left.constant right.terms text.right.constant) (breaks 206 text.line))
 
 -- `F R F`
 abbrev pub inequality_of : Scope → AnnotationPlace → InequalityText → Result Inequality TypeFault
-inequality_of scope place text =
-    and_then (both_of (form_in_scope scope place text.line text.left) (form_in_scope scope place text.line text.right))
-    (λ p. limited_inequality text p.0 p.1)
+inequality_of scope place text = and_then (both_of (form_in_scope scope place text.line text.left)
+    (form_in_scope scope place text.line text.right)) (λ p. limited_inequality text p.0 p.1)
 
 abbrev pub inequalities_of : Scope → AnnotationPlace → List InequalityText → Result (List Inequality) TypeFault
 inequalities_of scope place texts = all_of (λ _. inequality_of scope place) texts

@@ -41,8 +41,7 @@ abbrev pub with_register : Layout → List ℕ → Holding → Origin → Layout
 with_register layout name held from = record {
   scope = with_name layout.scope name (named.Register (record {
     id = record { 0 = length layout.registers };
-    holding =
-        held;
+    holding = held;
     origin = from;
   }));
   registers = layout.registers ++ kind_of held ∷ [];
@@ -51,9 +50,8 @@ with_register layout name held from = record {
 
 abbrev pub with_parameter : Layout → ParameterText → Layout
 with_parameter layout (parameter.Number name) = with_register layout name (holding.Number Bits64) origin.Parameter
-with_parameter layout (parameter.Pointer name cells) =
-    with_register layout name (holding.Object (object.Parameter (record { 0 = length layout.registers })) cells)
-    origin.Parameter
+with_parameter layout (parameter.Pointer name cells) = with_register layout name
+    (holding.Object (object.Parameter (record { 0 = length layout.registers })) cells) origin.Parameter
 
 abbrev pub with_phi : Layout → PhiText → Layout
 with_phi layout phi = with_register layout phi.register (holding.Number phi.width) origin.Phi

@@ -43,8 +43,7 @@ noted_register scope line name = and_then (register_of scope line name) (noted_h
 
 -- 206 too where an instruction of the block itself makes the object
 abbrev pub noted_before : Scope → ℕ → ℕ → List ℕ → Result ObjectName TypeFault
-noted_before scope block line name =
-    and_then (register_of scope line name) (λ register.
+noted_before scope block line name = and_then (register_of scope line name) (λ register.
     and_then (noted_holding line register) (λ found. made_of (λ _. found) (made_before line block register)))
 
 -- `O` of an annotation
@@ -72,29 +71,24 @@ zones_of items scope place zones = more_zones items scope place (Ok []) zones
 
 -- the region of a `pending` line: 206 where an instruction of the block itself starts it
 abbrev pub pending_region_of : Scope → ℕ → ℕ → List ℕ → Result RegisterId TypeFault
-pending_region_of scope block line name =
-    and_then (region_of scope line name) (λ region.
+pending_region_of scope block line name = and_then (region_of scope line name) (λ region.
     and_then (register_of scope line name) (λ register. made_of (λ _. region) (made_before line block register)))
 
 -- `pending %s MODE O F F`
 abbrev pub pending_of : Items → Scope → ℕ → PendingText → Result Pending TypeFault
-pending_of items scope block pending =
-    made_of (λ p. record { region = p.0; zone = p.1 })
-    (both_of (pending_region_of scope block pending.zone.line pending.region)
-    (zone_of items scope (place.Start block) pending.zone))
+pending_of items scope block pending = made_of (λ p. record { region = p.0; zone = p.1 }) (both_of (pending_region_of
+    scope block pending.zone.line pending.region) (zone_of items scope (place.Start block) pending.zone))
 
 abbrev pub all_pending_of : Items → Scope → ℕ → List PendingText → Result (List Pending) TypeFault
 all_pending_of items scope block lines = all_of (λ _. pending_of items scope block) lines
 
 -- `left F F`
 abbrev pub left_of : Scope → ℕ → LeftText → Result Left TypeFault
-left_of scope block left =
-    made_of (λ p. record { line = left.line; self_calls = p.0; instructions = p.1 })
+left_of scope block left = made_of (λ p. record { line = left.line; self_calls = p.0; instructions = p.1 })
     (both_of (form_in_scope scope (place.Start block) left.line left.self_calls)
     (form_in_scope scope (place.Start block) left.line left.instructions))
 
 -- `measure F max N`
 abbrev pub measure_of : Scope → MeasureText → Result Measure TypeFault
-measure_of scope measure =
-    made_of (λ form. record { line = measure.line; form = form; bound = measure.bound })
+measure_of scope measure = made_of (λ form. record { line = measure.line; form = form; bound = measure.bound })
     (form_in_scope scope place.Head measure.line measure.form)
