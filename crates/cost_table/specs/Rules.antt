@@ -2,9 +2,9 @@
 -- do from the block's start on.
 use Rattle.std.specs.Prelude.{◌≡◌, ◌⊎◌, ℕ, pos, negsuc, ◌-ℤ◌, Bool, false, ◌<◌, ◌≤◌, List, [], ◌++◌, Option, Some, None}
 use Rattle.std.specs.Prelude.{Any, slice_get}
-use Rattle.linear.specs.Forms.{Combination}
+use Rattle.linear.specs.Terms.{Combination}
 use Rattle.linear.specs.declared.form.Fact.{Fact}
-use Rattle.program.specs.Blocks.{left_calls, left_instructions}
+use Rattle.program.specs.Left.{left_calls, left_instructions}
 use Rattle.program.specs.declared.function.Block.{Block}
 use Rattle.program.specs.declared.function.Function.{Function}
 use Rattle.program.specs.declared.function.Program.{Program}

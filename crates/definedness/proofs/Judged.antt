@@ -13,7 +13,8 @@ use Rattle.definedness.specs.declared.act.Act.TheVariants.{Needs, Gives}
 use Rattle.definedness.specs.declared.table.Row.{Row}
 use Rattle.definedness.specs.Acts.{given}
 use Rattle.definedness.specs.Judging.{IsNeedBrokenBy, IsGivenBy, MarksGiven}
-use Rattle.definedness.specs.Needs.{gives, mark_at, IsNeedBroken}
+use Rattle.definedness.specs.Needs.{gives, IsNeedBroken}
+use Rattle.definedness.specs.Marks.{mark_at}
 use Rattle.refusal.proofs.Places.{Below, below_nothing, below_next}
 
 abbrev pub BrokenAt : List Row → ℕ → ℕ → List Act → ℕ → Act → Broken → Type 0

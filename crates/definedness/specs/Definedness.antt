@@ -1,15 +1,13 @@
 -- The rules on definedness: what is broken in a module.
-use Rattle.std.specs.Prelude.{◌≡◌, ◌⊎◌, ℕ, suc, List, [], ◌∷◌, ◌++◌, map, take, Some, Any, Contains, slice_get}
+use Rattle.std.specs.Prelude.{◌⊎◌, ℕ, suc, List, [], ◌∷◌, map, Any}
 use Rattle.program.specs.declared.function.Block.{Block}
 use Rattle.program.specs.declared.function.Function.{Function}
 use Rattle.program.specs.declared.function.Program.{Program}
 use Rattle.refusal.specs.declared.broken.Broken.{Broken}
 use Rattle.cfg.specs.Edges.{graph_of}
-use Rattle.cfg.specs.Paths.{Leg, IsPath}
-use Rattle.definedness.specs.declared.act.Act.TheVariants.{Needs}
 use Rattle.definedness.specs.declared.act.BlockActs.{BlockActs}
-use Rattle.definedness.specs.Missing.{defined_along, IsMissing}
-use Rattle.definedness.specs.Needs.{gives, given_of, IsTableBroken}
+use Rattle.definedness.specs.Missing.{IsMissing}
+use Rattle.definedness.specs.Needs.{given_of, IsTableBroken}
 use Rattle.definedness.specs.AllocaActs.{alloca_acts}
 use Rattle.definedness.specs.RegisterActs.{register_acts}
 use Rattle.definedness.specs.Sure.{IsNeverSure}
@@ -27,12 +25,6 @@ register_table function = registers_from function 0 function.blocks
 abbrev pub IsUndefined : Function → Broken → Type 0
 IsUndefined function broken = IsTableBroken (IsMissing (graph_of function).blocks
     (map given_of (register_table function))) 401 (register_table function) broken
-
--- on each path from the entry to a use of a register, a definition of it stands before the use
-abbrev pub AreRegistersDefined : Function → Type 0
-AreRegistersDefined function = (b : ℕ) (block : BlockActs) (k n line : ℕ) (legs : List Leg) → slice_get (register_table
-    function) b ≡ Some block → slice_get block.acts k ≡ Some (Needs n line) → IsPath (graph_of function).blocks 0 legs
-    b → Contains (defined_along (map given_of (register_table function)) legs ++ gives (take k block.acts)) n
 
 abbrev pub alloca_table : Function → List BlockActs
 alloca_table function = map (λ block. record { acts = alloca_acts function.allocas block }) function.blocks

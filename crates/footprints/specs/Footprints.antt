@@ -5,10 +5,9 @@ use Rattle.std.specs.List.{list_any, list_all}
 use Rattle.std.specs.Option.{option_map}
 use Rattle.syntax.specs.declared.operator.Mode.{Mode}
 use Rattle.syntax.specs.declared.operator.Mode.TheVariants.{Reads, Writes, Adds}
-use Rattle.linear.specs.declared.form.Fact.{Fact}
 use Rattle.linear.specs.declared.form.RegisterId.{RegisterId}
 use Rattle.linear.specs.declared.form.Term.{Term}
-use Rattle.linear.specs.Forms.{Combination}
+use Rattle.linear.specs.Terms.{Combination}
 use Rattle.program.specs.declared.annotation.Pending.{Pending}
 use Rattle.program.specs.declared.annotation.Zone.{Zone}
 use Rattle.program.specs.declared.identifier.ObjectName.{ObjectName}
@@ -109,10 +108,6 @@ abbrev pub is_put_clear : Place → Option Span → Bool
 is_put_clear p None = true
 is_put_clear p (Some y) = is_clear p y
 
--- 604: a callee's zone
-abbrev pub put_use : Place → Option Span → Use
-put_use p y = record { number = 604; covered = is_put_allowed p y; clear = is_put_clear p y }
-
 -- 604: a callee's zones
 abbrev pub callee_use : Place → Function → List Argument → Use
 callee_use p callee arguments = record {
@@ -155,10 +150,6 @@ abbrev pub hands_on : Way → RegisterId → Bool
 hands_on Detached region = false
 hands_on (Synced synced) region = not (synced.0 == region.0)
 hands_on other region = true
-
--- an edge where these facts are all that is known
-abbrev pub with_facts : List Fact → EdgeFacts → EdgeFacts
-with_facts facts e = record { to = e.to; way = e.way; moves = e.moves; facts = facts }
 
 -- 603: what is pending of the region at the target, with what its phis take put in, covers it
 unfoldable pub is_passed : EdgeFacts → List Pending → RegisterId → Zone → Bool

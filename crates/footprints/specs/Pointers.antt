@@ -3,7 +3,6 @@ use Rattle.std.specs.Prelude.{◌==◌, if◌then◌else◌, List, [], ◌∷◌
 use Rattle.linear.specs.declared.form.RegisterId.{RegisterId}
 use Rattle.program.specs.declared.instruction.Instruction.{Instruction}
 use Rattle.program.specs.declared.instruction.Instruction.TheVariants as instruction
-use Rattle.program.specs.declared.instruction.Step.{Step}
 use Rattle.footprints.specs.declared.access.Cell.{Cell}
 use Rattle.footprints.specs.declared.access.Pointer.{Pointer}
 
@@ -16,11 +15,6 @@ defined_pointer other = None
 abbrev pub with_pointer : Option Pointer → List Pointer → List Pointer
 with_pointer None pointers = pointers
 with_pointer (Some pointer) pointers = pointer ∷ pointers
-
--- the pointers that steps define, in their order
-abbrev pub pointers_of : List Step → List Pointer
-pointers_of [] = []
-pointers_of (step ∷ steps) = with_pointer (defined_pointer step.instruction) (pointers_of steps)
 
 -- what the first of the pointers with this register points to
 abbrev pub pointed_by : RegisterId → List Pointer → Option Cell

@@ -4,7 +4,7 @@ use Rattle.std.specs.List.{list_any}
 use Rattle.syntax.specs.declared.operator.Mode.{Mode}
 use Rattle.syntax.specs.declared.operator.Mode.TheVariants.{Reads, Writes, Adds}
 use Rattle.linear.specs.declared.form.Fact.{Fact}
-use Rattle.linear.specs.Forms.{Combination}
+use Rattle.linear.specs.Terms.{Combination}
 use Rattle.program.specs.declared.annotation.Zone.{Zone}
 use Rattle.program.specs.declared.identifier.ObjectName.{ObjectName}
 use Rattle.program.specs.declared.identifier.ObjectName.TheVariants.{Global, Alloca, Parameter}
@@ -79,12 +79,6 @@ is_apart facts z y = not (same_object z.object y.object) || (is_empty facts z ||
 -- they may have a cell in common, and the order of its uses may matter
 unfoldable pub conflict : List Fact → Span → Span → Bool
 conflict facts z y = not (modes_agree z.zone.mode y.zone.mode || is_apart facts z y)
-
--- they may, where the second has any cell, and the order of its uses may matter
-unfoldable pub meets : List Fact → Span → Span → Bool
-meets facts z y = not (modes_agree z.zone.mode y.zone.mode ||
-    (not (same_object z.object y.object) || (is_empty facts z || (shows_order facts z.moves z.zone.low y.moves
-    y.zone.high || shows_order facts y.moves y.zone.low z.moves z.zone.high))))
 
 -- one of the zones covers it, or it is empty
 unfoldable pub is_covered : List Fact → List Zone → Span → Bool

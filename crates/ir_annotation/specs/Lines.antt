@@ -93,13 +93,6 @@ pending_of line (region ∷ words) =
 abbrev pub as_line : {A : Type 0} → (A → Annotation) → Limited A → AnnotationLine
 as_line kind found = record { annotation = kind found.value; is_within_limits = found.is_within_limits }
 
--- what an inequality says behind these words, and behind shows
-abbrev pub compared : Keyword → Inequality → Annotation
-compared keyword.Requires = annotation.Requires
-compared keyword.Ensures = annotation.Ensures
-compared keyword.Keeps = annotation.Keeps
-compared _ = annotation.Shows
-
 -- behind the first word
 unfoldable pub annotation_behind : ℕ → Keyword → List (List ℕ) → Result AnnotationLine ℕ
 annotation_behind line keyword.Requires words = made (as_line annotation.Requires) (inequality_of line words)

@@ -6,7 +6,7 @@ use Rattle.std.specs.Str.Parse.{signed_digits_value}
 use Rattle.ir_lex.specs.declared.token.Kind.{Kind}
 use Rattle.ir_lex.specs.declared.token.Kind.TheVariants as kinds
 use Rattle.ir_lex.specs.declared.token.Token.{Token}
-use Rattle.ir_lex.specs.Lexemes.{text_at}
+use Rattle.ir_lex.specs.Texts.{text_at}
 use Rattle.ir_instruction.specs.declared.symbol.Numeral.{Numeral}
 use Rattle.ir_instruction.specs.declared.symbol.Numeral.TheVariants.{Small, Large}
 use Rattle.ir_instruction.specs.declared.symbol.Symbol.{Symbol}

@@ -1,5 +1,5 @@
 -- How tokens are spelled.
-use Rattle.std.specs.Prelude.{ℕ, Bool, false, ◌&&◌, ◌||◌, not, ◌==◌, nat_le, List, [], ◌∷◌, ◌++◌, codes, length, Option}
+use Rattle.std.specs.Prelude.{ℕ, Bool, false, ◌&&◌, ◌||◌, not, ◌==◌, nat_le, List, [], ◌∷◌, length, Option}
 use Rattle.std.specs.Prelude.{Some, None, if◌then◌else◌}
 use Rattle.std.specs.List.{list_all}
 use Rattle.std.specs.Char.{is_ascii_digit, is_ascii_alphabetic}
@@ -40,13 +40,6 @@ is_positive (b ∷ bs) = (nat_le 49 b && nat_le b 57) && list_all is_ascii_digit
 abbrev pub is_number : List ℕ → Bool
 is_number [] = false
 is_number (b ∷ bs) = (b == 48 && length bs == 0) || (b == 45 && is_positive bs) || is_positive (b ∷ bs)
-
--- a register, and a global or a function
-abbrev pub register_text : List ℕ → List ℕ
-register_text name = codes "%" ++ name
-
-abbrev pub global_text : List ℕ → List ℕ
-global_text name = codes "@" ++ name
 
 -- a name behind % or @
 abbrev pub is_marked_name : List ℕ → Bool

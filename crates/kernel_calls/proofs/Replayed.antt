@@ -10,7 +10,7 @@ use Rattle.semantics.specs.SerialMeaning.{Gave}
 use Rattle.schedule_core.specs.Admission.{IsNumberOfWorkers}
 use Rattle.store.specs.Requirements.{unmet_in}
 use Rattle.store.specs.Cells.{NamedCells}
-use Rattle.store.specs.Made.{HasGlobalCells}
+use Rattle.store.specs.Named.{HasGlobalCells}
 use Rattle.store.specs.verifier.Accepted.{IsAccepted}
 use Rattle.schedule_core.specs.Replaying.{KeepsItsSchedule, Replays, event_of, first_state, state_after}
 use Rattle.schedule_core.specs.Stages.{IsState, given}

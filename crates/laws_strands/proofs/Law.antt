@@ -3,7 +3,8 @@ use Rattle.std.proofs.Common.{◌≡◌, ℕ, suc, ◌+◌, max, [], ◌∷◌, 
 use Rattle.std.proofs.lemmas.List.Elements.{All-nil, All-pop, All-push}
 use Rattle.std.specs.Map.{lookup}
 use Rattle.semantics.specs.Paths.{Path, same_path}
-use Rattle.semantics.specs.Cells.{Cell, Memory, same_cell, or_zero}
+use Rattle.semantics.specs.Cells.{Cell, Memory, same_cell}
+use Rattle.semantics.specs.Written.{or_zero}
 use Rattle.semantics.specs.Arithmetic.{Trap, Unmatched, cell_sum}
 use Rattle.semantics.specs.Frames.{Frame, Item}
 use Rattle.semantics.specs.Effect.{Effect, Plain, action_of}

@@ -1,29 +1,13 @@
 -- How forms are made.
-use Rattle.std.specs.Prelude.{◌≡◌, ℕ, ◌<◌, ◌^◌, ℤ, pos, ◌+ℤ◌, ◌==◌, Bool, nat_lt, List, [], ◌∷◌, unsigned_abs, Option}
+use Rattle.std.specs.Prelude.{ℕ, ℤ, pos, ◌+ℤ◌, ◌==◌, Bool, nat_lt, List, unsigned_abs, Option}
 use Rattle.std.specs.Prelude.{Some, None, slice_get}
 use Rattle.std.specs.Prelude.{slice_set, insert, if◌then◌else◌}
 use Rattle.std.specs.List.{prefix_len}
 use Rattle.linear.specs.declared.form.RegisterId.{RegisterId}
 use Rattle.linear.specs.declared.form.Term.{Term}
-use Rattle.linear.specs.Forms.{Combination, coefficient_of, IsRising, AreSmall}
-
--- a register times a number
-abbrev pub term_form : RegisterId → ℤ → Combination
-term_form register coefficient =
-    record { terms = record { register = register; coefficient = coefficient } ∷ []; constant = pos 0 }
-
--- each coefficient and the constant are within the bounds of a form
-pub record IsBounded (f : Combination) : Type 0 where
-  pub terms : (r : ℕ) → unsigned_abs (coefficient_of f.terms r) < 2 ^ 24
-  pub constant : unsigned_abs f.constant < 2 ^ 100
+use Rattle.linear.specs.Terms.{Combination}
 
 -- ---- one more term among terms whose registers rise
-
--- the terms say the same as the old ones with the term before them
-pub record IsTermAdded (term : Term) (old new : List Term) : Type 0 where
-  pub same : (r : ℕ) → coefficient_of new r ≡ coefficient_of (term ∷ old) r
-  pub rising : IsRising new
-  pub small : AreSmall new
 
 abbrev pub is_below : ℕ → Term → Bool
 is_below r t = nat_lt t.register.0 r

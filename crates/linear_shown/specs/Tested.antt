@@ -4,8 +4,8 @@ use Rattle.std.specs.List.{list_any, list_all}
 use Rattle.std.specs.Ordering.{int_eq}
 use Rattle.linear.specs.declared.form.Term.{Term}
 use Rattle.linear.specs.declared.form.Fact.{Fact}
-use Rattle.linear.specs.Forms.{Combination, coefficient_of}
-use Rattle.linear_shown.specs.Shown.{sides}
+use Rattle.linear.specs.Terms.{Combination, coefficient_of}
+use Rattle.linear_shown.specs.Sides.{sides}
 
 -- e and a * f + b * g have one coefficient at the register
 abbrev pub agrees : Combination → ℕ → Combination → ℕ → Combination → ℕ → Bool

@@ -1,6 +1,5 @@
 -- What a call goes to, and how many parameters a function has.
-use Rattle.std.specs.Prelude.{ℕ, length, Option, Some, None}
-use Rattle.program.specs.declared.function.Function.{Function}
+use Rattle.std.specs.Prelude.{ℕ, Option, Some, None}
 use Rattle.program.specs.declared.instruction.Instruction.{Instruction}
 use Rattle.program.specs.declared.instruction.Instruction.TheVariants as instruction
 
@@ -8,8 +7,3 @@ use Rattle.program.specs.declared.instruction.Instruction.TheVariants as instruc
 abbrev pub callee_of : Instruction → Option ℕ
 callee_of (instruction.Call d callee arguments) = Some callee.0
 callee_of other = None
-
--- the number of parameters, which are the function's first registers
-abbrev pub parameters_in : Option Function → ℕ
-parameters_in None = 0
-parameters_in (Some function) = length function.parameters

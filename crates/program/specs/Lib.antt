@@ -3,6 +3,8 @@ pub mod Calls
 pub mod Cells
 pub mod Steps
 pub mod Widths
+pub mod Left
+pub mod Heads
 -- for the crates above
 pub use Rattle.syntax.specs as syntax
 pub use Rattle.linear.specs as linear

@@ -110,14 +110,6 @@ edge_facts blocks from known e =
 abbrev pub all_edge_facts : List Block → ℕ → List Fact → List EdgeSums → List EdgeFacts
 all_edge_facts blocks from known edges = map (edge_facts blocks from known) edges
 
--- an edge that has only what its being taken says, with all that is known on it, where this is known at the end of its
--- block
-abbrev pub with_known : List Fact → EdgeFacts → EdgeFacts
-with_known known e = record { to = e.to; way = e.way; moves = e.moves; facts = known ++ e.facts }
-
-abbrev pub all_with_known : List Fact → List EdgeFacts → List EdgeFacts
-all_with_known known edges = map (with_known known) edges
-
 -- 505: the `keeps` of the target, with what its phis take put in
 abbrev pub edge_owed : List Block → EdgeFacts → List Obligation
 edge_owed blocks e = inequalities_owed 505 e.moves (keeps_of (slice_get blocks e.to.0))

@@ -1,21 +1,16 @@
 -- What is known at each place: one fold over the steps of a block.
-use Rattle.std.specs.Prelude.{◌≡◌, ℕ, zero, suc, List, [], ◌∷◌, ◌++◌, length, take, Option, Some, None, slice_get}
-use Rattle.std.specs.Prelude.{slice_index_or}
+use Rattle.std.specs.Prelude.{ℕ, zero, suc, List, [], ◌∷◌, ◌++◌, length, Option, Some, None, slice_get}
 use Rattle.linear.specs.declared.form.Fact.{Fact}
 use Rattle.program.specs.declared.annotation.Inequality.{Inequality}
 use Rattle.program.specs.declared.instruction.Ending.{Ending}
 use Rattle.program.specs.declared.instruction.Step.{Step}
 use Rattle.program.specs.declared.function.Block.{Block}
 use Rattle.program.specs.declared.function.Function.{Function}
-use Rattle.program.specs.declared.function.Program.{Program}
-use Rattle.ranges.specs.declared.table.BlockFacts.{BlockFacts}
 use Rattle.ranges.specs.declared.table.EdgeFacts.{EdgeFacts}
-use Rattle.ranges.specs.declared.table.Facts.{Facts}
-use Rattle.ranges.specs.declared.table.FunctionFacts.{FunctionFacts}
 use Rattle.ranges.specs.Sums.{facts_of}
 use Rattle.ranges_owed.specs.Inequalities.{differences_of}
 use Rattle.ranges.specs.Learned.{learned}
-use Rattle.ranges.specs.Edges.{edges_out, all_edge_facts, all_with_known}
+use Rattle.ranges.specs.Edges.{edges_out, all_edge_facts}
 
 -- inequalities as facts
 abbrev pub stated : List Inequality → List Fact
@@ -63,33 +58,3 @@ abbrev pub edges_known : List Function → Function → ℕ → Block → Option
 edges_known functions function b block None = []
 edges_known functions function b block (Some ending) =
     all_edge_facts function.blocks b (facts_at_end functions function b block) (edges_out block.steps ending.terminator)
-
--- ---- the tables
-
--- what the table of a block says is known at its step of this number
-abbrev pub facts_in_table : BlockFacts → ℕ → List Fact
-facts_in_table table i = take (slice_index_or table.counts i 0) table.facts
-
--- and on its edges
-abbrev pub edges_in_table : BlockFacts → List EdgeFacts
-edges_in_table table = all_with_known table.facts table.edges
-
--- the facts of a block's places and edges
-pub record IsBlockTable (functions : List Function) (function : Function) (b : ℕ) (block : Block)
-    (table : BlockFacts) : Type 0 where
-  pub steps : length table.counts ≡ length block.steps
-  pub at_step : (i : ℕ) (step : Step) → slice_get block.steps i ≡ Some step →
-      facts_in_table table i ≡ facts_at_step functions function b block i
-  pub at_end : table.facts ≡ facts_at_end functions function b block
-  pub edges : edges_in_table table ≡ edges_known functions function b block block.ending
-
-pub record IsFunctionTable (functions : List Function) (function : Function) (table : FunctionFacts) : Type 0 where
-  pub blocks : length table.blocks ≡ length function.blocks
-  pub each : (b : ℕ) (block : Block) (facts : BlockFacts) → slice_get function.blocks b ≡ Some block →
-      slice_get table.blocks b ≡ Some facts → IsBlockTable functions function b block facts
-
--- the facts of a program's places and edges
-pub record AreFacts (program : Program) (facts : Facts) : Type 0 where
-  pub functions : length facts.functions ≡ length program.functions
-  pub each : (f : ℕ) (function : Function) (table : FunctionFacts) → slice_get program.functions f ≡ Some function
-      → slice_get facts.functions f ≡ Some table → IsFunctionTable program.functions function table

@@ -4,7 +4,7 @@ use Rattle.std.specs.Prelude.{if◌then◌else◌}
 use Rattle.std.specs.List.{flat_map, list_any}
 use Rattle.std.specs.Option.{option_map, option_to_list}
 use Rattle.linear.specs.declared.form.Fact.{Fact}
-use Rattle.linear.specs.Forms.{Combination, constant_form}
+use Rattle.linear.specs.Terms.{Combination, constant_form}
 use Rattle.linear.specs.Made.{is_bounded, with_term, with_constant}
 use Rattle.linear_shown.specs.Tested.{is_shown}
 use Rattle.program.specs.declared.instruction.Operand.{Operand}

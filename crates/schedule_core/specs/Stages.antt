@@ -6,7 +6,8 @@ use Rattle.semantics.specs.Events.{Machine, Event, start}
 use Rattle.semantics.specs.Replay.{replay}
 use Rattle.program.specs.declared.function.Global.{Global}
 use Rattle.program.specs.declared.function.Program.{Program}
-use Rattle.serial_machine.specs.store.Cells.{NamedCells, cell_at, number_of}
+use Rattle.serial_machine.specs.store.Cells.{NamedCells, cell_at}
+use Rattle.serial_machine.specs.store.Named.{number_of}
 use Rattle.serial_machine.specs.store.Rows.{sizes_of}
 use Rattle.schedule_core.specs.laws_workers.strands.StrandsPromise.{StaysSafeAsStrands}
 use Rattle.schedule_workers.specs.Going.{RunsSafely}

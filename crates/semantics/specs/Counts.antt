@@ -6,7 +6,8 @@ use Rattle.semantics.specs.Paths.{Path, same_path}
 use Rattle.semantics.specs.Cells.{Memory}
 use Rattle.semantics.specs.Frames.{Frame}
 use Rattle.semantics.specs.Effect.{Action, Plain, Detach, Reattach, Sync, Call, Return, action_of}
-use Rattle.semantics.specs.State.{State, Change, none_within, change_of, children_within}
+use Rattle.semantics.specs.State.{State, Change, none_within, change_of}
+use Rattle.semantics.specs.CoreSteps.{children_within}
 use Rattle.semantics.specs.Events.{Machine, Event, Step, Steal, event, start}
 use Rattle.semantics.specs.Replay.{or_unchanged, replay}
 use Rattle.program.specs.declared.function.Program.{Program}

@@ -225,13 +225,6 @@ change_of_frame prog s p (Some f) = cond (may_go s p f.made f.waits) (act s p f 
 abbrev pub change_of : Program → State → Path → Option Change
 change_of prog s p = change_of_frame prog s p (s.frames p)
 
-abbrev pub applied : State → Option Change → Option State
-applied s None = None
-applied s (Some c) = Some (apply c s)
-
-abbrev pub core_step : Program → Path → State → Option State
-core_step prog p s = applied s (change_of prog s p)
-
 -- ---- the start
 
 abbrev pub root_frame : Program → List ℤ → Frame
@@ -257,11 +250,3 @@ start_state prog arguments memory =
       peak = 1;
       result = None;
     }
-
--- ---- what is seen of it
-
--- living children that the frame at p detached within the region
-abbrev pub children_within : State → Path → ℕ → ℕ → ℕ
-children_within s p zero region = 0
-children_within s p (suc k) region = cond (outside region (s.frames (k ∷ p))) (children_within s p k region)
-    (suc (children_within s p k region))

@@ -4,7 +4,7 @@ use Rattle.std.specs.Prelude.{eqb, nat_lt, ℤ, pos, negsuc}
 use Rattle.std.specs.Prelude.{◌+ℤ◌, ◌*ℤ◌, int_le, slice_get}
 use Rattle.std.specs.Option.{option_map}
 use Rattle.semantics.specs.Frames.{and_then}
-use Rattle.linear.specs.Forms.{Combination}
+use Rattle.linear.specs.Terms.{Combination}
 use Rattle.linear.specs.declared.form.Term.{Term}
 use Rattle.program.specs.declared.annotation.Inequality.{Inequality}
 use Rattle.program.specs.declared.function.Function.{Function}

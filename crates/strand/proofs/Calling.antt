@@ -4,7 +4,8 @@ use Rattle.std.specs.Prelude.{IsSome, slice_get, sum}
 use Rattle.std.specs.Int.{w64, cast_signed}
 use Rattle.linear.specs.declared.form.RegisterId.{RegisterId}
 use Rattle.semantics.specs.Paths.{Path}
-use Rattle.semantics.specs.Cells.{Cell, or_zero, owns}
+use Rattle.semantics.specs.Cells.{Cell, owns}
+use Rattle.semantics.specs.Written.{or_zero}
 use Rattle.semantics.specs.Frames as frames
 use Rattle.semantics.specs.Frames.{Body, Does, OnCall, Value}
 use Rattle.semantics.specs.Effect.{argument_values}

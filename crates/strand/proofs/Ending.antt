@@ -2,7 +2,8 @@
 use Rattle.std.proofs.Common.{◌≡◌, ◌≢◌, ℕ, suc, ◌+◌, ◌<◌, ◌≤◌, pos, List, [], ◌∷◌, ◌++◌, length, reverse, refl, ap, sym, ◌∙◌, subst, arith, cond, ℤ, Bool, true, false, Option, Some, None, Vec, Global, Box}
 use Rattle.std.specs.Prelude.{slice_get}
 use Rattle.linear.specs.declared.form.RegisterId.{RegisterId}
-use Rattle.semantics.specs.Paths.{Path, Under, itself}
+use Rattle.semantics.specs.Paths.{Path}
+use Rattle.semantics.specs.Below.{Under, itself}
 use Rattle.semantics.specs.Cells.{Cell, Object, Shared, Local, owns}
 use Rattle.semantics.proofs.Actions.{return_is_body}
 use Rattle.semantics.proofs.Places.{same_path_is}

@@ -1,6 +1,7 @@
 -- A frame of the same path, role and count of children stands as well: cells of frames to come, and where its own begin.
 use Rattle.std.proofs.Common.{◌≡◌, ℕ, ◌≤◌, List, [], ◌∷◌, sym, ◌∙◌, subst, arith, ℤ, true}
-use Rattle.semantics.specs.Paths.{Path, Under}
+use Rattle.semantics.specs.Paths.{Path}
+use Rattle.semantics.specs.Below.{Under}
 use Rattle.semantics.specs.Cells.{Cell, owns}
 use Rattle.semantics.specs.Frames.{Role}
 use Rattle.program.specs.declared.function.Program.{Program}

@@ -1,8 +1,7 @@
 -- The kinds of items: which one a line is, and what it says.
-use Rattle.std.specs.Prelude.{ℕ, ◌==◌, List, [], ◌∷◌, codes, Option, None, Result, Ok, Err, if◌then◌else◌, option_map}
+use Rattle.std.specs.Prelude.{ℕ, ◌==◌, List, [], ◌∷◌, codes, Option, None, if◌then◌else◌, option_map}
 use Rattle.std.specs.Str.{bytes_eq}
 use Rattle.syntax.specs.declared.instruction.Instruction.{Instruction}
-use Rattle.ir_instruction.specs.declared.fault.LineFault.{LineFault}
 use Rattle.ir_instruction.specs.declared.symbol.Symbol.{Symbol}
 use Rattle.ir_instruction.specs.declared.symbol.Symbol.TheVariants.{Register, Global, Word, Mark}
 use Rattle.ir_instruction.specs.Outcome.{◌>>=◌}
@@ -19,11 +18,6 @@ global_from at name g = item.Global (record { line = at; name = name; cells = g.
 
 abbrev pub define_from : Gaps define_shape → Item
 define_from g = item.Define g.1.0 g.0 g.1.1.0
-
--- what was read of an instruction, as the item of its line
-abbrev pub as_item : Result Instruction LineFault → Result Item LineFault
-as_item (Ok instruction) = Ok (item.Instruction instruction)
-as_item (Err fault) = Err fault
 
 -- Which kind a line is
 

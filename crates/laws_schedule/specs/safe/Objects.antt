@@ -1,7 +1,8 @@
 -- The objects that a frame may use, with their cells as the text declares them.
 use Rattle.std.specs.Prelude.{◌≡◌, ℕ, suc, ◌<◌, ◌≤◌, List, Option, Some, ℤ, slice_get}
 use Rattle.linear.specs.declared.form.RegisterId.{RegisterId}
-use Rattle.semantics.specs.Paths.{Path, Under}
+use Rattle.semantics.specs.Paths.{Path}
+use Rattle.semantics.specs.Below.{Under}
 use Rattle.semantics.specs.Cells.{Object, Shared, Local, Cell, Memory}
 use Rattle.semantics.specs.Frames.{OnCall, Frame, Does, item_at, global_cells, cells_of, cell_of}
 use Rattle.semantics.specs.State.{State}

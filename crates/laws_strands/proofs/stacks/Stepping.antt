@@ -2,7 +2,8 @@
 use Rattle.std.proofs.Common.{◌≡◌, ℕ, suc, ◌+◌, max, List, [], ◌∷◌, Option, Some, None, Bool, true, false, cond, inl, inr, refl, sym, ap, ◌∙◌, subst, arith, eqb, eq-eqb, is_none, is_some, ℤ}
 use Rattle.std.proofs.lemmas.Bool.Decides.{eqb_tells}
 use Rattle.semantics.specs.Paths.{Path}
-use Rattle.semantics.specs.Cells.{Cell, or_zero}
+use Rattle.semantics.specs.Cells.{Cell}
+use Rattle.semantics.specs.Written.{or_zero}
 use Rattle.semantics.specs.Arithmetic.{Undefined, Unmatched}
 use Rattle.semantics.specs.Frames.{Value, Registers, Free, OnCall, Frame}
 use Rattle.semantics.specs.Effect.{Effect, Action, Plain, Detach, Reattach, Sync, Call, Return, action_of}

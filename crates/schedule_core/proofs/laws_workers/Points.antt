@@ -2,7 +2,8 @@
 use Rattle.std.proofs.Common.{◌≡◌, ◌∙◌, ℕ, zero, suc, ◌<◌, List, [], ◌∷◌, length, map, Option, Some, None, Bool, true, false, cond, eqb, ◌&&◌, refl, sym, ap, subst, arith, slice_get, ℤ, pos, int_le, int_lt}
 use Rattle.std.specs.Prelude.{⊤}
 use Rattle.linear.specs.declared.form.RegisterId.{RegisterId}
-use Rattle.semantics.specs.Paths.{Path, Under, itself, deeper}
+use Rattle.semantics.specs.Paths.{Path}
+use Rattle.semantics.specs.Below.{Under, itself, deeper}
 use Rattle.semantics.specs.Cells.{Object, Shared, Local, Cell, Memory}
 use Rattle.semantics.specs.Arithmetic.{Answer, Gives, Traps, binary, compares, converts}
 use Rattle.semantics.specs.Frames.{Value, Word, Truth, Pointer, Region, Registers, Frame, and_then, phis_at, cell_of, cells_of, set_register, word_at, object_at, first_cell, cell_at}

@@ -7,7 +7,7 @@ use Rattle.std.specs.Str.{bytes_eq}
 use Rattle.linear.specs.declared.form.Form.{Form}
 use Rattle.linear.specs.declared.form.RegisterId.{RegisterId}
 use Rattle.linear.specs.declared.form.Term.{Term}
-use Rattle.linear.specs.Forms.{constant_form}
+use Rattle.linear.specs.Terms.{constant_form}
 use Rattle.linear.specs.Made.{with_term}
 use Rattle.program.specs.declared.annotation.Inequality.{Inequality}
 use Rattle.syntax.specs.declared.annotation.Form.{Form as FormText}
