@@ -55,27 +55,23 @@ no_writes c = None
 abbrev pub no_adds : Cell → Option ℤ
 no_adds c = None
 
-abbrev pub stops : Trap → Frame → Effect
-stops t f = record {
-  registers = f.registers;
-  block = f.block;
-  index = f.index;
+-- at this place with these registers, and no cell is touched
+abbrev pub stands : Registers → ℕ → ℕ → Option Trap → Effect
+stands registers block index trap = record {
+  registers = registers;
+  block = block;
+  index = index;
   reads = no_cells;
   writes = no_writes;
   adds = no_adds;
-  trap = Some t;
+  trap = trap;
 }
 
+abbrev pub stops : Trap → Frame → Effect
+stops t f = stands f.registers f.block f.index (Some t)
+
 abbrev pub goes_on : Frame → Effect
-goes_on f = record {
-  registers = f.registers;
-  block = f.block;
-  index = suc f.index;
-  reads = no_cells;
-  writes = no_writes;
-  adds = no_adds;
-  trap = None;
-}
+goes_on f = stands f.registers f.block (suc f.index) None
 
 abbrev pub sets : Frame → RegisterId → Value → Effect
 sets f d v = record (goes_on f) { registers = set_register f.registers d v }

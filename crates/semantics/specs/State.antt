@@ -72,19 +72,22 @@ wait_after (Some t) = Halted
 abbrev pub went : Frame → Effect → Frame
 went f e = record f { block = e.block; index = e.index; registers = e.registers; waits = wait_after e.trap }
 
+-- at the start of a block, with no child made
+abbrev pub begun : ℕ → ℕ → Registers → Role → Path → Frame
+begun function block registers role home = record {
+  function = function;
+  block = block;
+  index = 0;
+  registers = registers;
+  made = 0;
+  waits = Free;
+  role = role;
+  home = home;
+}
+
 -- the child begins with its parent's registers
 abbrev pub detached : Frame → ℕ → ℕ → ℕ → Frame
-detached f region body continuation =
-    record {
-      function = f.function;
-      block = body;
-      index = 0;
-      registers = f.registers;
-      made = 0;
-      waits = Free;
-      role = Child region continuation;
-      home = f.home;
-    }
+detached f region body continuation = begun f.function body f.registers (Child region continuation) f.home
 
 abbrev pub continued : Frame → ℕ → Frame
 continued f continuation = record f { block = continuation; index = 0; made = suc f.made; waits = Free }
@@ -94,17 +97,7 @@ synced f region block r = record f { block = block; index = 0; registers = r; wa
 
 -- the parameters are the registers from 0 on
 abbrev pub called : Path → Frame → ℕ → List Value → Frame
-called p f callee values =
-    record {
-      function = callee;
-      block = 0;
-      index = 0;
-      registers = slice_get values;
-      made = 0;
-      waits = Free;
-      role = Body;
-      home = f.made ∷ p;
-    }
+called p f callee values = begun callee 0 (slice_get values) Body (f.made ∷ p)
 
 abbrev pub waiting : Frame → Option RegisterId → Frame
 waiting f d = record f { index = suc f.index; made = suc f.made; waits = OnCall f.made d }
@@ -132,16 +125,8 @@ frame_change frames depth = record
     { frames = frames; reads = no_cells; writes = no_writes; adds = no_adds; depth = depth; result = None; trap = None }
 
 abbrev pub plain_change : Path → Frame → Effect → Change
-plain_change p f e =
-    record {
-      frames = only p (Some (went f e));
-      reads = e.reads;
-      writes = e.writes;
-      adds = e.adds;
-      depth = 0;
-      result = None;
-      trap = e.trap;
-    }
+plain_change p f e = let c : Change = frame_change (only p (Some (went f e))) 0 in
+    record c { reads = e.reads; writes = e.writes; adds = e.adds; trap = e.trap }
 
 abbrev pub detach_change : Path → Frame → ℕ → ℕ → ℕ → Change
 detach_change p f region body continuation = frame_change (both p (Some (continued f continuation))
@@ -228,17 +213,7 @@ change_of prog s p = change_of_frame prog s p (s.frames p)
 -- ---- the start
 
 abbrev pub root_frame : Program → List ℤ → Frame
-root_frame prog arguments =
-    record {
-      function = prog.main.0;
-      block = 0;
-      index = 0;
-      registers = slice_get (map (λ z. Word z) arguments);
-      made = 0;
-      waits = Free;
-      role = Body;
-      home = [];
-    }
+root_frame prog arguments = begun prog.main.0 0 (slice_get (map (λ z. Word z) arguments)) Body []
 
 -- the root frame alone, with the globals as they are given; no alloca is defined
 abbrev pub start_state : Program → List ℤ → Memory → State
