@@ -13,7 +13,7 @@ use Rattle.syntax.specs.declared.annotation.Form.{Form}
 use Rattle.ir_annotation.specs.declared.limits.Limited.{Limited}
 use Rattle.ir_annotation.specs.declared.sums.SignedTerm.{SignedTerm}
 use Rattle.ir_annotation.specs.declared.sums.SumTerm.{SumTerm}
-use Rattle.ir_annotation.specs.Limits.{narrowed}
+use Rattle.ir_annotation.specs.Limits.{limited, narrowed}
 use Rattle.ir_annotation.specs.Reading.{◌>>=◌}
 use Rattle.ir_annotation.specs.Words.{number_of, name_of, register_of}
 
@@ -53,15 +53,11 @@ signed is_negative n = if is_negative then neg_ℤ (pos n) else pos n
 
 -- behind a number: nothing, or * and a register
 abbrev pub term_behind : Bool → Limited ℕ → List ℕ → Result (Limited SignedTerm) ℕ
-term_behind is_negative number [] = Ok (record {
-  value = record { register = None; amount = signed is_negative number.value };
-  is_within_limits = number.is_within_limits;
-})
-term_behind is_negative number (star ∷ word) =
-    register_of word >>= λ name. Ok (record {
-      value = record { register = Some name.value; amount = signed is_negative number.value };
-      is_within_limits = number.is_within_limits && name.is_within_limits;
-    })
+term_behind is_negative number [] =
+    Ok (limited (record { register = None; amount = signed is_negative number.value }) number.is_within_limits)
+term_behind is_negative number (star ∷ word) = register_of word >>=
+    λ name. Ok (limited (record { register = Some name.value; amount = signed is_negative number.value })
+    (number.is_within_limits && name.is_within_limits))
 
 abbrev pub is_no_star : ℕ → Bool
 is_no_star b = not (b == 42)
@@ -73,11 +69,8 @@ term_by_number is_negative text = let end : ℕ = prefix_len is_no_star text in
 -- a number, a register, or a number * a register
 unfoldable pub term_of : Bool → List ℕ → Result (Limited SignedTerm) ℕ
 term_of is_negative [] = Err 103
-term_of is_negative (b ∷ bs) =
-    if b == 37 then (name_of bs >>= λ name. Ok (record {
-      value = record { register = Some name.value; amount = signed is_negative 1 };
-      is_within_limits = name.is_within_limits;
-    }))
+term_of is_negative (b ∷ bs) = if b == 37 then (name_of bs >>=
+    λ name. Ok (limited (record { register = Some name.value; amount = signed is_negative 1 }) name.is_within_limits))
     else term_by_number is_negative (b ∷ bs)
 
 -- ---- terms, added up
@@ -142,11 +135,8 @@ abbrev pub is_narrow : SumTerm → Bool
 is_narrow t = (narrowed t.coefficient).is_within_limits
 
 unfoldable pub form_from : Total → Limited Form
-form_from total = record {
-  value = record { terms = filter_map kept total.terms; constant = (narrowed total.constant).value };
-  is_within_limits = total.is_within_limits && (narrowed total.constant).is_within_limits && list_all is_narrow
-      total.terms;
-}
+form_from total = limited (record { terms = filter_map kept total.terms; constant = (narrowed total.constant).value })
+    (total.is_within_limits && (narrowed total.constant).is_within_limits && list_all is_narrow total.terms)
 
 unfoldable pub form_of : List ℕ → Result (Limited Form) ℕ
 form_of word = all_added nothing (signed_texts word) >>= λ total. Ok (form_from total)

@@ -13,7 +13,7 @@ use Rattle.syntax.specs.declared.operator.Mode.TheVariants.{Reads, Writes, Adds}
 use Rattle.ir_lex.specs.Spelling.{is_name, is_positive}
 use Rattle.ir_annotation.specs.declared.limits.Limited.{Limited}
 use Rattle.ir_annotation.specs.Reading.{◌>>=◌}
-use Rattle.ir_annotation.specs.Limits.{up_to}
+use Rattle.ir_annotation.specs.Limits.{limited, up_to}
 
 -- a number without sign
 abbrev pub is_numeral : List ℕ → Bool
@@ -30,8 +30,7 @@ number_of most word = if is_numeral word then Ok (up_to most (small_value word))
 
 -- a name of at most 64 bytes
 unfoldable pub name_of : List ℕ → Result (Limited (List ℕ)) ℕ
-name_of name = if is_name name then Ok (record { value = name; is_within_limits = nat_le (length name) 64 }) else Err
-    103
+name_of name = if is_name name then Ok (limited name (nat_le (length name) 64)) else Err 103
 
 -- % and a name
 abbrev pub register_of : List ℕ → Result (Limited (List ℕ)) ℕ
@@ -42,13 +41,12 @@ register_of (sigil ∷ name) = if sigil == 37 then name_of name else Err 103
 abbrev pub object_of : List ℕ → Result (Limited Address) ℕ
 object_of [] = Err 103
 object_of (sigil ∷ name) = if sigil == 37 then (name_of name >>=
-    λ n. Ok (record { value = address.Register n.value; is_within_limits = n.is_within_limits }))
-    else if sigil == 64 then (name_of name >>=
-    λ n. Ok (record { value = address.Global n.value; is_within_limits = n.is_within_limits })) else Err 103
+    λ n. Ok (limited (address.Register n.value) n.is_within_limits)) else if sigil == 64 then (name_of name >>=
+    λ n. Ok (limited (address.Global n.value) n.is_within_limits)) else Err 103
 
 abbrev pub relation_of : List ℕ → Result Relation ℕ
-relation_of word = if bytes_eq word (codes "<=") then Ok AtMost else if bytes_eq word
-    (codes ">=") then Ok AtLeast else Err 103
+relation_of word = if bytes_eq word (codes "<=") then Ok AtMost else if bytes_eq word (codes ">=") then Ok AtLeast
+    else Err 103
 
 abbrev pub mode_of : List ℕ → Result Mode ℕ
 mode_of word = if bytes_eq word (codes "reads") then Ok Reads else if bytes_eq word (codes "writes") then Ok Writes

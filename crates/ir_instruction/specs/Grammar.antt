@@ -151,8 +151,8 @@ abbrev pub switch_shape : List Piece
 switch_shape = gap width ∷ space ∷ gap operand ∷ mark 44 ∷ space ∷ gap label ∷ space ∷ mark 91 ∷ space ∷ gap cases ∷ []
 
 abbrev pub switch_from : Gaps switch_shape → Option Terminator
-switch_from g = if are_cases_of g.0 g.1.1.0 g.1.1.1.0 then Some
-    (terminator.Switch g.0 g.1.0 g.1.1.0 (cases_from g.1.1.1.0)) else None
+switch_from g = if are_cases_of g.0 g.1.1.0 g.1.1.1.0 then Some (terminator.Switch g.0 g.1.0 g.1.1.0
+    (cases_from g.1.1.1.0)) else None
 
 -- ret void
 abbrev pub return_void_shape : List Piece
@@ -220,10 +220,10 @@ fixed d text rest = if bytes_eq text (codes "icmp") then option_map (compare_fro
     else if bytes_eq text (codes "trunc") then option_map (truncate_from d) (gaps_of truncate_shape rest)
     else if bytes_eq text (codes "sext") then option_map (extend_from d SignExtend) (gaps_of extend_shape rest)
     else if bytes_eq text (codes "zext") then option_map (extend_from d ZeroExtend) (gaps_of extend_shape rest)
-    else if bytes_eq text (codes "alloca") then alloca d rest else if bytes_eq text
-    (codes "getelementptr") then option_map (element_pointer_from d) (gaps_of element_pointer_shape rest)
-    else if bytes_eq text (codes "load") then option_map (load_from d) (gaps_of load_shape rest)
-    else (operator_of text >>= λ operator. binary d operator rest)
+    else if bytes_eq text (codes "alloca") then alloca d rest
+    else if bytes_eq text (codes "getelementptr") then option_map (element_pointer_from d)
+    (gaps_of element_pointer_shape rest) else if bytes_eq text (codes "load") then option_map (load_from d)
+    (gaps_of load_shape rest) else (operator_of text >>= λ operator. binary d operator rest)
 
 -- behind 'store'
 abbrev pub store : List Symbol → Option Instruction

@@ -75,8 +75,8 @@ all_at element line = if is_mark 41 line then Some ([], behind line)
 
 -- cases up to ]
 abbrev pub all_cases_at : List Symbol → Option (List SpelledCase × List Symbol)
-all_cases_at line = list_at case_at case_follows (length line) line >>= λ found. mark_at 93 found.1 >>= λ rest. Some
-    (found.0, rest)
+all_cases_at line = list_at case_at case_follows (length line) line >>= λ found. mark_at 93 found.1 >>=
+    λ rest. Some (found.0, rest)
 
 -- entries up to the line's end
 abbrev pub all_entries_at : List Symbol → Option (List PhiEntry × List Symbol)

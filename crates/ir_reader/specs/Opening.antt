@@ -44,11 +44,7 @@ abbrev pub no_block_notes : ℕ → BlockNotes
 no_block_notes line = record {
   keeps = [];
   pending = [];
-  left = record {
-    line = line;
-    self_calls = zero_form;
-    instructions = zero_form;
-  };
+  left = record { line = line; self_calls = zero_form; instructions = zero_form };
   foot = [];
 }
 

@@ -35,9 +35,9 @@ definition at d _ = None
 -- behind a first word that is no label
 unfoldable pub worded : List ℕ → List Symbol → Option Item
 worded text rest = if bytes_eq text (codes "define") then option_map define_from (gaps_of define_shape rest)
-    else if bytes_eq text (codes "store") then option_map item.Instruction (store rest) else if bytes_eq text
-    (codes "atomicrmw") then option_map (λ g. item.Instruction (atomic_from g)) (gaps_of atomic_shape rest)
-    else if bytes_eq text (codes "call") then option_map (λ g. item.Instruction (call_void_from g))
+    else if bytes_eq text (codes "store") then option_map item.Instruction (store rest)
+    else if bytes_eq text (codes "atomicrmw") then option_map (λ g. item.Instruction (atomic_from g)) (gaps_of
+    atomic_shape rest) else if bytes_eq text (codes "call") then option_map (λ g. item.Instruction (call_void_from g))
     (gaps_of call_void_shape rest) else option_map item.Terminator (terminator_in text rest)
 
 -- The item of a line that has tokens and is no annotation; at is the line's number. A word before a colon is a label,
