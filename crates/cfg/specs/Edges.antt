@@ -25,7 +25,6 @@ abbrev pub value_from : ℕ → List PhiEntry → Option Operand
 value_from from [] = None
 value_from from (e ∷ es) = if e.predecessor.0 == from then Some e.value else value_from from es
 
--- what a phi takes on an edge from this block
 abbrev pub move_from : ℕ → Phi → Option Move
 move_from from phi = option_map (λ v. record { register = phi.register; value = v }) (value_from from phi.entries)
 

@@ -39,7 +39,6 @@ less_form s moves f =
 abbrev pub put_in : List Move → Combination → Sum
 put_in moves f = record { constant = f.constant; parts = parts_of moves (pos 1) f.terms }
 
--- a number less a form
 abbrev pub number_less : ℕ → Combination → Sum
 number_less n f = record { constant = pos n -ℤ f.constant; parts = parts_of [] (negsuc 0) f.terms }
 

@@ -8,7 +8,6 @@ use Rattle.definedness.specs.declared.act.Act.TheVariants.{Needs, Gives}
 use Rattle.definedness.specs.declared.act.BlockActs.{BlockActs}
 use Rattle.definedness.specs.declared.table.Given.{Given}
 
--- what acts define, in their order
 abbrev pub gives : List Act → List ℕ
 gives acts = filter_map given acts
 
@@ -26,8 +25,6 @@ IsBlockBroken Lacks rule acts broken = (k : ℕ) × (act : Act) × (slice_get ac
 abbrev pub IsTableBroken : (ℕ → ℕ → Type 0) → ℕ → List BlockActs → Broken → Type 0
 IsTableBroken Lacks rule table broken = (b : ℕ) × (block : BlockActs) × (slice_get table b ≡ Some block) ×
     IsBlockBroken (λ n. Lacks n b) rule block.acts broken
-
--- ---- tables
 
 abbrev pub numbers_of : Option Given → List ℕ
 numbers_of None = []

@@ -92,7 +92,6 @@ instruction_needs allocas line (AtomicAdd address value) = address_needs allocas
 instruction_needs allocas line (Call register callee arguments) = flat_map (argument_needs allocas line) arguments
 instruction_needs allocas line other = []
 
--- the register that an instruction defines
 abbrev pub definition_of : Instruction → Option RegisterId
 definition_of (Binary register operator width left right) = Some register
 definition_of (Compare register predicate width left right) = Some register

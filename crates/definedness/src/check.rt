@@ -1,6 +1,7 @@
 ghost use Rattle.std.specs.Prelude.{◌≡◌, ◌<◌, ◌≤◌, ◌↔◌, ℕ, true, length, All, IfOk, IfErr};
 ghost use Rattle.cfg.specs.Edges.{graph_of};
-ghost use Rattle.refusal.specs.Earliest.{IsEarliest, NamesEarliest};
+ghost use Rattle.refusal.specs.Earliest.{IsEarliest};
+ghost use Rattle.refusal.specs.Named.{NamesEarliest};
 ghost use Rattle.region_match.specs.Tasks.{AreTasks, AreAllTasks};
 ghost use Rattle.definedness.specs.Marks.{mark_at};
 ghost use Rattle.definedness.specs.Sure.{IsNeverSure};

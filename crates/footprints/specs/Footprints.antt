@@ -134,7 +134,6 @@ abbrev pub foot_of : Option Block → List Zone
 foot_of None = []
 foot_of (Some block) = block.foot
 
--- the foot of the child of a detach
 abbrev pub child_foot : List Block → Terminator → List Zone
 child_foot blocks (terminator.Detach region body continuation) = foot_of (slice_get blocks body.0)
 child_foot blocks other = []

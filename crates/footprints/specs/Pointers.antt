@@ -6,7 +6,6 @@ use Rattle.program.specs.declared.instruction.Instruction.TheVariants as instruc
 use Rattle.footprints.specs.declared.access.Cell.{Cell}
 use Rattle.footprints.specs.declared.access.Pointer.{Pointer}
 
--- the pointer that an instruction defines
 abbrev pub defined_pointer : Instruction → Option Pointer
 defined_pointer (instruction.ElementPointer d object index) =
     Some (record { register = d; cell = record { object = object; index = index } })

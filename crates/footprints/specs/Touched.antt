@@ -9,9 +9,6 @@ use Rattle.footprints_feet.specs.footprints_zones.declared.place.Use.{Use}
 use Rattle.footprints_feet.specs.footprints_zones.Zones.{Span}
 use Rattle.footprints_feet.specs.footprints_zones.Places.{Place}
 use Rattle.footprints.specs.Footprints.{is_put_allowed, is_put_clear}
-use Rattle.program.specs.declared.instruction.Instruction.TheVariants as instruction
-use Rattle.program.specs.declared.instruction.Argument.TheVariants as argument
-use Rattle.program.specs.declared.instruction.Terminator.TheVariants as terminator
 
 -- the pointers that steps define, in their order
 abbrev pub pointers_of : List Step → List Pointer

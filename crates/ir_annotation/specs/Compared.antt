@@ -1,6 +1,5 @@
 -- What an inequality says behind a word.
 use Rattle.syntax.specs.declared.annotation.Inequality.{Inequality}
-use Rattle.syntax.specs.declared.operator.Mode.TheVariants as mode
 use Rattle.ir_annotation.specs.declared.keywords.Keyword.{Keyword}
 use Rattle.ir_annotation.specs.declared.keywords.Keyword.TheVariants as keyword
 use Rattle.ir_annotation.specs.declared.meaning.Annotation.{Annotation}

@@ -19,7 +19,6 @@ use Rattle.ir_annotation.specs.Words.{number_of, name_of, register_of}
 
 -- ---- a form's word, cut at its signs
 
--- the text of a term and the sign before it
 pub record SignedText : Type 0 where
   pub is_negative : Bool
   pub text : List ℕ
@@ -126,7 +125,6 @@ nothing = record { terms = []; constant = pos 0; is_within_limits = true }
 
 -- ---- the form
 
--- no term where the coefficient is 0
 abbrev pub kept : SumTerm → Option Term
 kept t = if int_eq t.coefficient (pos 0) then None
     else Some (record { register = t.register; coefficient = (narrowed t.coefficient).value })

@@ -20,15 +20,12 @@ abbrev pub is_numeral : List ℕ → Bool
 is_numeral [] = false
 is_numeral (b ∷ bs) = (b == 48 && length bs == 0) || is_positive (b ∷ bs)
 
--- the value of digits, where it is below 2^64
 abbrev pub small_value : List ℕ → Option ℕ
 small_value digits = if nat_lt (digits_value 10 digits) (2 ^ 64) then Some (digits_value 10 digits) else None
 
--- a number of at most this
 unfoldable pub number_of : ℕ → List ℕ → Result (Limited ℕ) ℕ
 number_of most word = if is_numeral word then Ok (up_to most (small_value word)) else Err 103
 
--- a name of at most 64 bytes
 unfoldable pub name_of : List ℕ → Result (Limited (List ℕ)) ℕ
 name_of name = if is_name name then Ok (limited name (nat_le (length name) 64)) else Err 103
 

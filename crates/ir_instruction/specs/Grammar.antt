@@ -196,7 +196,7 @@ global_shape = mark 61 ∷ space ∷ word (codes "global") ∷ space ∷ gap arr
 abbrev pub define_shape : List Piece
 define_shape = gap result_type ∷ space ∷ gap function ∷ mark 40 ∷ gap parameters ∷ space ∷ mark 123 ∷ []
 
--- Which instruction or terminator it is
+-- Which instruction or terminator it is, by what stands behind its first word
 
 -- behind '%d = OP'
 abbrev pub binary : List ℕ → BinaryOperator → List Symbol → Option Instruction
@@ -225,32 +225,26 @@ fixed d text rest = if bytes_eq text (codes "icmp") then option_map (compare_fro
     (gaps_of element_pointer_shape rest) else if bytes_eq text (codes "load") then option_map (load_from d)
     (gaps_of load_shape rest) else (operator_of text >>= λ operator. binary d operator rest)
 
--- behind 'store'
 abbrev pub store : List Symbol → Option Instruction
 store rest = if is_word (codes "i64") rest then option_map store_from (gaps_of store_shape rest)
     else option_map store_zeros_from (gaps_of store_zeros_shape rest)
 
--- behind 'br'
 abbrev pub branch_in : List Symbol → Option Terminator
 branch_in rest = gaps_of branch_shape rest >>= branch_from
 
 abbrev pub br : List Symbol → Option Terminator
 br rest = if is_word (codes "label") rest then option_map jump_from (gaps_of jump_shape rest) else branch_in rest
 
--- behind 'switch'
 abbrev pub switch_in : List Symbol → Option Terminator
 switch_in rest = gaps_of switch_shape rest >>= switch_from
 
--- behind 'ret'
 abbrev pub return : List Symbol → Option Terminator
 return rest = if is_word (codes "void") rest then option_map return_void_from (gaps_of return_void_shape rest)
     else option_map return_from (gaps_of return_shape rest)
 
--- behind 'detach'
 abbrev pub detach_in : List Symbol → Option Terminator
 detach_in rest = gaps_of detach_shape rest >>= detach_from
 
--- behind the first word of a terminator
 unfoldable pub terminator_in : List ℕ → List Symbol → Option Terminator
 terminator_in text rest = if bytes_eq text (codes "br") then br rest
     else if bytes_eq text (codes "switch") then switch_in rest else if bytes_eq text (codes "ret") then return rest

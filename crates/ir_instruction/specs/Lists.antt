@@ -39,18 +39,15 @@ pointer_parameter_at line = word_at (codes "ptr") line >>= word_at (codes "noali
     word_at (codes "dereferenceable") >>= mark_at 40 >>= bytes_at >>= λ cells. mark_at 41 cells.1 >>= register_at >>=
     λ name. Some (parameter.Pointer name.0 cells.0, name.1)
 
--- i64 %x
 abbrev pub number_parameter_at : List Symbol → Option (Parameter × List Symbol)
 number_parameter_at line = word_at (codes "i64") line >>= register_at >>= λ name. Some (parameter.Number name.0, name.1)
 
 abbrev pub parameter_at : List Symbol → Option (Parameter × List Symbol)
 parameter_at line = if is_word (codes "ptr") line then pointer_parameter_at line else number_parameter_at line
 
--- ptr P
 abbrev pub pointer_argument_at : List Symbol → Option (Argument × List Symbol)
 pointer_argument_at line = pointer_at line >>= λ found. Some (argument.Pointer found.0, found.1)
 
--- i64 V
 abbrev pub number_argument_at : List Symbol → Option (Argument × List Symbol)
 number_argument_at line = word_at (codes "i64") line >>= operand_at >>= λ found. Some (argument.Number found.0, found.1)
 

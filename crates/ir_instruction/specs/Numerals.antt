@@ -16,7 +16,6 @@ abbrev pub is_negative : List ℕ → Bool
 is_negative [] = false
 is_negative (b ∷ bs) = b == 45
 
--- the digit at this place, counted from the end
 abbrev pub digit_from_end : ℕ → List ℕ → ℕ
 digit_from_end k digits = slice_index digits (length digits - k) - 48
 

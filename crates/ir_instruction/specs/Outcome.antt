@@ -1,6 +1,5 @@
 -- Reading that may fail.
 use Rattle.std.specs.Prelude.{Option, Some, None}
-use Rattle.ir_instruction.specs.declared.fault.LineFault.TheVariants as faults
 
 infixl 10 ◌>>=◌
 abbrev pub ◌>>=◌ : {A B : Type 0} → Option A → (A → Option B) → Option B

@@ -39,7 +39,6 @@ pub data Piece : Type 0 where
   gap : Gap → Piece
   space : Piece  -- a space of the canonical print
 
--- what a gap holds
 abbrev pub Held : Gap → Type 0
 Held register = List ℕ
 Held function = List ℕ

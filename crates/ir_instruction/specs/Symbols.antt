@@ -38,7 +38,6 @@ symbol_of kinds.Word text = Word text
 symbol_of kinds.Mark text = Mark (slice_index text 0)
 symbol_of kinds.Note text = Note
 
--- what a token of a line stands for
 abbrev pub symbol_at : List ℕ → Token → Symbol
 symbol_at line t = symbol_of t.kind (text_at line t)
 

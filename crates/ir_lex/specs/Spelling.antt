@@ -46,7 +46,6 @@ abbrev pub is_marked_name : List ℕ → Bool
 is_marked_name [] = false
 is_marked_name (b ∷ bs) = (b == 37 || b == 64) && is_name bs
 
--- what a run is
 abbrev pub kind_of : List ℕ → Option Kind
 kind_of run = if is_name run then Some Word else if is_number run then Some Number
     else if is_marked_name run then Some Name else None

@@ -9,7 +9,6 @@ use Rattle.ir_lex.specs.declared.scan.Front.{Front}
 use Rattle.ir_lex.specs.declared.scan.Front.TheVariants.{Space, Comment, Begins, Wrong}
 use Rattle.ir_lex.specs.Spelling.{is_space, is_mark, is_run_byte, is_word_byte, kind_of, is_printed, is_note_mark}
 
--- the whole run at the front is a token of this kind
 abbrev pub lead_of_run : Option Kind → ℕ → Front
 lead_of_run None n = Wrong
 lead_of_run (Some kind) n = Begins kind n

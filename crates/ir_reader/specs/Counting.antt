@@ -1,6 +1,5 @@
 -- What is counted as the items come.
 use Rattle.std.specs.Prelude.{ℕ, Bool, ◌&&◌, nat_le, Option, Some, None}
-use Rattle.ir_reader.specs.declared.item.item.Item.TheVariants as item
 use Rattle.syntax.specs.declared.module.Function.{Function}
 use Rattle.syntax.specs.declared.module.Module.{Module}
 use Rattle.ir_reader.specs.declared.draft.Draft.{Draft}
@@ -20,7 +19,6 @@ abbrev pub counts_in : Module → Option Function → Counts
 counts_in m open_one =
     record { global_cells = global_cells m; registers = registers_in open_one; alloca_cells = cells_in open_one }
 
--- of what was read
 abbrev pub counts_of : Draft → Counts
 counts_of d = counts_in d.whole (open_function d.place)
 

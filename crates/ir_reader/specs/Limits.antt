@@ -27,7 +27,6 @@ step_cells s = instruction_cells s.instruction
 abbrev pub block_cells : Block → ℕ
 block_cells b = sum_by step_cells b.steps
 
--- cells of all allocas of a function
 unfoldable pub function_cells : Function → ℕ
 function_cells f = sum_by block_cells f.blocks
 

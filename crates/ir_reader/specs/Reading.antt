@@ -16,7 +16,6 @@ use Rattle.ir_reader.specs.Counting.{is_within_limits}
 use Rattle.ir_reader.specs.Names.{is_repeated}
 use Rattle.ir_reader.specs.Defined.{names_outside, names_inside, inside_before, defined_outside, defined_inside}
 
--- the item defines a name that stands already
 abbrev pub defines_again : Draft → Item → Bool
 defines_again d i = is_repeated (names_outside d) (defined_outside i) || is_repeated (inside_before (names_inside d) i)
     (defined_inside i)
@@ -50,8 +49,7 @@ abbrev pub may_stand : Draft → ℕ → Option Line → Bool
 may_stand d at None = true
 may_stand d at (Some line) = is_some (placed d at line.item)
 
--- the fault of a line with which the text grows too long: its own, or 103 where its item may not stand there, but 104
--- at most
+-- the fault of a line with which the text grows too long: its own, 103 where its item may not stand, 104 at most
 pub data OverlongFault (d : Draft) (at : ℕ) (line : List ℕ) : ℕ → Type 0 where
   Unsaid : (number : ℕ) → IsLineFault at line number → OverlongFault d at line (min number 104)
   Too-late : (said : Option Line) (number : ℕ) → IsUtf8 line → line_of at line ≡ Ok said →
@@ -69,7 +67,6 @@ pub data Reads : Draft → ℕ → ℕ → List (List ℕ) → Result Draft (ℕ
   Overlong : (d : Draft) (at room : ℕ) (line : List ℕ) (lines : List (List ℕ)) (number : ℕ) → room < length line →
       OverlongFault d at (content line) number → Reads d at room (line ∷ lines) (Err (number, at))
 
--- nothing has been read
 abbrev pub start : Draft
 start = record { whole = record { globals = []; functions = [] }; place = place.Outside }
 

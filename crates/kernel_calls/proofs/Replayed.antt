@@ -5,7 +5,8 @@ use Rattle.frame.specs.declared.event.Event.{Event}
 use Rattle.program.specs.declared.function.Program.{Program}
 use Rattle.semantics.specs.Events as running
 use Rattle.semantics.specs.Frames.{Frame}
-use Rattle.semantics.specs.Replay.{NeverTraps, has_ended}
+use Rattle.semantics.specs.Replay.{has_ended}
+use Rattle.semantics.specs.Sound.{NeverTraps}
 use Rattle.semantics.specs.SerialMeaning.{Gave}
 use Rattle.schedule_core.specs.Admission.{IsNumberOfWorkers}
 use Rattle.store.specs.Requirements.{unmet_in}

@@ -8,7 +8,6 @@ pub record Combination : Type 0 where
   pub terms : List Term
   pub constant : ℤ
 
--- the coefficient of a register: the sum over its terms
 abbrev pub coefficient_of : List Term → ℕ → ℤ
 coefficient_of [] r = pos 0
 coefficient_of (t ∷ ts) r = (if t.register.0 == r then t.coefficient else pos 0) +ℤ coefficient_of ts r

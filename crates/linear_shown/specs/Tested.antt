@@ -27,6 +27,5 @@ factors_of e = 1 ∷ map (λ t. unsigned_abs (coefficient_of e.terms t.register.
 abbrev pub is_pair : Combination → Combination → Combination → Bool
 is_pair e f g = list_any (λ a. list_any (is_sum e f g a) (factors_of e)) (factors_of e)
 
--- whether the facts show the form
 unfoldable pub is_shown : List Fact → Combination → Bool
 is_shown facts e = list_any (λ f. list_any (is_pair e f) (sides facts)) (sides facts)

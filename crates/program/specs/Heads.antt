@@ -1,7 +1,6 @@
 -- A function's parameters, where there is one.
 use Rattle.std.specs.Prelude.{ℕ, length, Option, Some, None}
 use Rattle.program.specs.declared.function.Function.{Function}
-use Rattle.program.specs.declared.instruction.Instruction.TheVariants as instruction
 
 -- the number of parameters, which are the function's first registers
 abbrev pub parameters_in : Option Function → ℕ

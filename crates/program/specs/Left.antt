@@ -1,9 +1,8 @@
--- What is left at a block's start.
+-- What is left at a block's start of the self calls and the instructions of its function's budget.
 use Rattle.std.specs.Prelude.{Option, Some, None, pos}
 use Rattle.linear.specs.Terms.{Combination, constant_form}
 use Rattle.program.specs.declared.function.Block.{Block}
 
--- of the self calls and the instructions of its function's budget, what is left at the block's start
 abbrev pub left_calls : Option Block → Combination
 left_calls None = constant_form (pos 0)
 left_calls (Some block) = block.left.self_calls

@@ -5,6 +5,7 @@ pub mod Steps
 pub mod Widths
 pub mod Left
 pub mod Heads
+pub mod Objects
 -- for the crates above
 pub use Rattle.syntax.specs as syntax
 pub use Rattle.linear.specs as linear

@@ -11,7 +11,8 @@ use Rattle.program.specs.declared.function.Block.{Block}
 use Rattle.program.specs.declared.function.Function.{Function}
 use Rattle.program.specs.declared.function.Program.{Program}
 use Rattle.refusal.specs.declared.broken.Broken.{Broken}
-use Rattle.refusal.specs.Earliest.{IsLowerOf, IsEarliest}
+use Rattle.refusal.specs.Earliest.{IsEarliest}
+use Rattle.refusal.specs.Named.{IsLowerOf}
 use Rattle.refusal.proofs.Elements.{earliest_same, earliest_both}
 use Rattle.ranges.specs.declared.table.EdgeFacts.{EdgeFacts}
 use Rattle.ranges_owed.specs.Owed.{owed_at_end}

@@ -12,7 +12,6 @@ use Rattle.ranges_owed.specs.Inequalities.{differences_of}
 use Rattle.ranges.specs.Learned.{learned}
 use Rattle.ranges.specs.Edges.{edges_out, all_edge_facts}
 
--- inequalities as facts
 abbrev pub stated : List Inequality → List Fact
 stated qs = facts_of (differences_of [] qs)
 
@@ -25,7 +24,6 @@ start_facts function (suc b) block = stated block.keeps
 abbrev pub with_shows : List Fact → List Inequality → List Fact
 with_shows known shows = known ++ stated shows
 
--- behind a step
 abbrev pub after_step : List Function → List Fact → Step → List Fact
 after_step functions known step = with_shows known step.shows ++
     facts_of (learned functions (with_shows known step.shows) step.instruction)
@@ -48,7 +46,6 @@ abbrev pub facts_at_step : List Function → Function → ℕ → Block → ℕ 
 facts_at_step functions function b block i = with_shows (facts_before functions (start_facts function b block)
     block.steps i) (step_shows (slice_get block.steps i))
 
--- at the terminator
 abbrev pub facts_at_end : List Function → Function → ℕ → Block → List Fact
 facts_at_end functions function b block = with_shows (facts_before functions (start_facts function b block) block.steps
     (length block.steps)) (ending_shows block.ending)

@@ -10,8 +10,6 @@ use Rattle.ranges.specs.declared.table.BlockFacts.{BlockFacts}
 use Rattle.ranges.specs.declared.table.Facts.{Facts}
 use Rattle.ranges.specs.declared.table.FunctionFacts.{FunctionFacts}
 use Rattle.ranges.specs.Places.{facts_at_step, facts_at_end, edges_known}
-use Rattle.program.specs.declared.instruction.Instruction.TheVariants as instruction
-use Rattle.program.specs.declared.instruction.Terminator.TheVariants as terminator
 
 -- an edge that has only what its being taken says, with all that is known on it, where this is known at the end of its
 -- block

@@ -18,7 +18,7 @@ use Rattle.program.specs.declared.instruction.Terminator.{Terminator}
 use Rattle.program.specs.declared.instruction.Terminator.TheVariants as terminator
 use Rattle.program.specs.declared.function.Function.{Function}
 use Rattle.program.specs.declared.function.Program.{Program}
-use Rattle.program.specs.Cells.{object_cells}
+use Rattle.program.specs.Objects.{object_cells}
 use Rattle.cfg.specs.declared.structure.Move.{Move}
 use Rattle.ranges_owed.specs.declared.sum.Part.{Part}
 use Rattle.ranges_owed.specs.declared.sum.Sum.{Sum}

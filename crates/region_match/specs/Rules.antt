@@ -28,7 +28,6 @@ abbrev pub ending_of : Option Block → Option Terminator
 ending_of None = None
 ending_of (Some block) = terminator_of block.ending
 
--- the terminator of the block of this number
 abbrev pub ending_at : List Block → ℕ → Option Terminator
 ending_at bodies b = ending_of (slice_get bodies b)
 
@@ -36,7 +35,6 @@ ending_at bodies b = ending_of (slice_get bodies b)
 abbrev pub IsDetach : Option Terminator → RegisterId → BlockId → Type 0
 IsDetach terminator region continuation = (body : BlockId) × (terminator ≡ Some (Detach region body continuation))
 
--- a step of the list starts this region
 abbrev pub Starts : RegisterId → List Step → Type 0
 Starts region steps = Any (λ step. step.instruction ≡ StartRegion region) steps
 
@@ -84,13 +82,11 @@ abbrev pub IsPendingBroken : List Block → List BlockEdges → ℕ → List Pen
 IsPendingBroken bodies blocks b pending broken = Any (λ p. (broken.number ≡ 303) × (broken.line ≡ p.zone.line) ×
     IsForeign bodies blocks b p.region) pending
 
--- a `ret` or a reattach
 abbrev pub is_leave : Terminator → Bool
 is_leave (Return value) = true
 is_leave (Reattach region continuation) = true
 is_leave other = false
 
--- a sync within this region
 abbrev pub IsSync : Option Terminator → RegisterId → Type 0
 IsSync terminator region = (target : BlockId) × (terminator ≡ Some (Sync region target))
 

@@ -14,7 +14,6 @@ abbrev pub task_along : Way → ℕ → List ℕ → List ℕ
 task_along Detached from detaches = from ∷ detaches
 task_along other from detaches = detaches
 
--- the task of a path
 abbrev pub task_on : List Leg → List ℕ
 task_on [] = []
 task_on (leg ∷ legs) = task_along leg.edge.way leg.from (task_on legs)
@@ -50,7 +49,6 @@ pub record AreTasks (blocks : List BlockEdges) (tasks : List Task) : Type 0 wher
   pub innermost : (b : ℕ) → b < length blocks → IsInnermostAt blocks tasks b
   pub reached : (b : ℕ) → task_at tasks b ≢ Unreached → (detaches : List ℕ) × HasTask blocks b detaches
 
--- the tables of all functions
 abbrev pub AreAllTasks : List FunctionGraph → List FunctionTasks → Type 0
 AreAllTasks [] [] = Unit {0}
 AreAllTasks (g ∷ gs) (t ∷ ts) = AreTasks g.blocks t.tasks × AreAllTasks gs ts

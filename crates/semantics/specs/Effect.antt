@@ -29,8 +29,7 @@ pub record Effect : Type 0 where
   pub block : ℕ
   pub index : ℕ
   pub reads : Cell → Bool
-  -- Some None: undefined from here on
-  pub writes : Cell → Option (Option ℤ)
+  pub writes : Cell → Option (Option ℤ)  -- Some None: undefined from here on
   pub adds : Cell → Option ℤ
   pub trap : Option Trap
 

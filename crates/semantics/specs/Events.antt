@@ -13,10 +13,8 @@ use Rattle.program.specs.declared.function.Program.{Program}
 
 pub record Machine : Type 0 where
   pub core : State
-  -- the top frame of the task that a worker runs; an idle worker has none
-  pub hands : ℕ → Option Path
-  -- once a step has trapped nothing is enabled any more
-  pub trapped : Option Trap
+  pub hands : ℕ → Option Path  -- the top frame of the task that a worker runs; an idle worker has none
+  pub trapped : Option Trap  -- once a step has trapped nothing is enabled any more
 
 pub data Event : Type 0 where
   Step : (worker : ℕ) → Event
@@ -55,7 +53,6 @@ abbrev pub top_within : ℕ → State → Path → Path
 top_within zero s p = p
 top_within (suc n) s p = on_frame (λ k. top_within n s (k ∷ p)) p (s.frames p)
 
--- the top frame of a task
 abbrev pub top_of : State → Path → Path
 top_of s t = top_within s.peak s t
 

@@ -34,18 +34,14 @@ Registers = ℕ → Option Value
 -- what a frame waits for before its next instruction
 pub data Wait : Type 0 where
   Free : Wait
-  -- the children that it detached within the region
-  OnRegion : (region : ℕ) → Wait
+  OnRegion : (region : ℕ) → Wait  -- the children that it detached within the region
   -- the call that is its child of this number, whose result goes into the register
   OnCall : (child : ℕ) (register : Option RegisterId) → Wait
-  -- it trapped
-  Halted : Wait
+  Halted : Wait  -- it trapped
 
 pub data Role : Type 0 where
-  -- of a detach within the region, whose parent goes on at the continuation
-  Child : (region continuation : ℕ) → Role
-  -- of a function
-  Body : Role
+  Child : (region continuation : ℕ) → Role  -- of a detach within the region, whose parent goes on at the continuation
+  Body : Role  -- of a function
 
 pub record Frame : Type 0 where
   -- the place: function, block, and index among the block's steps, where its terminator comes last
@@ -53,12 +49,10 @@ pub record Frame : Type 0 where
   pub block : ℕ
   pub index : ℕ
   pub registers : Registers
-  -- children made so far, by calls and detaches
-  pub made : ℕ
+  pub made : ℕ  -- children made so far, by calls and detaches
   pub waits : Wait
   pub role : Role
-  -- the path of the function's own frame, which owns the allocas
-  pub home : Path
+  pub home : Path  -- the path of the function's own frame, which owns the allocas
 
 -- ---- what stands at a place
 

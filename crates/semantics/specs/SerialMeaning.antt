@@ -19,10 +19,8 @@ pub data Ending : Type 0 where
 pub record Outcome : Type 0 where
   pub ending : Ending
   pub memory : Memory
-  -- instructions done, each 1 but phis
-  pub count : ℕ
-  -- frames from this one on, itself counted
-  pub depth : ℕ
+  pub count : ℕ  -- instructions done, each 1 but phis
+  pub depth : ℕ  -- frames from this one on, itself counted
 
 abbrev pub Rest : Type 0
 Rest = Path → Frame → Memory → Option Outcome

@@ -13,15 +13,11 @@ use Rattle.program.specs.linear.declared.form.RegisterId.{RegisterId}
 use Rattle.program.specs.declared.function.Program.{Program}
 
 pub record State : Type 0 where
-  -- the living frames
-  pub frames : Path → Option Frame
+  pub frames : Path → Option Frame  -- the living frames
   pub memory : Memory
-  -- instructions done
-  pub done : ℕ
-  -- the most frames from the root to one that ever lived
-  pub peak : ℕ
-  -- what the root returned
-  pub result : Option ℤ
+  pub done : ℕ  -- instructions done
+  pub peak : ℕ  -- the most frames from the root to one that ever lived
+  pub result : Option ℤ  -- what the root returned
 
 -- What one step changes: frames (Some None: removed), cells written, cells added to, the depth of a new frame, and the
 -- root's result. reads says what it looked at.

@@ -43,7 +43,6 @@ block_with line head body =
       ending = body.ending;
     }
 
--- the block at this place of the function at that place
 abbrev pub block_of : Items → List FunctionText → Named → Scope → ℕ → ResultType → ℕ → BlockText →
     Result Block TypeFault
 block_of items functions named scope function result block text = made_of (λ p. block_with text.line p.0 p.1)

@@ -61,7 +61,6 @@ function_with text layout head blocks = record {
   blocks = blocks;
 }
 
--- the function at this place of the module
 abbrev pub function_of : Items → List FunctionText → Named → ℕ → FunctionText → Result Function TypeFault
 function_of items functions named place text = made_of (λ p. function_with text (layout_of text) p.0 p.1)
     (both_of (head_of items (layout_of text) text.result_type text.notes)

@@ -35,7 +35,6 @@ use Rattle.types.specs.names.Form.{inequalities_of}
 use Rattle.types.specs.names.Operand.{label_of, operand_of, register_of}
 use Rattle.types.specs.names.Scope.{Scope}
 
--- the register that an instruction defines
 abbrev pub defined_of : Scope → ℕ → List ℕ → Result RegisterId TypeFault
 defined_of scope line name = made_of (λ register. register.id) (register_of scope line name)
 
@@ -74,7 +73,6 @@ abbrev pub as_alloca : ℕ → Holding → Result AllocaId TypeFault
 as_alloca line (holding.Object (object.Alloca id) cells) = Ok id
 as_alloca line other = Err (breaks 202 line)
 
--- the number of the `alloca` that defines a register
 abbrev pub alloca_id_of : Scope → ℕ → List ℕ → Result AllocaId TypeFault
 alloca_id_of scope line name = and_then (register_of scope line name) (λ register. as_alloca line register.holding)
 
@@ -105,7 +103,6 @@ abbrev pub atomic_add_of : Items → Scope → ℕ → ℕ → AddressText → O
 atomic_add_of items scope block line address value = made_of (λ p. instruction.AtomicAdd p.0 p.1)
     (both_of (address_of items scope block line address) (operand_of scope line Bits64 value))
 
--- the register of a call that has one
 abbrev pub call_register_of : Scope → ℕ → Option (List ℕ) → Result (Option RegisterId) TypeFault
 call_register_of scope line None = Ok None
 call_register_of scope line (Some name) = made_of Some (defined_of scope line name)
@@ -119,7 +116,6 @@ call_step_of items functions named scope caller line register callee arguments =
 abbrev pub region_start_of : Scope → ℕ → List ℕ → Result Instruction TypeFault
 region_start_of scope line register = made_of instruction.StartRegion (defined_of scope line register)
 
--- an instruction of the function and the block at these places
 abbrev pub instruction_of : Items → List FunctionText → Named → Scope → Spot → InstructionText →
     Result Instruction TypeFault
 instruction_of items functions named scope spot (text.Binary register operator width left right) =
@@ -144,7 +140,6 @@ instruction_of items functions named scope spot (text.Call register callee argum
     call_step_of items functions named scope spot.function spot.line register callee arguments
 instruction_of items functions named scope spot (text.StartRegion register) = region_start_of scope spot.line register
 
--- an instruction with its `shows` lines
 abbrev pub step_of : Items → List FunctionText → Named → Scope → ℕ → ℕ → StepText → Result Step TypeFault
 step_of items functions named scope function block step =
     let spot : Spot = record { function = function; block = block; line = step.line } in

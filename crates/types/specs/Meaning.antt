@@ -52,7 +52,6 @@ global_of global = record { line = global.line; name = global.name; cells = glob
 abbrev pub program_with : Module → FunctionId → List Function → Program
 program_with whole main functions = record { globals = map global_of whole.globals; functions = functions; main = main }
 
--- the program that a module means by these tables of names, else its earliest fault
 abbrev pub program_from : Items → Named → Module → Result Program TypeFault
 program_from items named whole = made_of (λ p. program_with whole p.0 p.1)
     (both_of (main_of items whole.functions) (functions_of items whole.functions named))

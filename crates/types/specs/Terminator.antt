@@ -69,12 +69,10 @@ terminator_of scope line result (text.Detach region body continuation) = detach_
 terminator_of scope line result (text.Reattach region continuation) = reattach_of scope line region continuation
 terminator_of scope line result (text.Sync region target) = sync_of scope line region target
 
--- a terminator with its `shows` lines
 abbrev pub known_ending_of : Scope → ResultType → EndingText → Result Ending TypeFault
 known_ending_of scope result ending = made_of (λ p. record { line = ending.line; shows = p.0; terminator = p.1 })
     (both_of (inequalities_of scope Body ending.shows) (terminator_of scope ending.line result ending.terminator))
 
--- the terminator of a block that has one
 abbrev pub ending_of : Scope → ResultType → Option EndingText → Result (Option Ending) TypeFault
 ending_of scope result None = Ok None
 ending_of scope result (Some ending) = made_of Some (known_ending_of scope result ending)

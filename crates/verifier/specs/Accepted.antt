@@ -20,7 +20,6 @@ use Rattle.footprints.specs.ranges.declared.unverified.Unverified.TheVariants as
 use Rattle.footprints.specs.Rules.{IsZoneBroken, AreZonesRightBy}
 use Rattle.cost_table.specs.Rules.{IsCostBroken, AreCostsRight}
 
--- no rule on uses is broken
 abbrev pub IsDefined : Program → Type 0
 IsDefined program = (b : Broken) → IsDefinednessBroken program b → ⊥
 

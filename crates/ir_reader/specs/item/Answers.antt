@@ -7,7 +7,6 @@ use Rattle.ir_reader.specs.item.Lines.{IsLineFault}
 use Rattle.syntax.specs.declared.instruction.Instruction.{Instruction}
 use Rattle.ir_instruction.specs.declared.fault.LineFault.{LineFault}
 use Rattle.ir_reader.specs.declared.item.item.Item.{Item}
-use Rattle.ir_lex.specs.declared.token.Kind.TheVariants as kinds
 use Rattle.ir_reader.specs.declared.item.item.Item.TheVariants as item
 
 -- if a fault, then that of the line

@@ -10,7 +10,8 @@ use Rattle.semantics.specs.Frames.{Value, Word, Truth, Pointer, Region, Register
 use Rattle.semantics.specs.Effect.{Effect, Action, Plain, Detach, Reattach, Sync, Call, Return, sets, answers, given, points, loads, stores, stores_zeros, adds_to, phi_value, with_phis, registers_along, argument_value, argument_values, calls, instruction_action, item_action, action_of}
 use Rattle.semantics.specs.State.{with_result}
 use Rattle.semantics.specs.Events.{Event, start}
-use Rattle.semantics.specs.Replay.{NeverTraps, replay}
+use Rattle.semantics.specs.Replay.{replay}
+use Rattle.semantics.specs.Sound.{NeverTraps}
 use Rattle.program.specs.declared.function.Program.{Program}
 use Rattle.program.specs.declared.identifier.ObjectName.{ObjectName}
 use Rattle.program.specs.declared.identifier.ObjectName.TheVariants as object

@@ -58,7 +58,6 @@ number_of scope line name = and_then (register_of scope line name)
 abbrev pub made_before : ℕ → ℕ → Register → Result (Unit {0}) TypeFault
 made_before line block register = unless_of (not (is_step_of block register.origin)) (breaks 206 line)
 
--- the register of a form's term
 abbrev pub term_register_of : Scope → AnnotationPlace → ℕ → List ℕ → Result RegisterId TypeFault
 term_register_of scope place.Head line name = parameter_term_of scope line name
 term_register_of scope (place.Guarantee outcome) line name = guarantee_term_of scope line outcome name
@@ -75,7 +74,6 @@ term_of scope place line term = made_of (λ p. record { register = p.0; coeffici
     (both_of (term_register_of scope place line term.register)
     (unless_of (is_small_coefficient term.coefficient) (breaks 206 line)))
 
--- the number of registers and the constant of a form keep their limits
 abbrev pub keeps_limits : FormText → Bool
 keeps_limits form = nat_le (length form.terms) 4 && int_le (negsuc 9223372036854775806) form.constant
 
@@ -88,7 +86,6 @@ within_bounds line (Some form) = Ok form
 abbrev pub with_one : ℕ → Form → Term → Result Form TypeFault
 with_one line form term = within_bounds line (with_term form term.register term.coefficient)
 
--- a form with more terms
 abbrev pub with_all : ℕ → Form → List Term → Result Form TypeFault
 with_all line form [] = Ok form
 with_all line form (term ∷ terms) = and_then (with_one line form term) (λ more. with_all line more terms)
@@ -102,7 +99,6 @@ abbrev pub form_in_scope : Scope → AnnotationPlace → ℕ → FormText → Re
 form_in_scope scope place line form = and_then (both_of (all_of (λ _. term_of scope place line) form.terms)
     (unless_of (keeps_limits form) (breaks 206 line))) (λ p. ordered_form line p.0 form.constant)
 
--- what a register is multiplied by
 abbrev pub coefficient_in : List Term → RegisterId → ℤ
 coefficient_in [] register = pos 0
 coefficient_in (term ∷ terms) register =

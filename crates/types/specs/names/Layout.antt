@@ -31,12 +31,10 @@ kind_of (holding.Object name cells) = kind.Object
 kind_of holding.Element = kind.Element
 kind_of holding.Region = kind.Region
 
--- the width of what a conversion gives
 abbrev pub target_width : Conversion → Width
 target_width Truncate = Bits32
 target_width other = Bits64
 
--- with the next register
 abbrev pub with_register : Layout → List ℕ → Holding → Origin → Layout
 with_register layout name held from = record {
   scope = with_name layout.scope name (named.Register (record {
@@ -56,7 +54,6 @@ with_parameter layout (parameter.Pointer name cells) = with_register layout name
 abbrev pub with_phi : Layout → PhiText → Layout
 with_phi layout phi = with_register layout phi.register (holding.Number phi.width) origin.Phi
 
--- the next alloca, with its register
 abbrev pub with_alloca : Layout → ℕ → List ℕ → ℕ → Origin → Layout
 with_alloca layout line name cells from =
     let made : Layout = with_register layout name
@@ -73,7 +70,6 @@ abbrev pub with_call : Layout → Option (List ℕ) → Origin → Layout
 with_call layout None from = layout
 with_call layout (Some name) from = with_register layout name (holding.Number Bits64) from
 
--- what an instruction of this block on this line defines
 abbrev pub with_instruction : Layout → ℕ → Origin → InstructionText → Layout
 with_instruction layout line from (text.Binary register operator width left right) =
     with_register layout register (holding.Number width) from

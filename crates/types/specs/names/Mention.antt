@@ -25,7 +25,6 @@ abbrev pub with_object : Mentions → Option Item → Mentions
 with_object found (Some (item.Global id cells)) = record found { globals = found.globals ++ id.0 ∷ [] }
 with_object found other = found
 
--- with what a call names
 abbrev pub with_callee : Mentions → Option Item → Mentions
 with_callee found None = found
 with_callee found (Some (item.Global id cells)) = record found { globals = found.globals ++ id.0 ∷ [] }
@@ -84,11 +83,9 @@ no_mentions = record { globals = []; callees = [] }
 abbrev pub mentions_of : Items → FunctionText → Mentions
 mentions_of items function = with_blocks items (with_notes items no_mentions function.notes) function.blocks
 
--- the functions that the function at this place calls
 abbrev pub callees_at : List Mentions → ℕ → List ℕ
 callees_at mentions place = nexts_at (λ m. m.callees) mentions place
 
--- the globals that the function at this place names
 abbrev pub globals_at : List Mentions → ℕ → List ℕ
 globals_at mentions place = nexts_at (λ m. m.globals) mentions place
 

@@ -12,7 +12,6 @@ use Rattle.types.specs.declared.names.scope.Origin.TheVariants as origin
 abbrev pub Scope : Type 0
 Scope = List (List ℕ × Named)
 
--- it is a number of this width
 abbrev pub is_number_of : Width → Holding → Bool
 is_number_of width (holding.Number other) = is_same_width other width
 is_number_of width other = false

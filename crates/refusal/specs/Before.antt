@@ -1,0 +1,10 @@
+-- Which of two broken rules is named: that of the lower line, and there of the lower number.
+use Rattle.std.specs.Prelude.{Bool, nat_lt, nat_eq, ◌&&◌, ◌||◌, if◌then◌else◌}
+use Rattle.refusal.specs.declared.broken.Broken.{Broken}
+
+-- on a lower line, or on the same line and of a lower number
+abbrev pub is_before : Broken → Broken → Bool
+is_before a b = nat_lt a.line b.line || (nat_eq a.line b.line && nat_lt a.number b.number)
+
+abbrev pub earlier_of : Broken → Broken → Broken
+earlier_of a b = if is_before b a then b else a
