@@ -70,7 +70,6 @@ reserved_outside = codes "llvm.syncregion.start"
 abbrev pub reserved_inside : List ℕ
 reserved_inside = codes ".ret"
 
--- the function that is open, as far as it was read
 abbrev pub open_function : LineContext → Option Function
 open_function place.Outside = None
 open_function (place.FunctionHead h) = Some h.function

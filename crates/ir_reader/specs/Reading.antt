@@ -44,7 +44,6 @@ pub data Steps (d : Draft) (at : ℕ) (line : List ℕ) : Result Draft ℕ → T
       with_said d at said ≡ out → Steps d at line out
   Faulty : (number : ℕ) → IsLineFault at line number → Steps d at line (Err number)
 
--- a line that says nothing may stand anywhere
 abbrev pub may_stand : Draft → ℕ → Option Line → Bool
 may_stand d at None = true
 may_stand d at (Some line) = is_some (placed d at line.item)

@@ -1,4 +1,4 @@
--- How forms are made.
+-- How forms are made: one more term among terms whose registers rise.
 use Rattle.std.specs.Prelude.{ℕ, ℤ, pos, ◌+ℤ◌, ◌==◌, Bool, nat_lt, List, unsigned_abs, Option}
 use Rattle.std.specs.Prelude.{Some, None, slice_get}
 use Rattle.std.specs.Prelude.{slice_set, insert, if◌then◌else◌}
@@ -6,8 +6,6 @@ use Rattle.std.specs.List.{prefix_len}
 use Rattle.linear.specs.declared.form.RegisterId.{RegisterId}
 use Rattle.linear.specs.declared.form.Term.{Term}
 use Rattle.linear.specs.Terms.{Combination}
-
--- ---- one more term among terms whose registers rise
 
 abbrev pub is_below : ℕ → Term → Bool
 is_below r t = nat_lt t.register.0 r

@@ -2,7 +2,6 @@
 use Rattle.std.specs.Prelude.{Bool, nat_lt, nat_eq, ◌&&◌, ◌||◌, if◌then◌else◌}
 use Rattle.refusal.specs.declared.broken.Broken.{Broken}
 
--- on a lower line, or on the same line and of a lower number
 abbrev pub is_before : Broken → Broken → Bool
 is_before a b = nat_lt a.line b.line || (nat_eq a.line b.line && nat_lt a.number b.number)
 

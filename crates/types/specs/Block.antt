@@ -24,7 +24,6 @@ head_of items scope block notes = made_of (λ p. record { keeps = p.0.0; pending
     (both_of (both_of (inequalities_of scope (place.Start block) notes.keeps) (all_pending_of items scope block
     notes.pending)) (both_of (left_of scope block notes.left) (zones_of items scope place.Body notes.foot)))
 
--- what stands behind them
 abbrev pub body_of : Items → List FunctionText → Named → Scope → ℕ → ℕ → ResultType → BlockText → Result Body TypeFault
 body_of items functions named scope function block result text =
     made_of (λ p. record { phis = p.0; steps = p.1.0; ending = p.1.1 }) (both_of (phis_of scope text.phis)

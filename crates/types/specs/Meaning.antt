@@ -56,7 +56,6 @@ abbrev pub program_from : Items → Named → Module → Result Program TypeFaul
 program_from items named whole = made_of (λ p. program_with whole p.0 p.1)
     (both_of (main_of items whole.functions) (functions_of items whole.functions named))
 
--- for each function of the module just the globals that it names, itself or by those that it calls
 abbrev pub IsNamedIn : Module → Named → Type 0
 IsNamedIn whole named = IsNamedTable (map (mentions_of (items_of whole)) whole.functions) (length whole.globals) named
 

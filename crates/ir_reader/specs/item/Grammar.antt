@@ -19,8 +19,6 @@ global_from at name g = item.Global (record { line = at; name = name; cells = g.
 abbrev pub define_from : Gaps define_shape → Item
 define_from g = item.Define g.1.0 g.0 g.1.1.0
 
--- Which kind a line is
-
 -- behind '%d =' and a word
 abbrev pub worded_definition : ℕ → List ℕ → List ℕ → List Symbol → Option Item
 worded_definition at d text rest = if bytes_eq text (codes "phi") then option_map (λ g. item.Phi (phi_from at d g))

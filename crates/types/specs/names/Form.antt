@@ -116,12 +116,10 @@ is_new others term = not (differs (coefficient_in others term.register) (pos 0))
 abbrev pub is_close : ℤ → ℤ → Bool
 is_close a b = int_le (negsuc 999999) (a -ℤ b) && int_le (a -ℤ b) (pos 1000000)
 
--- the terms of the difference of two forms keep their limits
 abbrev pub are_terms_within : List Term → List Term → Bool
 are_terms_within left right = nat_le (count_by (is_changed right) left + count_by (is_new left) right) 4 &&
     list_all (λ term. is_close term.coefficient (coefficient_in right term.register)) left
 
--- so does its constant
 abbrev pub is_within_numbers : ℤ → ℤ → Bool
 is_within_numbers a b = int_le (negsuc 9223372036854775806) (a -ℤ b) && int_le (a -ℤ b) (pos 9223372036854775807)
 
