@@ -63,7 +63,7 @@ compare_sums SignedLess true x y = above y x ∷ []
 compare_sums SignedLess false x y = at_least x y ∷ []
 compare_sums SignedAtMost true x y = at_least y x ∷ []
 compare_sums SignedAtMost false x y = above x y ∷ []
-compare_sums one other x y = []
+compare_sums predicate holds x y = []
 
 abbrev pub branch_sums : Option Comparison → Bool → List Sum
 branch_sums None holds = []
