@@ -88,8 +88,9 @@ IsFunctionBroken functions function tasks broken = (b : ℕ) × (block : Block) 
 
 -- 601 to 604
 abbrev pub IsZoneBroken : Program → Regions → Broken → Type 0
-IsZoneBroken program regions broken = (f : ℕ) × (function : Function) × (slice_get program.functions
-    f ≡ Some function) × IsFunctionBroken program.functions function (tasks_in (slice_get regions.functions f)) broken
+IsZoneBroken program regions broken = (f : ℕ) × (function : Function) ×
+    (slice_get program.functions f ≡ Some function) ×
+    IsFunctionBroken program.functions function (tasks_in (slice_get regions.functions f)) broken
 
 -- by this table of tasks none of these rules is broken
 abbrev pub AreZonesRightBy : Program → Regions → Type 0
