@@ -9,7 +9,8 @@ use Rattle.cfg.specs.declared.structure.BlockEdges.{BlockEdges}
 use Rattle.refusal.specs.declared.broken.Broken.{Broken}
 use Rattle.cfg.specs.Rules.{IsBlockRight, IsBlockBroken, IsFunctionRight, IsFunctionBroken}
 use Rattle.cfg.specs.Edges.{graph_of}
-use Rattle.refusal.specs.Earliest.{IsLowerOf, IsJudged}
+use Rattle.refusal.specs.Earliest.{IsJudged}
+use Rattle.refusal.specs.Named.{IsLowerOf}
 use Rattle.refusal.proofs.Places.{same_at}
 use Rattle.refusal.proofs.Judging.{judged_lower, judged_same}
 

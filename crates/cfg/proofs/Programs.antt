@@ -9,7 +9,8 @@ use Rattle.cfg.specs.declared.structure.FunctionGraph.{FunctionGraph}
 use Rattle.refusal.specs.declared.broken.Broken.{Broken}
 use Rattle.cfg.specs.Edges.{graph_of, graphs_of}
 use Rattle.cfg.specs.Rules.{IsFunctionRight, IsFunctionBroken, IsGraphRight, IsGraphBroken}
-use Rattle.refusal.specs.Earliest.{IsLowerOf, IsJudged}
+use Rattle.refusal.specs.Earliest.{IsJudged}
+use Rattle.refusal.specs.Named.{IsLowerOf}
 use Rattle.refusal.proofs.Judging.{judged_next}
 
 -- the functions so far: their graphs, and what is broken in them

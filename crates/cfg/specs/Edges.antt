@@ -7,7 +7,7 @@ use Rattle.program.specs.declared.instruction.Operand.{Operand}
 use Rattle.program.specs.declared.instruction.PhiEntry.{PhiEntry}
 use Rattle.program.specs.declared.instruction.Phi.{Phi}
 use Rattle.program.specs.declared.instruction.Terminator.{Terminator}
-use Rattle.program.specs.declared.instruction.Terminator.TheVariants.{Jump, Branch, Switch, Return, Detach, Reattach}
+use Rattle.program.specs.declared.instruction.Terminator.TheVariants.{Jump, Branch, Switch, Detach}
 use Rattle.program.specs.declared.instruction.Terminator.TheVariants.{Sync}
 use Rattle.program.specs.declared.instruction.Ending.{Ending}
 use Rattle.program.specs.declared.function.Block.{Block}
@@ -25,7 +25,6 @@ abbrev pub value_from : ℕ → List PhiEntry → Option Operand
 value_from from [] = None
 value_from from (e ∷ es) = if e.predecessor.0 == from then Some e.value else value_from from es
 
--- what a phi takes on an edge from this block
 abbrev pub move_from : ℕ → Phi → Option Move
 move_from from phi = option_map (λ v. record { register = phi.register; value = v }) (value_from from phi.entries)
 
@@ -35,9 +34,8 @@ moves_from from phis = filter_map (move_from from) phis
 
 -- the edge from a block to another; none where the function has no such block
 abbrev pub edge_to : List Block → ℕ → Way → BlockId → List Edge
-edge_to blocks from way to =
-    option_to_list (option_map (λ target. record { to = to; way = way; moves = moves_from from target.phis })
-    (slice_get blocks to.0))
+edge_to blocks from way to = option_to_list
+    (option_map (λ target. record { to = to; way = way; moves = moves_from from target.phis }) (slice_get blocks to.0))
 
 -- the edges of a terminator in its order; a reattach has none
 abbrev pub edges_along : List Block → ℕ → Terminator → List Edge
@@ -46,11 +44,10 @@ edges_along blocks from (Branch condition when_true when_false) = edge_to blocks
     edge_to blocks from ByBranch when_false
 edges_along blocks from (Switch width value default cases) = edge_to blocks from ByBranch default ++
     flat_map (λ c. edge_to blocks from ByBranch c.target) cases
-edges_along blocks from (Return value) = []
 edges_along blocks from (Detach region body continuation) = edge_to blocks from Detached body ++
     edge_to blocks from Continued continuation
-edges_along blocks from (Reattach region continuation) = []
 edges_along blocks from (Sync region target) = edge_to blocks from (Synced region) target
+edges_along blocks from other = []
 
 abbrev pub edges_at_end : List Block → ℕ → Option Ending → List Edge
 edges_at_end blocks from None = []

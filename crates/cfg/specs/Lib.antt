@@ -1,3 +1,4 @@
 pub mod Edges
 pub mod Paths
 pub mod Rules
+pub mod Reached

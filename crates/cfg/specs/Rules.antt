@@ -13,7 +13,6 @@ use Rattle.refusal.specs.declared.broken.Broken.{Broken}
 use Rattle.cfg.specs.Edges.{graph_of}
 use Rattle.cfg.specs.Paths.{edges_of, IsOnPath}
 
--- one of the edges leads to this block
 abbrev pub leads_to : ℕ → List Edge → Bool
 leads_to b edges = list_any (λ e. e.to.0 == b) edges
 
@@ -35,7 +34,6 @@ ArePhisMatched blocks b phis = All (λ phi. IsMatched blocks b phi.entries) phis
 abbrev pub IsLabelRight : List BlockEdges → ℕ → Type 0
 IsLabelRight blocks b = (b ≡ 0 → HasPredecessor blocks b → ⊥) × IsOnPath blocks b
 
--- the rules on the block of this number
 abbrev pub IsBlockRight : List BlockEdges → ℕ → Block → Type 0
 IsBlockRight blocks b block = ArePhisMatched blocks b block.phis × IsLabelRight blocks b × IsSome block.ending
 
@@ -43,7 +41,6 @@ abbrev pub IsFunctionRight : Function → Type 0
 IsFunctionRight function = (b : ℕ) (block : Block) → slice_get function.blocks b ≡ Some block →
     IsBlockRight (graph_of function).blocks b block
 
--- the rules on the graph hold of each function
 abbrev pub IsGraphRight : Program → Type 0
 IsGraphRight program = All IsFunctionRight program.functions
 
@@ -71,8 +68,7 @@ IsBlockBroken blocks b block broken = IsPhiBroken blocks b block.phis broken ⊎
     (IsLabelBroken blocks b block.line broken ⊎ IsEndBroken block broken)
 
 abbrev pub IsFunctionBroken : Function → Broken → Type 0
-IsFunctionBroken function broken =
-    (b : ℕ) × (block : Block) × (slice_get function.blocks b ≡ Some block) ×
+IsFunctionBroken function broken = (b : ℕ) × (block : Block) × (slice_get function.blocks b ≡ Some block) ×
     IsBlockBroken (graph_of function).blocks b block broken
 
 abbrev pub IsGraphBroken : Program → Broken → Type 0

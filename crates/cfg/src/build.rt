@@ -1,5 +1,5 @@
 ghost use Rattle.std.specs.Prelude.{◌≡◌, IfOk, IfErr};
-ghost use Rattle.refusal.specs.Earliest.{NamesEarliest};
+ghost use Rattle.refusal.specs.Named.{NamesEarliest};
 ghost use Rattle.cfg.specs.Rules.{IsGraphRight, IsGraphBroken};
 
 use crate::GraphFault;

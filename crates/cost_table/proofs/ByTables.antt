@@ -8,7 +8,8 @@ use Rattle.refusal.specs.Earliest.{IsEarliest}
 use Rattle.refusal.proofs.Elements.{earliest_same}
 use Rattle.ranges.specs.declared.table.BlockFacts.{BlockFacts}
 use Rattle.ranges.specs.declared.table.EdgeFacts.{EdgeFacts}
-use Rattle.ranges.specs.Places.{start_facts, facts_at_step, facts_at_end, edges_known, IsBlockTable, facts_in_table, edges_in_table}
+use Rattle.ranges.specs.Places.{start_facts, facts_at_step, facts_at_end, edges_known}
+use Rattle.ranges.specs.Tables.{IsBlockTable, facts_in_table, edges_in_table}
 use Rattle.cost_table.specs.Rules.{IsCallNotFalling, AreStepsNotFalling, IsEndingUncovered, IsBlockBrokenBy, IsBlockBroken}
 
 module _ (functions : List Function) (function : Function) (f b : ℕ) (block : Block) (table : BlockFacts) (t : IsBlockTable functions function b block table) (broken : Broken) where

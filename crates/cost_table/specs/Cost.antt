@@ -45,7 +45,6 @@ abbrev pub self_call : ℕ → Option ℕ → ℕ
 self_call self None = 0
 self_call self (Some callee) = if callee == self then 1 else 0
 
--- the self calls of steps
 abbrev pub self_calls_of : ℕ → List Step → ℕ
 self_calls_of self steps = sum_by (λ s. self_call self (callee_of s.instruction)) steps
 

@@ -6,7 +6,7 @@ use Rattle.program.specs.declared.function.Function.{Function}
 use Rattle.program.specs.declared.function.Program.{Program}
 use Rattle.program.specs.declared.instruction.Step.{Step}
 use Rattle.ranges.specs.region_match.declared.task.Task.{Task}
-use Rattle.ranges.specs.region_match.declared.task.Task.TheVariants.{Unreached, Body, Child}
+use Rattle.ranges.specs.region_match.declared.task.Task.TheVariants.{Child}
 use Rattle.ranges.specs.region_match.declared.tables.Regions.{Regions}
 use Rattle.ranges.specs.region_match.Tasks.{task_at, tasks_in}
 use Rattle.program.specs.Calls.{callee_of}
@@ -15,10 +15,8 @@ use Rattle.program.specs.Calls.{callee_of}
 
 -- the detaches on the way out of a block, from its innermost one on, of which there are at most this many
 abbrev pub detaches_within : List Task → ℕ → Task → ℕ
-detaches_within tasks zero task = 0
-detaches_within tasks (suc n) Unreached = 0
-detaches_within tasks (suc n) Body = 0
 detaches_within tasks (suc n) (Child detach) = suc (detaches_within tasks n (task_at tasks detach.0))
+detaches_within tasks one other = 0
 
 -- within how many detaches a block stands. No detach is within itself, so there are no more than blocks
 abbrev pub detaches_around : List Task → ℕ → ℕ

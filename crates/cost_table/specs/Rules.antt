@@ -2,9 +2,9 @@
 -- do from the block's start on.
 use Rattle.std.specs.Prelude.{◌≡◌, ◌⊎◌, ℕ, pos, negsuc, ◌-ℤ◌, Bool, false, ◌<◌, ◌≤◌, List, [], ◌++◌, Option, Some, None}
 use Rattle.std.specs.Prelude.{Any, slice_get}
-use Rattle.linear.specs.Forms.{Combination}
+use Rattle.linear.specs.Terms.{Combination}
 use Rattle.linear.specs.declared.form.Fact.{Fact}
-use Rattle.program.specs.Blocks.{left_calls, left_instructions}
+use Rattle.program.specs.Left.{left_calls, left_instructions}
 use Rattle.program.specs.declared.function.Block.{Block}
 use Rattle.program.specs.declared.function.Function.{Function}
 use Rattle.program.specs.declared.function.Program.{Program}
@@ -32,17 +32,13 @@ left_behind left done = record { constant = left.constant -ℤ pos done; parts =
 
 -- less a form, with the moves' operands put in
 abbrev pub less_form : Sum → List Move → Combination → Sum
-less_form s moves f = record {
-  constant = s.constant -ℤ f.constant;
-  parts = s.parts ++
-      parts_of moves (negsuc 0) f.terms;
-}
+less_form s moves f =
+    record { constant = s.constant -ℤ f.constant; parts = s.parts ++ parts_of moves (negsuc 0) f.terms }
 
 -- a form with the moves' operands put in
 abbrev pub put_in : List Move → Combination → Sum
 put_in moves f = record { constant = f.constant; parts = parts_of moves (pos 1) f.terms }
 
--- a number less a form
 abbrev pub number_less : ℕ → Combination → Sum
 number_less n f = record { constant = pos n -ℤ f.constant; parts = parts_of [] (negsuc 0) f.terms }
 
@@ -55,8 +51,7 @@ IsPairBroken number line calls instructions broken = (broken.number ≡ number) 
 -- ---- 701: at a block's start what is left is shown to be at least 0
 
 abbrev pub IsOverdrawn : List Fact → Block → Broken → Type 0
-IsOverdrawn known block broken =
-    IsPairBroken 701 block.left.line (shows known (left_behind block.left.self_calls 0))
+IsOverdrawn known block broken = IsPairBroken 701 block.left.line (shows known (left_behind block.left.self_calls 0))
     (shows known (left_behind block.left.instructions 0)) broken
 
 -- ---- 702: what is left of a block covers what it does and what is left where it goes on
@@ -64,26 +59,18 @@ IsOverdrawn known block broken =
 -- along an edge, with the phis of its target replaced
 abbrev pub IsEdgeUncovered : List Function → Function → ℕ → Block → ℕ → EdgeFacts → Broken → Type 0
 IsEdgeUncovered functions function f block line e broken =
-    IsPairBroken 702 line
-    (shows e.facts (less_form (left_behind block.left.self_calls (calls_done f block)) e.moves
-    (left_calls (slice_get function.blocks e.to.0))))
-    (shows e.facts
-    (less_form (left_behind block.left.instructions (instructions_done functions f block)) e.moves
-    (left_instructions (slice_get function.blocks e.to.0)))) broken
+    IsPairBroken 702 line (shows e.facts (less_form (left_behind block.left.self_calls (calls_done f block)) e.moves
+    (left_calls (slice_get function.blocks e.to.0)))) (shows e.facts (less_form (left_behind block.left.instructions
+    (instructions_done functions f block)) e.moves (left_instructions (slice_get function.blocks e.to.0)))) broken
 
 -- at a detach both targets together
 abbrev pub IsForkUncovered : List Function → Function → ℕ → Block → ℕ → List Fact → ℕ → ℕ → Broken → Type 0
 IsForkUncovered functions function f block line known body continuation broken =
-    IsPairBroken 702 line
-    (shows known
-    (less_form (less_form (left_behind block.left.self_calls (calls_done f block)) []
-    (left_calls (slice_get function.blocks body))) []
-    (left_calls (slice_get function.blocks continuation))))
-    (shows known
-    (less_form (less_form (left_behind block.left.instructions (instructions_done functions f block)) []
-    (left_instructions (slice_get function.blocks body))) [] (left_instructions
-    (slice_get function.blocks continuation))))
-    broken
+    IsPairBroken 702 line (shows known (less_form (less_form (left_behind block.left.self_calls (calls_done f block)) []
+    (left_calls (slice_get function.blocks body))) [] (left_calls (slice_get function.blocks continuation))))
+    (shows known (less_form (less_form (left_behind block.left.instructions (instructions_done functions f block)) []
+    (left_instructions (slice_get function.blocks body))) []
+    (left_instructions (slice_get function.blocks continuation)))) broken
 
 -- at a `ret` or `reattach` what the block does alone
 abbrev pub IsEndUncovered : List Function → ℕ → Block → ℕ → List Fact → Broken → Type 0
@@ -93,19 +80,13 @@ IsEndUncovered functions f block line known broken =
 
 abbrev pub IsUncoveredAt : List Function → Function → ℕ → Block → ℕ → List Fact → List EdgeFacts → Terminator → Broken →
     Type 0
-IsUncoveredAt functions function f block line known edges (terminator.Jump target) broken =
-    Any (λ e. IsEdgeUncovered functions function f block line e broken) edges
-IsUncoveredAt functions function f block line known edges (terminator.Branch condition when_true when_false) broken =
-    Any (λ e. IsEdgeUncovered functions function f block line e broken) edges
-IsUncoveredAt functions function f block line known edges (terminator.Switch width value default cases) broken =
-    Any (λ e. IsEdgeUncovered functions function f block line e broken) edges
 IsUncoveredAt functions function f block line known edges (terminator.Return value) broken =
     IsEndUncovered functions f block line known broken
 IsUncoveredAt functions function f block line known edges (terminator.Detach region body continuation) broken =
     IsForkUncovered functions function f block line known body.0 continuation.0 broken
 IsUncoveredAt functions function f block line known edges (terminator.Reattach region continuation) broken =
     IsEndUncovered functions f block line known broken
-IsUncoveredAt functions function f block line known edges (terminator.Sync region target) broken =
+IsUncoveredAt functions function f block line known edges other broken =
     Any (λ e. IsEdgeUncovered functions function f block line e broken) edges
 
 -- with what is known at the terminator and on the edges
@@ -125,28 +106,17 @@ IsUnbounded function known broken =
 -- the arguments' measure is at least 0 and less than the call's own
 abbrev pub IsNotFalling : Function → ℕ → List Fact → List Argument → Broken → Type 0
 IsNotFalling function line known arguments broken =
-    IsPairBroken 703 line (shows known (put_in (argument_moves 0 arguments) function.measure.form))
-    (shows known (less_form (left_behind function.measure.form 1) (argument_moves 0 arguments) function.measure.form))
-    broken
+    IsPairBroken 703 line (shows known (put_in (argument_moves 0 arguments) function.measure.form)) (shows known
+    (less_form (left_behind function.measure.form 1) (argument_moves 0 arguments) function.measure.form)) broken
 
 abbrev pub IsCallNotFalling : Function → ℕ → ℕ → List Fact → Instruction → Broken → Type 0
-IsCallNotFalling function f line known (instruction.Binary d operator width x y) broken = ⊥
-IsCallNotFalling function f line known (instruction.Compare d predicate width x y) broken = ⊥
-IsCallNotFalling function f line known (instruction.Convert d conversion x) broken = ⊥
-IsCallNotFalling function f line known (instruction.Alloca d alloca) broken = ⊥
-IsCallNotFalling function f line known (instruction.ElementPointer d object index) broken = ⊥
-IsCallNotFalling function f line known (instruction.Load d address) broken = ⊥
-IsCallNotFalling function f line known (instruction.Store x address) broken = ⊥
-IsCallNotFalling function f line known (instruction.StoreZeros cells object) broken = ⊥
-IsCallNotFalling function f line known (instruction.AtomicAdd address x) broken = ⊥
 IsCallNotFalling function f line known (instruction.Call d callee arguments) broken = (callee.0 ≡ f) ×
     IsNotFalling function line known arguments broken
-IsCallNotFalling function f line known (instruction.StartRegion d) broken = ⊥
+IsCallNotFalling function f line known other broken = ⊥
 
 -- at one of a block's steps, with what is known there
 abbrev pub AreStepsNotFalling : Function → ℕ → Block → (ℕ → List Fact) → Broken → Type 0
-AreStepsNotFalling function f block facts_at broken =
-    (i : ℕ) × (step : Step) × (slice_get block.steps i ≡ Some step) ×
+AreStepsNotFalling function f block facts_at broken = (i : ℕ) × (step : Step) × (slice_get block.steps i ≡ Some step) ×
     IsCallNotFalling function f step.line (facts_at i) step.instruction broken
 
 -- ---- 704: the budget covers what is left at the entry
@@ -166,16 +136,14 @@ IsTooCostly function broken = (broken.number ≡ 705) × (broken.line ≡ functi
 
 abbrev pub IsEntryBroken : Function → Option Block → Broken → Type 0
 IsEntryBroken function None broken = ⊥
-IsEntryBroken function (Some entry) broken =
-    IsUnbounded function (start_facts function 0 entry) broken ⊎
+IsEntryBroken function (Some entry) broken = IsUnbounded function (start_facts function 0 entry) broken ⊎
     IsOverBudget function (start_facts function 0 entry) entry broken
 
 -- with what is known at the block's start, at its steps, at its terminator and on its edges
 abbrev pub IsBlockBrokenBy : List Function → Function → ℕ → Block → List Fact → (ℕ → List Fact) → List Fact →
     List EdgeFacts → Broken → Type 0
-IsBlockBrokenBy functions function f block start facts_at known edges broken =
-    IsOverdrawn start block broken
-    ⊎ (IsEndingUncovered functions function f block known edges block.ending broken ⊎
+IsBlockBrokenBy functions function f block start facts_at known edges broken = IsOverdrawn start block broken ⊎
+    (IsEndingUncovered functions function f block known edges block.ending broken ⊎
     AreStepsNotFalling function f block facts_at broken)
 
 abbrev pub IsBlockBroken : List Function → Function → ℕ → ℕ → Block → Broken → Type 0
@@ -184,19 +152,16 @@ IsBlockBroken functions function f b block broken =
     (facts_at_end functions function b block) (edges_known functions function b block block.ending) broken
 
 abbrev pub AreBlocksBroken : List Function → ℕ → Function → Broken → Type 0
-AreBlocksBroken functions f function broken =
-    (b : ℕ) × (block : Block) × (slice_get function.blocks b ≡ Some block) ×
+AreBlocksBroken functions f function broken = (b : ℕ) × (block : Block) × (slice_get function.blocks b ≡ Some block) ×
     IsBlockBroken functions function f b block broken
 
 abbrev pub IsFunctionBroken : List Function → ℕ → Function → Broken → Type 0
-IsFunctionBroken functions f function broken =
-    AreBlocksBroken functions f function broken ⊎ (IsEntryBroken function (slice_get function.blocks 0) broken ⊎
-    IsTooCostly function broken)
+IsFunctionBroken functions f function broken = AreBlocksBroken functions f function broken ⊎
+    (IsEntryBroken function (slice_get function.blocks 0) broken ⊎ IsTooCostly function broken)
 
 -- 701 to 705
 abbrev pub IsCostBroken : Program → Broken → Type 0
-IsCostBroken program broken =
-    (f : ℕ) × (function : Function) × (slice_get program.functions f ≡ Some function) ×
+IsCostBroken program broken = (f : ℕ) × (function : Function) × (slice_get program.functions f ≡ Some function) ×
     IsFunctionBroken program.functions f function broken
 
 -- none of these rules is broken

@@ -2,7 +2,7 @@ ghost use Rattle.std.specs.Prelude.{◌≡◌, Some, IfOk, IfErr, OnOk, slice_ge
 ghost use Rattle.refusal.specs.declared.broken.Broken.{Broken};
 ghost use Rattle.refusal.specs.Earliest.{IsEarliest};
 ghost use Rattle.ranges.specs.Judged.{JudgesEarliest};
-ghost use Rattle.ranges.specs.Places.{IsFunctionTable, AreFacts, facts_in_table, edges_in_table};
+ghost use Rattle.ranges.specs.Tables.{IsFunctionTable, AreFacts, facts_in_table, edges_in_table};
 ghost use Rattle.cost_table.specs.Rules.{IsEndingUncovered, AreStepsNotFalling, IsEntryBroken, IsBlockBrokenBy, AreBlocksBroken, IsFunctionBroken};
 ghost use Rattle.cost_table.specs.Rules.{IsCostBroken};
 ghost use Rattle.cost_table.specs.Tables.{IsTable};

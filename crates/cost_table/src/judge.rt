@@ -1,11 +1,11 @@
 ghost use Rattle.std.specs.Prelude.{◌≡◌, ℕ, List, Any, false, IfOk, OnOk, slice_get, pos};
-ghost use Rattle.linear.specs.Forms.{constant_form};
+ghost use Rattle.linear.specs.Terms.{constant_form};
 ghost use Rattle.program.specs.declared.function.Function.{Function};
 ghost use Rattle.refusal.specs.declared.broken.Broken.{Broken};
 ghost use Rattle.refusal.specs.Earliest.{IsEarliest};
-ghost use Rattle.ranges.specs.Edges.{with_known, all_with_known};
+ghost use Rattle.ranges.specs.Tables.{with_known, all_with_known};
 ghost use Rattle.cost_table.specs.Rules.{IsPairBroken, IsOverdrawn, IsEdgeUncovered, IsForkUncovered, IsEndUncovered};
-ghost use Rattle.program.specs.Blocks.{left_calls, left_instructions};
+ghost use Rattle.program.specs.Left.{left_calls, left_instructions};
 ghost use Rattle.cost_table.specs.Rules.{IsUncoveredAt, IsUnbounded, IsNotFalling, IsCallNotFalling, IsOverBudget, IsTooCostly};
 ghost use Rattle.cost_table.specs.Doing.{IsWork};
 

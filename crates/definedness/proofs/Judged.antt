@@ -6,14 +6,16 @@ use Rattle.std.proofs.lemmas.List.{take_more}
 use Rattle.std.proofs.lemmas.List.Elements.{filter_map-append, Contains-append_left, Contains-append_right, Contains-append_cases, Contains-push, Contains-push_cases}
 use Rattle.std.proofs.lemmas.Option.{slice_get_past}
 use Rattle.refusal.specs.declared.broken.Broken.{Broken}
-use Rattle.refusal.specs.Earliest.{IsLowerOf, IsEarliest}
+use Rattle.refusal.specs.Earliest.{IsEarliest}
+use Rattle.refusal.specs.Named.{IsLowerOf}
 use Rattle.refusal.proofs.Elements.{earliest_same}
 use Rattle.definedness.specs.declared.act.Act.{Act}
 use Rattle.definedness.specs.declared.act.Act.TheVariants.{Needs, Gives}
 use Rattle.definedness.specs.declared.table.Row.{Row}
 use Rattle.definedness.specs.Acts.{given}
 use Rattle.definedness.specs.Judging.{IsNeedBrokenBy, IsGivenBy, MarksGiven}
-use Rattle.definedness.specs.Needs.{gives, mark_at, IsNeedBroken}
+use Rattle.definedness.specs.Needs.{gives, IsNeedBroken}
+use Rattle.definedness.specs.Marks.{mark_at}
 use Rattle.refusal.proofs.Places.{Below, below_nothing, below_next}
 
 abbrev pub BrokenAt : List Row → ℕ → ℕ → List Act → ℕ → Act → Broken → Type 0

@@ -11,7 +11,8 @@ use Rattle.definedness.specs.declared.act.Act.TheVariants.{Needs, Gives}
 use Rattle.definedness.specs.declared.act.BlockActs.{BlockActs}
 use Rattle.definedness.specs.declared.table.Given.{Given}
 use Rattle.definedness.specs.declared.table.Row.{Row}
-use Rattle.definedness.specs.Needs.{numbers_of, numbers_at, mark_at, IsNeedBelow, AreNeedsBelow}
+use Rattle.definedness.specs.Needs.{numbers_of, numbers_at}
+use Rattle.definedness.specs.Marks.{mark_at, IsNeedBelow, AreNeedsBelow}
 use Rattle.refusal.proofs.Places.{read_at}
 
 -- the marks of the first blocks

@@ -18,7 +18,8 @@ use Rattle.definedness.specs.declared.table.Given.{Given}
 use Rattle.definedness.specs.declared.table.Row.{Row}
 use Rattle.definedness.specs.Definedness.{registers_from, register_table, alloca_table, IsUndefined, IsUnsure}
 use Rattle.definedness.specs.Missing.{IsMissing}
-use Rattle.definedness.specs.Needs.{gives, given_of, mark_at, IsNeedBelow, AreNeedsBelow, IsNeedBroken, IsTableBroken}
+use Rattle.definedness.specs.Needs.{gives, given_of, IsNeedBroken, IsTableBroken}
+use Rattle.definedness.specs.Marks.{mark_at, IsNeedBelow, AreNeedsBelow}
 use Rattle.definedness.specs.AllocaActs.{alloca_acts}
 use Rattle.definedness.specs.RegisterActs.{register_acts}
 use Rattle.definedness.specs.Sure.{IsNeverSure}

@@ -1,15 +1,13 @@
 -- The rules on definedness: what is broken in a module.
-use Rattle.std.specs.Prelude.{◌≡◌, ◌⊎◌, ℕ, suc, List, [], ◌∷◌, ◌++◌, map, take, Some, Any, Contains, slice_get}
+use Rattle.std.specs.Prelude.{◌⊎◌, ℕ, suc, List, [], ◌∷◌, map, Any}
 use Rattle.program.specs.declared.function.Block.{Block}
 use Rattle.program.specs.declared.function.Function.{Function}
 use Rattle.program.specs.declared.function.Program.{Program}
 use Rattle.refusal.specs.declared.broken.Broken.{Broken}
 use Rattle.cfg.specs.Edges.{graph_of}
-use Rattle.cfg.specs.Paths.{Leg, IsPath}
-use Rattle.definedness.specs.declared.act.Act.TheVariants.{Needs}
 use Rattle.definedness.specs.declared.act.BlockActs.{BlockActs}
-use Rattle.definedness.specs.Missing.{defined_along, IsMissing}
-use Rattle.definedness.specs.Needs.{gives, given_of, IsTableBroken}
+use Rattle.definedness.specs.Missing.{IsMissing}
+use Rattle.definedness.specs.Needs.{given_of, IsTableBroken}
 use Rattle.definedness.specs.AllocaActs.{alloca_acts}
 use Rattle.definedness.specs.RegisterActs.{register_acts}
 use Rattle.definedness.specs.Sure.{IsNeverSure}
@@ -25,17 +23,8 @@ register_table function = registers_from function 0 function.blocks
 
 -- 401: a use of a register, and a path from the entry to it on which no definition of the register stands before it
 abbrev pub IsUndefined : Function → Broken → Type 0
-IsUndefined function broken =
-    IsTableBroken (IsMissing (graph_of function).blocks (map given_of (register_table function))) 401
-    (register_table function) broken
-
--- on each path from the entry to a use of a register, a definition of it stands before the use
-abbrev pub AreRegistersDefined : Function → Type 0
-AreRegistersDefined function =
-    (b : ℕ) (block : BlockActs) (k n line : ℕ) (legs : List Leg)
-    → slice_get (register_table function) b ≡ Some block → slice_get block.acts k ≡ Some (Needs n line) →
-    IsPath (graph_of function).blocks 0 legs b
-    → Contains (defined_along (map given_of (register_table function)) legs ++ gives (take k block.acts)) n
+IsUndefined function broken = IsTableBroken (IsMissing (graph_of function).blocks
+    (map given_of (register_table function))) 401 (register_table function) broken
 
 abbrev pub alloca_table : Function → List BlockActs
 alloca_table function = map (λ block. record { acts = alloca_acts function.allocas block }) function.blocks
@@ -43,9 +32,8 @@ alloca_table function = map (λ block. record { acts = alloca_acts function.allo
 -- 402: a load or the passing of an alloca that nothing before it in its block stores, where no labelling has the alloca
 -- for sure when the block begins
 abbrev pub IsUnsure : Function → Broken → Type 0
-IsUnsure function broken =
-    IsTableBroken (IsNeverSure function.blocks (graph_of function).blocks (map given_of (alloca_table function))) 402
-    (alloca_table function) broken
+IsUnsure function broken = IsTableBroken (IsNeverSure function.blocks (graph_of function).blocks
+    (map given_of (alloca_table function))) 402 (alloca_table function) broken
 
 abbrev pub IsFunctionBroken : Function → Broken → Type 0
 IsFunctionBroken function broken = IsUndefined function broken ⊎ IsUnsure function broken

@@ -4,7 +4,7 @@ use Rattle.refusal.specs.declared.broken.Broken.{Broken}
 use Rattle.definedness.specs.declared.act.Act.{Act}
 use Rattle.definedness.specs.declared.act.Act.TheVariants.{Needs, Gives}
 use Rattle.definedness.specs.declared.table.Row.{Row}
-use Rattle.definedness.specs.Needs.{mark_at}
+use Rattle.definedness.specs.Marks.{mark_at}
 
 -- the act needs what is marked as lacking and not as defined here
 abbrev pub IsNeedBrokenBy : List Row → List Bool → ℕ → ℕ → Act → Broken → Type 0

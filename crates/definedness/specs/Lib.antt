@@ -8,3 +8,5 @@ pub mod Needs
 pub mod RegisterActs
 pub mod Settling
 pub mod Sure
+pub mod Marks
+pub mod Defined

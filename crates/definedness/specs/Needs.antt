@@ -1,6 +1,5 @@
 -- Needs that nothing before them meets.
-use Rattle.std.specs.Prelude.{◌≡◌, ℕ, ◌<◌, Bool, false, List, [], take, Option, Some, None, All, Contains, slice_get}
-use Rattle.std.specs.Prelude.{slice_index_or}
+use Rattle.std.specs.Prelude.{◌≡◌, ℕ, List, [], take, Option, Some, None, Contains, slice_get}
 use Rattle.std.specs.List.{filter_map}
 use Rattle.refusal.specs.declared.broken.Broken.{Broken}
 use Rattle.definedness.specs.Acts.{given}
@@ -8,16 +7,9 @@ use Rattle.definedness.specs.declared.act.Act.{Act}
 use Rattle.definedness.specs.declared.act.Act.TheVariants.{Needs, Gives}
 use Rattle.definedness.specs.declared.act.BlockActs.{BlockActs}
 use Rattle.definedness.specs.declared.table.Given.{Given}
-use Rattle.definedness.specs.declared.table.Row.{Row}
 
--- what acts define, in their order
 abbrev pub gives : List Act → List ℕ
 gives acts = filter_map given acts
-
--- what a block does; nothing where there is none
-abbrev pub acts_of : Option BlockActs → List Act
-acts_of None = []
-acts_of (Some block) = block.acts
 
 -- an act needs what is not defined before it, and the block lacks it at its start
 abbrev pub IsNeedBroken : (ℕ → Type 0) → ℕ → List ℕ → Act → Broken → Type 0
@@ -34,8 +26,6 @@ abbrev pub IsTableBroken : (ℕ → ℕ → Type 0) → ℕ → List BlockActs �
 IsTableBroken Lacks rule table broken = (b : ℕ) × (block : BlockActs) × (slice_get table b ≡ Some block) ×
     IsBlockBroken (λ n. Lacks n b) rule block.acts broken
 
--- ---- tables
-
 abbrev pub numbers_of : Option Given → List ℕ
 numbers_of None = []
 numbers_of (Some block) = block.numbers
@@ -45,19 +35,3 @@ numbers_at all b = numbers_of (slice_get all b)
 
 abbrev pub given_of : BlockActs → Given
 given_of block = record { numbers = gives block.acts }
-
-abbrev pub mark_of : Option Row → ℕ → Bool
-mark_of None b = false
-mark_of (Some row) b = slice_index_or row.marks b false
-
--- a row for each number, with a mark for each block
-abbrev pub mark_at : List Row → ℕ → ℕ → Bool
-mark_at rows n b = mark_of (slice_get rows n) b
-
-abbrev pub IsNeedBelow : ℕ → Act → Type 0
-IsNeedBelow m (Needs n line) = n < m
-IsNeedBelow m (Gives n) = Unit {0}
-
--- each number that a block needs is below this one
-abbrev pub AreNeedsBelow : ℕ → List BlockActs → Type 0
-AreNeedsBelow m table = All (λ block. All (IsNeedBelow m) block.acts) table

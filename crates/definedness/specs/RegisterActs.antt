@@ -6,7 +6,7 @@ use Rattle.std.specs.Prelude.{slice_get}
 use Rattle.std.specs.List.{flat_map}
 use Rattle.linear.specs.declared.form.RegisterId.{RegisterId}
 use Rattle.linear.specs.declared.form.Term.{Term}
-use Rattle.linear.specs.Forms.{Combination}
+use Rattle.linear.specs.Terms.{Combination}
 use Rattle.program.specs.declared.annotation.Inequality.{Inequality}
 use Rattle.program.specs.declared.annotation.Left.{Left}
 use Rattle.program.specs.declared.annotation.Pending.{Pending}
@@ -82,7 +82,6 @@ instruction_needs allocas line (Binary register operator width left right) = ope
 instruction_needs allocas line (Compare register predicate width left right) = operand_needs line left ++
     operand_needs line right
 instruction_needs allocas line (Convert register conversion value) = operand_needs line value
-instruction_needs allocas line (Alloca register alloca) = []
 instruction_needs allocas line (ElementPointer register name index) = object_needs allocas line name ++
     operand_needs line index
 instruction_needs allocas line (Load register address) = address_needs allocas line address
@@ -91,9 +90,8 @@ instruction_needs allocas line (StoreZeros cells name) = object_needs allocas li
 instruction_needs allocas line (AtomicAdd address value) = address_needs allocas line address ++
     operand_needs line value
 instruction_needs allocas line (Call register callee arguments) = flat_map (argument_needs allocas line) arguments
-instruction_needs allocas line (StartRegion register) = []
+instruction_needs allocas line other = []
 
--- the register that an instruction defines
 abbrev pub definition_of : Instruction → Option RegisterId
 definition_of (Binary register operator width left right) = Some register
 definition_of (Compare register predicate width left right) = Some register
@@ -101,11 +99,9 @@ definition_of (Convert register conversion value) = Some register
 definition_of (Alloca register alloca) = Some register
 definition_of (ElementPointer register name index) = Some register
 definition_of (Load register address) = Some register
-definition_of (Store value address) = None
-definition_of (StoreZeros cells name) = None
-definition_of (AtomicAdd address value) = None
 definition_of (Call register callee arguments) = register
 definition_of (StartRegion register) = Some register
+definition_of other = None
 
 abbrev pub definition_gives : Option RegisterId → List Act
 definition_gives None = []
@@ -147,9 +143,7 @@ abbrev pub phi_gives : Phi → List Act
 phi_gives phi = Gives phi.register.0 ∷ []
 
 abbrev pub note_needs : List AllocaOf → Block → List Act
-note_needs allocas block =
-    flat_map inequality_needs block.keeps
-    ++ (flat_map (pending_needs allocas) block.pending ++
+note_needs allocas block = flat_map inequality_needs block.keeps ++ (flat_map (pending_needs allocas) block.pending ++
     (left_needs block.left ++ flat_map (zone_needs allocas) block.foot))
 
 -- the registers below this number are defined

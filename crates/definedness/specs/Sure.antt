@@ -12,7 +12,6 @@ pub use Rattle.definedness_allocas.specs.Labels.{Labels, IsHeld, IsAdded, IsLabe
 use Rattle.definedness.specs.declared.table.Given.{Given}
 use Rattle.definedness.specs.Needs.{numbers_at}
 
--- the block stores the alloca
 abbrev pub IsStored : List Given → ℕ → ℕ → Type 0
 IsStored all alloca b = Contains (numbers_at all b) alloca
 
@@ -28,7 +27,6 @@ IsReattach terminator = (region : RegisterId) × (continuation : BlockId) ×
 abbrev pub IsEndOf : List Block → List BlockEdges → ℕ → ℕ → Type 0
 IsEndOf bodies blocks detach b = IsReattach (ending_at bodies b) × (outer : List ℕ) × HasTask blocks b (detach ∷ outer)
 
--- a labelling of an alloca
 abbrev pub AreSets : List Block → List BlockEdges → List Given → ℕ → Labels → Type 0
 AreSets bodies blocks all alloca l = IsLabelling (IsStored all alloca) (IsFork bodies) (IsEndOf bodies blocks) blocks l
 

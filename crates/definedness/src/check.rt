@@ -1,10 +1,12 @@
 ghost use Rattle.std.specs.Prelude.{◌≡◌, ◌<◌, ◌≤◌, ◌↔◌, ℕ, true, length, All, IfOk, IfErr};
 ghost use Rattle.cfg.specs.Edges.{graph_of};
-ghost use Rattle.refusal.specs.Earliest.{IsEarliest, NamesEarliest};
+ghost use Rattle.refusal.specs.Earliest.{IsEarliest};
+ghost use Rattle.refusal.specs.Named.{NamesEarliest};
 ghost use Rattle.region_match.specs.Tasks.{AreTasks, AreAllTasks};
-ghost use Rattle.definedness.specs.Needs.{mark_at};
+ghost use Rattle.definedness.specs.Marks.{mark_at};
 ghost use Rattle.definedness.specs.Sure.{IsNeverSure};
-ghost use Rattle.definedness.specs.Definedness.{register_table, alloca_table, AreRegistersDefined, IsUndefined, IsUnsure, IsFunctionBroken};
+ghost use Rattle.definedness.specs.Definedness.{register_table, alloca_table, IsUndefined, IsUnsure, IsFunctionBroken};
+ghost use Rattle.definedness.specs.Defined.{AreRegistersDefined};
 ghost use Rattle.definedness.specs.Definedness.{IsDefinednessBroken};
 
 use crate::DefinedFault;

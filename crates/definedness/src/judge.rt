@@ -1,7 +1,8 @@
 ghost use Rattle.std.specs.Prelude.{◌≡◌, ◌<◌, ◌↔◌, ◌++◌, ℕ, true, false, length, take, Contains, IfOk, slice_index_or};
 ghost use Rattle.refusal.specs.Earliest.{IsEarliest};
 ghost use Rattle.definedness.specs.Judging.{IsNeedBrokenBy, MarksGiven};
-ghost use Rattle.definedness.specs.Needs.{gives, mark_at, IsNeedBroken, IsBlockBroken, IsTableBroken};
+ghost use Rattle.definedness.specs.Needs.{gives, IsNeedBroken, IsBlockBroken, IsTableBroken};
+ghost use Rattle.definedness.specs.Marks.{mark_at};
 
 use crate::act::{Act, BlockActs};
 use crate::table::{Row, is_marked};

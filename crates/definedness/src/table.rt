@@ -1,5 +1,6 @@
 ghost use Rattle.std.specs.Prelude.{◌≡◌, ◌<◌, ◌≤◌, ◌↔◌, ℕ, suc, true, false, length, map, All, Contains, IsTrue, IfOk, slice_index_or};
-ghost use Rattle.definedness.specs.Needs.{gives, given_of, numbers_at, mark_at, IsNeedBelow, AreNeedsBelow};
+ghost use Rattle.definedness.specs.Needs.{gives, given_of, numbers_at};
+ghost use Rattle.definedness.specs.Marks.{mark_at, IsNeedBelow, AreNeedsBelow};
 
 use crate::act::{Act, BlockActs};
 use lists::Seq;

@@ -2,7 +2,7 @@ ghost use Rattle.std.specs.Prelude.{◌≡◌, ◌<◌, ◌≤◌, ◌↔◌, �
 ghost use Rattle.program.specs.declared.function.Block.{Block};
 ghost use Rattle.definedness_allocas.specs.declared.fork.Fork.{Fork};
 ghost use Rattle.definedness.specs.ForkOf.{IsForkOf};
-ghost use Rattle.definedness.specs.Needs.{mark_at};
+ghost use Rattle.definedness.specs.Marks.{mark_at};
 ghost use Rattle.definedness.specs.Sure.{IsNeverSure};
 ghost use Rattle.definedness_allocas.specs.Sets.{label_of};
 ghost use Rattle.definedness.specs.Settling.{AreNeverSure};

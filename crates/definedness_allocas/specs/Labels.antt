@@ -4,7 +4,7 @@ use Rattle.std.specs.Prelude.{◌≡◌, ◌⊎◌, ℕ, Bool, true, false, List
 use Rattle.linear.specs.declared.form.RegisterId.{RegisterId}
 use Rattle.cfg.specs.declared.structure.BlockEdges.{BlockEdges}
 use Rattle.cfg.specs.declared.structure.Way.{Way}
-use Rattle.cfg.specs.declared.structure.Way.TheVariants.{Branch, Detached, Continued, Synced}
+use Rattle.cfg.specs.declared.structure.Way.TheVariants.{Continued, Synced}
 use Rattle.cfg.specs.Paths.{edges_of}
 
 -- of one alloca: whether it is in the set of a region (with no region: the sure one) at the start of a block
@@ -19,17 +19,14 @@ IsHeld Stores l region b = (l None b ≡ true) ⊎ ((l region b ≡ true) ⊎ St
 -- due set of the detach's region; behind a sync, what was due is sure
 abbrev pub IsAdded : (ℕ → Type 0) → (ℕ → RegisterId → Type 0) → (ℕ → ℕ → Type 0) → Labels → Option RegisterId → ℕ →
     Way → Type 0
-IsAdded Stores Forks Ends l region from Branch = ⊥
-IsAdded Stores Forks Ends l region from Detached = ⊥
 IsAdded Stores Forks Ends l region from Continued =
     (its : RegisterId) × (region ≡ Some its) × Forks from its × ((end : ℕ) → Ends from end → IsHeld Stores l None end)
 IsAdded Stores Forks Ends l region from (Synced its) = IsHeld Stores l (Some its) from
+IsAdded Stores Forks Ends l region from other = ⊥
 
 -- nothing is in a set when the function begins, and a set never holds more than each edge gives
 pub record IsLabelling (Stores : ℕ → Type 0) (Forks : ℕ → RegisterId → Type 0) (Ends : ℕ → ℕ →
     Type 0) (blocks : List BlockEdges) (l : Labels) : Type 0 where
   pub entry : (region : Option RegisterId) → l region 0 ≡ false
-  pub edges : (a : ℕ)
-      → All (λ e. (region : Option RegisterId) → l region e.to.0 ≡ true → IsHeld Stores l region a ⊎
-      IsAdded Stores Forks Ends l region a e.way)
-      (edges_of blocks a)
+  pub edges : (a : ℕ) → All (λ e. (region : Option RegisterId) → l region e.to.0 ≡ true → IsHeld Stores l region a ⊎
+      IsAdded Stores Forks Ends l region a e.way) (edges_of blocks a)

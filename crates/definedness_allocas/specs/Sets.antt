@@ -4,7 +4,7 @@ use Rattle.std.specs.Prelude.{count_by, slice_get, slice_index_or}
 use Rattle.std.specs.List.{list_any}
 use Rattle.linear.specs.declared.form.RegisterId.{RegisterId}
 use Rattle.cfg.specs.declared.structure.Way.{Way}
-use Rattle.cfg.specs.declared.structure.Way.TheVariants.{Branch, Detached, Continued, Synced}
+use Rattle.cfg.specs.declared.structure.Way.TheVariants.{Continued, Synced}
 use Rattle.definedness_allocas.specs.declared.fork.Fork.{Fork}
 use Rattle.definedness_allocas.specs.declared.sets.Label.{Label}
 use Rattle.definedness_allocas.specs.declared.sets.Label.TheVariants.{Sure, Due}
@@ -67,18 +67,14 @@ EdgeGives stops forks l k from way = IsHeld (Stores stops) l k from ⊎
 
 -- behind a sync all is sure, where it was due
 abbrev pub IsOver : List Bool → Labels → ℕ → Way → Type 0
-IsOver stops l from Branch = ⊥
-IsOver stops l from Detached = ⊥
-IsOver stops l from Continued = ⊥
 IsOver stops l from (Synced its) = IsHeldBy stops l (Some its) from
+IsOver stops l from other = ⊥
 
 -- along a continuation the child of the detach brings the alloca into the set of its region
 abbrev pub IsJoined : List Bool → List Fork → Labels → ℕ → Way → RegisterId → Type 0
-IsJoined stops forks l from Branch region = ⊥
-IsJoined stops forks l from Detached region = ⊥
 IsJoined stops forks l from Continued region = Forks forks from region ×
     ((end : ℕ) → Ends forks from end → IsHeldBy stops l None end)
-IsJoined stops forks l from (Synced its) region = ⊥
+IsJoined stops forks l from other region = ⊥
 
 -- ---- what is kept beside the labels
 

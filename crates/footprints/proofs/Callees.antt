@@ -5,8 +5,9 @@ use Rattle.std.proofs.lemmas.List.Folds.{list_all_more}
 use Rattle.program.specs.declared.annotation.Zone.{Zone}
 use Rattle.program.specs.declared.instruction.Argument.{Argument}
 use Rattle.footprints_feet.specs.footprints_zones.declared.place.Use.{Use}
-use Rattle.footprints_feet.specs.Feet.{joined_use}
-use Rattle.footprints.specs.Footprints.{Place, is_put_allowed, is_put_clear, put_in, put_use}
+use Rattle.footprints_feet.specs.Used.{joined_use}
+use Rattle.footprints.specs.Footprints.{Place, is_put_allowed, is_put_clear, put_in}
+use Rattle.footprints.specs.Touched.{put_use}
 
 -- what a call touches in these zones of its callee
 abbrev pub zones_use : Place → List Argument → List Zone → Use

@@ -6,7 +6,7 @@ use Rattle.std.proofs.lemmas.Int.{ints}
 use Rattle.std.proofs.lemmas.List.Folds.{Any-from_list_any}
 use Rattle.linear.specs.declared.form.Term.{Term}
 use Rattle.linear.specs.declared.form.Fact.{Fact}
-use Rattle.linear.specs.Forms.{Combination}
+use Rattle.linear.specs.Terms.{Combination}
 use Rattle.ranges.specs.linear_shown.Shown.{AllHold}
 use Rattle.linear.proofs.Values.{distributes, associates}
 use Rattle.program.specs.declared.annotation.Zone.{Zone}

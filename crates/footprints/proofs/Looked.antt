@@ -6,7 +6,8 @@ use Rattle.program.specs.Steps.{or_else}
 use Rattle.footprints.specs.declared.access.Cell.{Cell}
 use Rattle.footprints.specs.declared.access.Pointer.{Pointer}
 use Rattle.footprints.specs.Footprints.{pointed}
-use Rattle.footprints.specs.Pointers.{defined_pointer, with_pointer, pointers_of, pointed_by}
+use Rattle.footprints.specs.Pointers.{defined_pointer, with_pointer, pointed_by}
+use Rattle.footprints.specs.Touched.{pointers_of}
 
 either : (b : Bool) (x : Cell) (one rest : Option Cell) → one ≡ rest → (if b then Some x else one) ≡ or_else (if b then Some x else None) rest
 either true x one rest h = refl

@@ -1,14 +1,13 @@
 -- The rules on zones, over the places and edges of a function.
-use Rattle.std.specs.Prelude.{ℕ, ◌==◌, pos, ◌+ℤ◌, ℤ, Bool, true, false, not, ◌&&◌, ◌||◌, if◌then◌else◌, List, [], ◌∷◌}
+use Rattle.std.specs.Prelude.{ℕ, ◌==◌, pos, ◌+ℤ◌, ℤ, Bool, true, false, not, ◌&&◌, ◌||◌, List, [], ◌∷◌}
 use Rattle.std.specs.Prelude.{Option, Some, None, slice_get}
 use Rattle.std.specs.List.{list_any, list_all}
 use Rattle.std.specs.Option.{option_map}
 use Rattle.syntax.specs.declared.operator.Mode.{Mode}
 use Rattle.syntax.specs.declared.operator.Mode.TheVariants.{Reads, Writes, Adds}
-use Rattle.linear.specs.declared.form.Fact.{Fact}
 use Rattle.linear.specs.declared.form.RegisterId.{RegisterId}
 use Rattle.linear.specs.declared.form.Term.{Term}
-use Rattle.linear.specs.Forms.{Combination}
+use Rattle.linear.specs.Terms.{Combination}
 use Rattle.program.specs.declared.annotation.Pending.{Pending}
 use Rattle.program.specs.declared.annotation.Zone.{Zone}
 use Rattle.program.specs.declared.identifier.ObjectName.{ObjectName}
@@ -28,7 +27,7 @@ use Rattle.program.specs.declared.function.Block.{Block}
 use Rattle.program.specs.declared.function.Function.{Function}
 use Rattle.program.specs.Steps.{first_said}
 use Rattle.ranges.specs.cfg.declared.structure.Way.{Way}
-use Rattle.ranges.specs.cfg.declared.structure.Way.TheVariants.{Branch, Detached, Continued, Synced}
+use Rattle.ranges.specs.cfg.declared.structure.Way.TheVariants.{Detached, Continued, Synced}
 use Rattle.ranges.specs.declared.table.EdgeFacts.{EdgeFacts}
 use Rattle.ranges.specs.ranges_owed.Inequalities.{argument_moves}
 use Rattle.footprints.specs.declared.access.Cell.{Cell}
@@ -73,33 +72,23 @@ form_at x offset = record { terms = operand_terms x; constant = operand_constant
 
 -- so many cells of an object from an index on
 abbrev pub cells_zone : ℕ → Mode → Cell → ℕ → Zone
-cells_zone line mode cell count = record {
-  line = line;
-  mode = mode;
-  object = cell.object;
-  low = form_at cell.index 0;
-  high = form_at cell.index count;
-}
+cells_zone line mode cell count = record
+    { line = line; mode = mode; object = cell.object; low = form_at cell.index 0; high = form_at cell.index count }
 
 -- ---- what a step or a terminator touches
 
 -- 601: an access; one through a pointer of another block is not covered
 abbrev pub access_use : Place → Option Zone → Use
 access_use p None = record { number = 601; covered = false; clear = true }
-access_use p (Some z) = record {
-  number = 601;
-  covered = is_allowed p (as_written z);
-  clear =
-      is_clear p (as_written z);
-}
+access_use p (Some z) =
+    record { number = 601; covered = is_allowed p (as_written z); clear = is_clear p (as_written z) }
 
 abbrev pub cell_use : Place → ℕ → Mode → Option Cell → Use
 cell_use p line mode cell = access_use p (option_map (λ c. cells_zone line mode c 1) cell)
 
 abbrev pub argument_object : Option Argument → Option ObjectName
-argument_object None = None
-argument_object (Some (argument.Number x)) = None
 argument_object (Some (argument.Object o)) = Some o
+argument_object other = None
 
 -- the caller's object behind a callee's name
 abbrev pub put_object : List Argument → ObjectName → Option ObjectName
@@ -119,10 +108,6 @@ abbrev pub is_put_clear : Place → Option Span → Bool
 is_put_clear p None = true
 is_put_clear p (Some y) = is_clear p y
 
--- 604: a callee's zone
-abbrev pub put_use : Place → Option Span → Use
-put_use p y = record { number = 604; covered = is_put_allowed p y; clear = is_put_clear p y }
-
 -- 604: a callee's zones
 abbrev pub callee_use : Place → Function → List Argument → Use
 callee_use p callee arguments = record {
@@ -136,11 +121,6 @@ call_use p None arguments = no_use
 call_use p (Some callee) arguments = callee_use p callee arguments
 
 abbrev pub step_use : Place → List Function → List Step → ℕ → Instruction → Use
-step_use p functions steps line (instruction.Binary d operator width x y) = no_use
-step_use p functions steps line (instruction.Compare d predicate width x y) = no_use
-step_use p functions steps line (instruction.Convert d conversion x) = no_use
-step_use p functions steps line (instruction.Alloca d alloca) = no_use
-step_use p functions steps line (instruction.ElementPointer d object index) = no_use
 step_use p functions steps line (instruction.Load d address) = cell_use p line Reads (address_cell steps address)
 step_use p functions steps line (instruction.Store x address) = cell_use p line Writes (address_cell steps address)
 step_use p functions steps line (instruction.StoreZeros cells object) =
@@ -148,21 +128,15 @@ step_use p functions steps line (instruction.StoreZeros cells object) =
 step_use p functions steps line (instruction.AtomicAdd address x) = cell_use p line Adds (address_cell steps address)
 step_use p functions steps line (instruction.Call d callee arguments) =
     call_use p (slice_get functions callee.0) arguments
-step_use p functions steps line (instruction.StartRegion d) = no_use
+step_use p functions steps line other = no_use
 
 abbrev pub foot_of : Option Block → List Zone
 foot_of None = []
 foot_of (Some block) = block.foot
 
--- the foot of the child of a detach
 abbrev pub child_foot : List Block → Terminator → List Zone
-child_foot blocks (terminator.Jump target) = []
-child_foot blocks (terminator.Branch condition when_true when_false) = []
-child_foot blocks (terminator.Switch width value default cases) = []
-child_foot blocks (terminator.Return value) = []
 child_foot blocks (terminator.Detach region body continuation) = foot_of (slice_get blocks body.0)
-child_foot blocks (terminator.Reattach region continuation) = []
-child_foot blocks (terminator.Sync region target) = []
+child_foot blocks other = []
 
 -- what a terminator touches: the foot of a new child
 abbrev pub end_use : Place → List Block → Terminator → Use
@@ -172,21 +146,14 @@ end_use p blocks t = foot_use p (child_foot blocks t)
 
 -- whether what is pending of a region goes on along an edge
 abbrev pub hands_on : Way → RegisterId → Bool
-hands_on Branch region = true
 hands_on Detached region = false
-hands_on Continued region = true
 hands_on (Synced synced) region = not (synced.0 == region.0)
-
--- an edge where these facts are all that is known
-abbrev pub with_facts : List Fact → EdgeFacts → EdgeFacts
-with_facts facts e = record { to = e.to; way = e.way; moves = e.moves; facts = facts }
+hands_on other region = true
 
 -- 603: what is pending of the region at the target, with what its phis take put in, covers it
 unfoldable pub is_passed : EdgeFacts → List Pending → RegisterId → Zone → Bool
-is_passed e waiting region z =
-    is_empty e.facts (as_written z)
-    || list_any (λ (q : Pending). (q.region.0 == region.0) && covers e.facts (span q.zone.object e.moves q.zone)
-    (as_written z)) waiting
+is_passed e waiting region z = is_empty e.facts (as_written z) || list_any (λ (q : Pending). (q.region.0 == region.0) &&
+    covers e.facts (span q.zone.object e.moves q.zone) (as_written z)) waiting
 
 abbrev pub are_passed : EdgeFacts → List Pending → List Pending → Bool
 are_passed e waiting pending =
@@ -197,17 +164,9 @@ foot_passed e waiting region foot = list_all (λ (z : Zone). is_passed e waiting
 
 -- a new child's foot, on the edge to the continuation
 abbrev pub child_passed_on : List Block → EdgeFacts → List Pending → Way → Terminator → Bool
-child_passed_on blocks e waiting Branch t = true
-child_passed_on blocks e waiting Detached t = true
-child_passed_on blocks e waiting (Synced region) t = true
-child_passed_on blocks e waiting Continued (terminator.Jump target) = true
-child_passed_on blocks e waiting Continued (terminator.Branch condition when_true when_false) = true
-child_passed_on blocks e waiting Continued (terminator.Switch width value default cases) = true
-child_passed_on blocks e waiting Continued (terminator.Return value) = true
 child_passed_on blocks e waiting Continued (terminator.Detach region body continuation) =
     foot_passed e waiting region (foot_of (slice_get blocks body.0))
-child_passed_on blocks e waiting Continued (terminator.Reattach region continuation) = true
-child_passed_on blocks e waiting Continued (terminator.Sync region target) = true
+child_passed_on blocks e waiting one other = true
 
 abbrev pub pending_of : Option Block → List Pending
 pending_of None = []
@@ -215,6 +174,5 @@ pending_of (Some block) = block.pending
 
 -- 603: each pending zone of the source, and a new child's foot
 abbrev pub passes_on : List Block → List Pending → Terminator → EdgeFacts → Bool
-passes_on blocks pending t e =
-    are_passed e (pending_of (slice_get blocks e.to.0)) pending && child_passed_on blocks e
-    (pending_of (slice_get blocks e.to.0)) e.way t
+passes_on blocks pending t e = are_passed e (pending_of (slice_get blocks e.to.0)) pending &&
+    child_passed_on blocks e (pending_of (slice_get blocks e.to.0)) e.way t

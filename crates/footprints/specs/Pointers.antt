@@ -3,33 +3,17 @@ use Rattle.std.specs.Prelude.{◌==◌, if◌then◌else◌, List, [], ◌∷◌
 use Rattle.linear.specs.declared.form.RegisterId.{RegisterId}
 use Rattle.program.specs.declared.instruction.Instruction.{Instruction}
 use Rattle.program.specs.declared.instruction.Instruction.TheVariants as instruction
-use Rattle.program.specs.declared.instruction.Step.{Step}
 use Rattle.footprints.specs.declared.access.Cell.{Cell}
 use Rattle.footprints.specs.declared.access.Pointer.{Pointer}
 
--- the pointer that an instruction defines
 abbrev pub defined_pointer : Instruction → Option Pointer
-defined_pointer (instruction.Binary d operator width x y) = None
-defined_pointer (instruction.Compare d predicate width x y) = None
-defined_pointer (instruction.Convert d conversion x) = None
-defined_pointer (instruction.Alloca d alloca) = None
 defined_pointer (instruction.ElementPointer d object index) =
     Some (record { register = d; cell = record { object = object; index = index } })
-defined_pointer (instruction.Load d address) = None
-defined_pointer (instruction.Store x address) = None
-defined_pointer (instruction.StoreZeros cells object) = None
-defined_pointer (instruction.AtomicAdd address x) = None
-defined_pointer (instruction.Call d callee arguments) = None
-defined_pointer (instruction.StartRegion d) = None
+defined_pointer other = None
 
 abbrev pub with_pointer : Option Pointer → List Pointer → List Pointer
 with_pointer None pointers = pointers
 with_pointer (Some pointer) pointers = pointer ∷ pointers
-
--- the pointers that steps define, in their order
-abbrev pub pointers_of : List Step → List Pointer
-pointers_of [] = []
-pointers_of (step ∷ steps) = with_pointer (defined_pointer step.instruction) (pointers_of steps)
 
 -- what the first of the pointers with this register points to
 abbrev pub pointed_by : RegisterId → List Pointer → Option Cell

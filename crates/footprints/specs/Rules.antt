@@ -10,7 +10,7 @@ use Rattle.program.specs.declared.function.Function.{Function}
 use Rattle.program.specs.declared.function.Program.{Program}
 use Rattle.refusal.specs.declared.broken.Broken.{Broken}
 use Rattle.ranges.specs.region_match.declared.task.Task.{Task}
-use Rattle.ranges.specs.region_match.declared.task.Task.TheVariants.{Unreached, Body, Child}
+use Rattle.ranges.specs.region_match.declared.task.Task.TheVariants.{Child}
 use Rattle.ranges.specs.region_match.declared.tables.Regions.{Regions}
 use Rattle.ranges.specs.region_match.Tasks.{task_at, tasks_in}
 use Rattle.ranges.specs.region_match.Rules.{ending_at}
@@ -45,14 +45,12 @@ foot_at_end blocks (Some terminator) = child_foot blocks terminator
 
 -- the zones of the function for its own blocks, the foot of the child for a child's
 abbrev pub covering_of : Function → Task → List Zone
-covering_of function Unreached = function.zones
-covering_of function Body = function.zones
 covering_of function (Child detach) = foot_at_end function.blocks (ending_at function.blocks detach.0)
+covering_of function other = function.zones
 
 abbrev pub is_own_block : Task → Bool
-is_own_block Unreached = true
-is_own_block Body = true
 is_own_block (Child detach) = false
+is_own_block other = true
 
 abbrev pub place_in : Function → Task → Block → List Fact → Place
 place_in function task block facts = place_of facts (covering_of function task) (is_own_block task) block.pending
@@ -60,14 +58,12 @@ place_in function task block facts = place_of facts (covering_of function task) 
 -- ---- the rules at places
 
 abbrev pub IsStepBroken : List Function → Function → Task → Block → List Fact → Step → Broken → Type 0
-IsStepBroken functions function task block facts step broken =
-    IsUseBroken step.line
+IsStepBroken functions function task block facts step broken = IsUseBroken step.line
     (step_use (place_in function task block facts) functions block.steps step.line step.instruction) broken
 
 abbrev pub AreStepsBroken : List Function → Function → Task → Block → (ℕ → List Fact) → Broken → Type 0
-AreStepsBroken functions function task block facts_at broken =
-    (i : ℕ) × (step : Step) × (slice_get block.steps i ≡ Some step) ×
-    IsStepBroken functions function task block (facts_at i) step broken
+AreStepsBroken functions function task block facts_at broken = (i : ℕ) × (step : Step) ×
+    (slice_get block.steps i ≡ Some step) × IsStepBroken functions function task block (facts_at i) step broken
 
 abbrev pub IsEndBroken : Function → Task → Block → List Fact → List EdgeFacts → Option Ending → Broken → Type 0
 IsEndBroken function task block facts edges None broken = ⊥
@@ -78,26 +74,23 @@ IsEndBroken function task block facts edges (Some ending) broken =
 -- with these facts at the steps, at the terminator and on the edges
 abbrev pub IsBlockBrokenBy : List Function → Function → Task → Block → (ℕ → List Fact) → List Fact → List EdgeFacts →
     Broken → Type 0
-IsBlockBrokenBy functions function task block facts_at facts edges broken =
-    AreStepsBroken functions function task block facts_at broken ⊎
-    IsEndBroken function task block facts edges block.ending broken
+IsBlockBrokenBy functions function task block facts_at facts edges broken = AreStepsBroken functions function task block
+    facts_at broken ⊎ IsEndBroken function task block facts edges block.ending broken
 
 abbrev pub IsBlockBroken : List Function → Function → Task → ℕ → Block → Broken → Type 0
 IsBlockBroken functions function task b block broken =
     IsBlockBrokenBy functions function task block (facts_at_step functions function b block)
-    (facts_at_end functions function b block)
-    (edges_known functions function b block block.ending) broken
+    (facts_at_end functions function b block) (edges_known functions function b block block.ending) broken
 
 abbrev pub IsFunctionBroken : List Function → Function → List Task → Broken → Type 0
-IsFunctionBroken functions function tasks broken =
-    (b : ℕ) × (block : Block) × (slice_get function.blocks b ≡ Some block) ×
-    IsBlockBroken functions function (task_at tasks b) b block broken
+IsFunctionBroken functions function tasks broken = (b : ℕ) × (block : Block) ×
+    (slice_get function.blocks b ≡ Some block) × IsBlockBroken functions function (task_at tasks b) b block broken
 
 -- 601 to 604
 abbrev pub IsZoneBroken : Program → Regions → Broken → Type 0
-IsZoneBroken program regions broken =
-    (f : ℕ) × (function : Function) × (slice_get program.functions f ≡ Some function)
-    × IsFunctionBroken program.functions function (tasks_in (slice_get regions.functions f)) broken
+IsZoneBroken program regions broken = (f : ℕ) × (function : Function) ×
+    (slice_get program.functions f ≡ Some function) ×
+    IsFunctionBroken program.functions function (tasks_in (slice_get regions.functions f)) broken
 
 -- by this table of tasks none of these rules is broken
 abbrev pub AreZonesRightBy : Program → Regions → Type 0

@@ -1,6 +1,7 @@
 ghost use Rattle.std.specs.Prelude.{◌≡◌, ◌+ℤ◌, pos, List, IfOk};
 ghost use Rattle.program.specs.declared.instruction.Step.{Step as StepKind};
-ghost use Rattle.footprints.specs.Pointers.{defined_pointer, pointers_of, pointed_by};
+ghost use Rattle.footprints.specs.Pointers.{defined_pointer, pointed_by};
+ghost use Rattle.footprints.specs.Touched.{pointers_of};
 ghost use Rattle.footprints.specs.Footprints.{pointer_of, pointed, first_cell, address_cell, operand_terms, operand_constant, form_at, cells_zone};
 
 use linear::{Form, RegisterId, Term};

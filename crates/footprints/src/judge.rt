@@ -2,8 +2,8 @@ ghost use Rattle.std.specs.Prelude.{◌≡◌, ℕ, List, Any, Some, IfOk, OnOk,
 ghost use Rattle.program.specs.declared.instruction.Step.{Step as StepKind};
 ghost use Rattle.refusal.specs.declared.broken.Broken.{Broken};
 ghost use Rattle.refusal.specs.Earliest.{IsEarliest};
-ghost use Rattle.ranges.specs.Edges.{with_known, all_with_known};
-ghost use Rattle.footprints.specs.Pointers.{pointers_of};
+ghost use Rattle.ranges.specs.Tables.{with_known, all_with_known};
+ghost use Rattle.footprints.specs.Touched.{pointers_of};
 ghost use Rattle.footprints.specs.Footprints.{place_of, step_use, end_use, passes_on};
 ghost use Rattle.footprints.specs.Rules.{IsUseBroken, IsEdgeBroken};
 

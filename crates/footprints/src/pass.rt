@@ -1,7 +1,9 @@
 ghost use Rattle.std.specs.Prelude.{◌≡◌, List, false, true, IfOk, OnOk, slice_get};
 ghost use Rattle.linear.specs.declared.form.Fact.{Fact};
-ghost use Rattle.ranges.specs.Edges.{with_known};
-ghost use Rattle.footprints.specs.Footprints.{hands_on, pending_of, with_facts, is_passed, are_passed, foot_passed, child_passed_on, passes_on};
+ghost use Rattle.ranges.specs.Tables.{with_known};
+ghost use Rattle.footprints.specs.Footprints.{hands_on, pending_of, is_passed, are_passed, foot_passed};
+ghost use Rattle.footprints.specs.Footprints.{child_passed_on, passes_on};
+ghost use Rattle.footprints.specs.Touched.{with_facts};
 
 use crate::touch::child_foot;
 use footprints_feet::{PlacedZone, as_written, covers, is_empty};

@@ -3,9 +3,10 @@ ghost use Rattle.syntax.specs.declared.operator.Mode.TheVariants.{Writes};
 ghost use Rattle.footprints_feet.specs.footprints_zones.Zones.{as_written};
 ghost use Rattle.ranges.specs.ranges_owed.Inequalities.{argument_moves};
 ghost use Rattle.program.specs.declared.instruction.Step.{Step as StepKind};
-ghost use Rattle.footprints.specs.Pointers.{pointers_of};
+ghost use Rattle.footprints.specs.Touched.{pointers_of};
 ghost use Rattle.footprints.specs.Footprints.{place_of, address_cell, first_cell, cells_zone, is_allowed, is_clear, cell_use, access_use, put_object};
-ghost use Rattle.footprints.specs.Footprints.{put_in, put_use, callee_use, call_use, foot_use, step_use, child_foot};
+ghost use Rattle.footprints.specs.Footprints.{put_in, callee_use, call_use, foot_use, step_use, child_foot};
+ghost use Rattle.footprints.specs.Touched.{put_use};
 ghost use Rattle.footprints.specs.Footprints.{end_use};
 
 use crate::access::{Cell, Pointer, cell_of, cells_zone, first_cell};

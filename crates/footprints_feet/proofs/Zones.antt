@@ -5,7 +5,8 @@ use Rattle.program.specs.declared.annotation.Zone.{Zone}
 use Rattle.footprints_zones.specs.Zones.{as_written}
 use Rattle.footprints_zones.specs.Places.{Place, is_allowed, is_clear}
 use Rattle.footprints_zones.specs.declared.place.Use.{Use}
-use Rattle.footprints_feet.specs.Feet.{zone_use, joined_use, foot_use}
+use Rattle.footprints_feet.specs.Feet.{foot_use}
+use Rattle.footprints_feet.specs.Used.{zone_use, joined_use}
 
 pub foot_use_more : (p : Place) (foot : List Zone) (i : ℕ) (d : Zone) → i < length foot
     → foot_use p (take (i + 1) foot) ≡ joined_use (foot_use p (take i foot)) (zone_use p (as_written (get_or foot i d)))

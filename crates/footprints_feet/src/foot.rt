@@ -1,7 +1,8 @@
 ghost use Rattle.std.specs.Prelude.{◌≡◌, IfOk};
 ghost use Rattle.footprints_zones.specs.Zones.{span};
 ghost use Rattle.footprints_zones.specs.Places.{place_of};
-ghost use Rattle.footprints_feet.specs.Feet.{no_use, zone_use, joined_use, foot_use};
+ghost use Rattle.footprints_feet.specs.Feet.{no_use, foot_use};
+ghost use Rattle.footprints_feet.specs.Used.{zone_use, joined_use};
 
 use footprints_zones::{MeasuredPlace, Place, PlacedZone, Unanswered, Use, as_written};
 use program::Zone;

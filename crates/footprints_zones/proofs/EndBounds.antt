@@ -8,9 +8,10 @@ use Rattle.std.proofs.lemmas.Int.{ints}
 use Rattle.std.proofs.lemmas.List.{length-map, get_or-map}
 use Rattle.linear.specs.declared.form.Fact.{Fact}
 use Rattle.linear.specs.declared.form.RegisterId.{RegisterId}
-use Rattle.linear.specs.Forms.{Combination, coefficient_of, constant_form}
+use Rattle.linear.specs.Terms.{Combination, coefficient_of, constant_form}
 use Rattle.linear.proofs.Values.{distributes, distributes_right}
-use Rattle.ranges.specs.linear_shown.Shown.{IsFactor, sides}
+use Rattle.ranges.specs.linear_shown.Shown.{IsFactor}
+use Rattle.ranges.specs.linear_shown.Sides.{sides}
 use Rattle.ranges.specs.linear_shown.Tested.{is_shown}
 use Rattle.ranges.proofs.linear_shown.Tested.{shown_passes}
 use Rattle.ranges.specs.cfg.declared.structure.Move.{Move}

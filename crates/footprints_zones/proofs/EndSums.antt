@@ -5,8 +5,10 @@ use Rattle.std.proofs.lemmas.Int.{ints}
 use Rattle.std.specs.List.{prefix_len}
 use Rattle.linear.specs.declared.form.RegisterId.{RegisterId}
 use Rattle.linear.specs.declared.form.Term.{Term}
-use Rattle.linear.specs.Forms.{Combination, coefficient_of, IsForm, IsRising, constant_form, plus}
-use Rattle.linear.specs.Made.{is_below, coefficient_at, term_form, placed, with_terms, with_term, with_constant, is_bounded}
+use Rattle.linear.specs.Forms.{IsForm, IsRising, plus}
+use Rattle.linear.specs.Terms.{Combination, coefficient_of, constant_form}
+use Rattle.linear.specs.Made.{is_below, coefficient_at, placed, with_terms, with_term, with_constant, is_bounded}
+use Rattle.linear.specs.Bounded.{term_form}
 use Rattle.linear.proofs.Added.{IsAdded, term_added}
 use Rattle.linear.proofs.Placing.{new_term, placed_new, placed_more, none_refused, some_refused}
 use Rattle.linear.proofs.Values.{associates}

@@ -8,7 +8,7 @@ use Rattle.std.proofs.lemmas.Int.{ints, unsigned_abs-mul, to_z-of_z}
 use Rattle.linear.specs.declared.form.Fact.{Fact}
 use Rattle.linear.specs.declared.form.RegisterId.{RegisterId}
 use Rattle.linear.specs.declared.form.Term.{Term}
-use Rattle.linear.specs.Forms.{Combination}
+use Rattle.linear.specs.Terms.{Combination}
 use Rattle.ranges.proofs.linear_shown.Tested.{T_from_true}
 use Rattle.program.specs.declared.instruction.Operand.TheVariants.{Register}
 use Rattle.ranges.specs.cfg.declared.structure.Move.{Move}

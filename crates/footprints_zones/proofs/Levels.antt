@@ -8,7 +8,8 @@ use Rattle.std.proofs.lemmas.List.{length-map, get_or-map}
 use Rattle.linear.specs.declared.form.Fact.{Fact}
 use Rattle.linear.specs.declared.form.RegisterId.{RegisterId}
 use Rattle.linear.specs.declared.form.Term.{Term}
-use Rattle.linear.specs.Forms.{Combination, AreSmall, constant_form, Same}
+use Rattle.linear.specs.Forms.{AreSmall, Same}
+use Rattle.linear.specs.Terms.{Combination, constant_form}
 use Rattle.linear.specs.Made.{placed, with_terms}
 use Rattle.linear.proofs.Making.{same_of, same_back}
 use Rattle.ranges.specs.linear_shown.Shown.{IsShown, SameFacts}

@@ -9,7 +9,9 @@ use Rattle.linear.specs.declared.form.Fact.{Fact}
 use Rattle.program.specs.declared.annotation.Pending.{Pending}
 use Rattle.program.specs.declared.annotation.Zone.{Zone}
 use Rattle.footprints_zones.specs.declared.measured.MeasuredZone.{MeasuredZone}
-use Rattle.footprints_zones.specs.Zones.{Span, as_written, same_object, mode_covers, modes_agree, shows_order, is_empty, covers, meets, is_covered}
+use Rattle.footprints_zones.specs.Zones.{Span, as_written, same_object, mode_covers, modes_agree, shows_order, is_empty}
+use Rattle.footprints_zones.specs.Zones.{covers, is_covered}
+use Rattle.footprints_zones.specs.Meets.{meets}
 use Rattle.footprints_zones.specs.Places.{Place, is_clear}
 use Rattle.footprints_zones.specs.Ends.{IsMeasured, zones_of}
 use Rattle.footprints_zones.proofs.Clears as clears

@@ -6,7 +6,7 @@ use Rattle.std.proofs.lemmas.Int.{ints, to_z-of_z}
 use Rattle.std.proofs.lemmas.List.{drop_more}
 use Rattle.linear.specs.declared.form.Fact.{Fact}
 use Rattle.linear.specs.declared.form.Term.{Term}
-use Rattle.linear.specs.Forms.{Combination, constant_form}
+use Rattle.linear.specs.Terms.{Combination, constant_form}
 use Rattle.ranges.specs.linear_shown.Shown.{IsShown}
 use Rattle.ranges.specs.linear_shown.Tested.{is_shown}
 use Rattle.ranges.proofs.linear_shown.Tested.{shown_passes}

@@ -5,9 +5,9 @@ use Rattle.std.specs.Prelude.{IfSome, unsigned_abs}
 use Rattle.linear.specs.declared.form.Fact.{Fact}
 use Rattle.linear.specs.declared.form.RegisterId.{RegisterId}
 use Rattle.linear.specs.declared.form.Term.{Term}
-use Rattle.linear.specs.Forms.{Combination, coefficient_of}
-use Rattle.linear.specs.Made.{term_form}
-use Rattle.ranges.specs.linear_shown.Shown.{sides}
+use Rattle.linear.specs.Terms.{Combination, coefficient_of}
+use Rattle.linear.specs.Bounded.{term_form}
+use Rattle.ranges.specs.linear_shown.Sides.{sides}
 use Rattle.program.specs.declared.annotation.Zone.{Zone}
 use Rattle.program.specs.declared.instruction.Operand.TheVariants.{Number, Register}
 use Rattle.ranges.specs.cfg.declared.structure.Move.{Move}

@@ -3,7 +3,7 @@ use Rattle.std.specs.Prelude.{◌≡◌, ◌<◌, ◌^◌, ℤ, pos, negsuc, Lis
 use Rattle.linear.specs.declared.form.Fact.{Fact}
 use Rattle.linear.specs.declared.form.RegisterId.{RegisterId}
 use Rattle.linear.specs.declared.form.Term.{Term}
-use Rattle.linear.specs.Forms.{constant_form}
+use Rattle.linear.specs.Terms.{constant_form}
 use Rattle.ranges.specs.linear_shown.Tested.{is_shown}
 use Rattle.program.specs.declared.instruction.Operand.TheVariants.{Register}
 use Rattle.ranges.specs.cfg.declared.structure.Move.{Move}

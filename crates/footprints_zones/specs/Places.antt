@@ -5,7 +5,7 @@ use Rattle.linear.specs.declared.form.Fact.{Fact}
 use Rattle.program.specs.declared.annotation.Pending.{Pending}
 use Rattle.program.specs.declared.annotation.Zone.{Zone}
 use Rattle.program.specs.declared.identifier.ObjectName.{ObjectName}
-use Rattle.program.specs.declared.identifier.ObjectName.TheVariants.{Global, Alloca, Parameter}
+use Rattle.program.specs.declared.identifier.ObjectName.TheVariants.{Alloca}
 use Rattle.footprints_zones.specs.Zones.{Span, as_written, conflict, is_covered}
 
 -- what is known at a place, the zones that must cover what is touched there, whether it is one of the function's own
@@ -21,10 +21,8 @@ place_of facts covering own pending = record { facts = facts; covering = coverin
 
 -- an alloca of the function in one of its own blocks
 abbrev pub is_own : Bool → ObjectName → Bool
-is_own false object = false
-is_own true (Global g) = false
 is_own true (Alloca a) = true
-is_own true (Parameter r) = false
+is_own one other = false
 
 -- 601 and 604: it needs no cover, or has one
 unfoldable pub is_allowed : Place → Span → Bool

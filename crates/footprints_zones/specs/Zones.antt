@@ -4,7 +4,7 @@ use Rattle.std.specs.List.{list_any}
 use Rattle.syntax.specs.declared.operator.Mode.{Mode}
 use Rattle.syntax.specs.declared.operator.Mode.TheVariants.{Reads, Writes, Adds}
 use Rattle.linear.specs.declared.form.Fact.{Fact}
-use Rattle.linear.specs.Forms.{Combination}
+use Rattle.linear.specs.Terms.{Combination}
 use Rattle.program.specs.declared.annotation.Zone.{Zone}
 use Rattle.program.specs.declared.identifier.ObjectName.{ObjectName}
 use Rattle.program.specs.declared.identifier.ObjectName.TheVariants.{Global, Alloca, Parameter}
@@ -30,34 +30,22 @@ as_written zone = span zone.object [] zone
 
 abbrev pub same_object : ObjectName → ObjectName → Bool
 same_object (Global a) (Global b) = a.0 == b.0
-same_object (Global a) (Alloca b) = false
-same_object (Global a) (Parameter b) = false
-same_object (Alloca a) (Global b) = false
 same_object (Alloca a) (Alloca b) = a.0 == b.0
-same_object (Alloca a) (Parameter b) = false
-same_object (Parameter a) (Global b) = false
-same_object (Parameter a) (Alloca b) = false
 same_object (Parameter a) (Parameter b) = a.0 == b.0
+same_object one other = false
 
 -- a zone of this mode lets its cells be used by that mode: `writes` by every mode, any other only by its own
 abbrev pub mode_covers : Mode → Mode → Bool
 mode_covers Writes mode = true
 mode_covers Reads Reads = true
-mode_covers Reads Writes = false
-mode_covers Reads Adds = false
-mode_covers Adds Reads = false
-mode_covers Adds Writes = false
 mode_covers Adds Adds = true
+mode_covers one other = false
 
 -- uses of one cell in any order come to the same: two reads, or two adds
 abbrev pub modes_agree : Mode → Mode → Bool
 modes_agree Reads Reads = true
-modes_agree Reads Writes = false
-modes_agree Reads Adds = false
-modes_agree Writes mode = false
-modes_agree Adds Reads = false
-modes_agree Adds Writes = false
 modes_agree Adds Adds = true
+modes_agree one other = false
 
 -- ---- what facts show
 
@@ -80,33 +68,17 @@ is_empty facts z = shows_order facts z.moves z.zone.low z.moves z.zone.high
 
 -- it has each cell of the other, for each use that the other has them for
 unfoldable pub covers : List Fact → Span → Span → Bool
-covers facts z y =
-    same_object z.object y.object
-    && (mode_covers z.zone.mode y.zone.mode
-    && (shows_order facts y.moves y.zone.low z.moves z.zone.low
-    && shows_order facts z.moves z.zone.high y.moves y.zone.high))
+covers facts z y = same_object z.object y.object && (mode_covers z.zone.mode y.zone.mode && (shows_order facts y.moves
+    y.zone.low z.moves z.zone.low && shows_order facts z.moves z.zone.high y.moves y.zone.high))
 
 -- they have no cell in common
 unfoldable pub is_apart : List Fact → Span → Span → Bool
-is_apart facts z y =
-    not (same_object z.object y.object)
-    || (is_empty facts z
-    || (is_empty facts y
-    || (shows_order facts z.moves z.zone.low y.moves y.zone.high
-    || shows_order facts y.moves y.zone.low z.moves z.zone.high)))
+is_apart facts z y = not (same_object z.object y.object) || (is_empty facts z || (is_empty facts y || (shows_order facts
+    z.moves z.zone.low y.moves y.zone.high || shows_order facts y.moves y.zone.low z.moves z.zone.high)))
 
 -- they may have a cell in common, and the order of its uses may matter
 unfoldable pub conflict : List Fact → Span → Span → Bool
 conflict facts z y = not (modes_agree z.zone.mode y.zone.mode || is_apart facts z y)
-
--- they may, where the second has any cell, and the order of its uses may matter
-unfoldable pub meets : List Fact → Span → Span → Bool
-meets facts z y =
-    not (modes_agree z.zone.mode y.zone.mode
-    || (not (same_object z.object y.object)
-    || (is_empty facts z
-    || (shows_order facts z.moves z.zone.low y.moves y.zone.high
-    || shows_order facts y.moves y.zone.low z.moves z.zone.high))))
 
 -- one of the zones covers it, or it is empty
 unfoldable pub is_covered : List Fact → List Zone → Span → Bool

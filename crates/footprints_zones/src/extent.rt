@@ -2,7 +2,7 @@
 
 ghost use Rattle.std.specs.Prelude.{◌≡◌, ◌||◌, true, List, All, IsTrue, IfSome};
 ghost use Rattle.linear.specs.declared.form.Fact.{Fact};
-ghost use Rattle.linear.specs.Forms.{Combination};
+ghost use Rattle.linear.specs.Terms.{Combination};
 ghost use Rattle.ranges.specs.cfg.declared.structure.Move.{Move as MoveKind};
 ghost use Rattle.footprints_zones.specs.Zones.{Span, span, shows_order};
 ghost use Rattle.footprints_zones.specs.Ends.{AreBounds, IsEnd, IsExtent};

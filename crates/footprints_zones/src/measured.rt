@@ -5,7 +5,8 @@ ghost use Rattle.linear.specs.declared.form.Fact.{Fact};
 ghost use Rattle.std.specs.List.{list_any};
 ghost use Rattle.program.specs.declared.annotation.Pending.{Pending as PendingKind};
 ghost use Rattle.footprints_zones.specs.declared.measured.MeasuredZone.{MeasuredZone as MeasuredKind};
-ghost use Rattle.footprints_zones.specs.Zones.{span, as_written, same_object, mode_covers, covers, meets};
+ghost use Rattle.footprints_zones.specs.Zones.{span, as_written, same_object, mode_covers, covers};
+ghost use Rattle.footprints_zones.specs.Meets.{meets};
 ghost use Rattle.footprints_zones.specs.Places.{place_of, is_own, is_allowed, is_clear};
 ghost use Rattle.footprints_zones.specs.Ends.{AreBounds, IsExtent, IsMeasured, zones_of};
 

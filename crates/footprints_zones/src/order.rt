@@ -1,6 +1,7 @@
 ghost use Rattle.std.specs.Prelude.{◌≡◌, ◌<◌, ◌^◌, ◌⊎◌, ◌*ℤ◌, pos, negsuc, List, IsTrue, IfOk, IfSome, Some, unsigned_abs};
 ghost use Rattle.linear.specs.declared.form.Fact.{Fact};
-ghost use Rattle.linear.specs.Forms.{AreSmall, constant_form};
+ghost use Rattle.linear.specs.Forms.{AreSmall};
+ghost use Rattle.linear.specs.Terms.{constant_form};
 ghost use Rattle.program.specs.declared.instruction.Operand.TheVariants.{Number};
 ghost use Rattle.ranges.specs.linear_shown.Tested.{is_shown};
 ghost use Rattle.ranges.specs.ranges_owed.Inequalities.{operand_for, parts_of};

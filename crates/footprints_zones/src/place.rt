@@ -1,7 +1,8 @@
 ghost use Rattle.std.specs.Prelude.{◌≡◌, [], IfOk};
 ghost use Rattle.std.specs.List.{list_any};
 ghost use Rattle.program.specs.declared.annotation.Pending.{Pending as PendingKind};
-ghost use Rattle.footprints_zones.specs.Zones.{span, as_written, meets};
+ghost use Rattle.footprints_zones.specs.Zones.{span, as_written};
+ghost use Rattle.footprints_zones.specs.Meets.{meets};
 ghost use Rattle.footprints_zones.specs.Places.{place_of, is_own, is_allowed, is_clear};
 
 use crate::zone::{PlacedZone, is_covered, is_empty, meets};

@@ -1,7 +1,8 @@
 ghost use Rattle.std.specs.Prelude.{◌≡◌, ◌||◌, IfOk};
 ghost use Rattle.std.specs.List.{list_any};
 ghost use Rattle.footprints_zones.specs.Zones.{span, as_written, same_object, mode_covers, modes_agree};
-ghost use Rattle.footprints_zones.specs.Zones.{shows_order, is_empty, covers, is_apart, conflict, meets, is_covered};
+ghost use Rattle.footprints_zones.specs.Zones.{shows_order, is_empty, covers, is_apart, conflict, is_covered};
+ghost use Rattle.footprints_zones.specs.Meets.{meets};
 
 use crate::order::{may_precede, shows_order};
 use program::{Mode, ObjectName, Zone};

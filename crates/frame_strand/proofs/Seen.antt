@@ -7,7 +7,8 @@ use Rattle.std.specs.Option.{option_map}
 use Rattle.std.proofs.lemmas.Bool.Decides.{leb_tells}
 use Rattle.std.proofs.lemmas.List.Elements.{All-cons, All-head, All-nil, All-tail}
 use Rattle.std.proofs.lemmas.Option.{same_Some, slice_get-map}
-use Rattle.semantics.specs.Cells.{Cell, Memory, same_cell, or_zero}
+use Rattle.semantics.specs.Cells.{Cell, Memory, same_cell}
+use Rattle.semantics.specs.Written.{or_zero}
 use Rattle.semantics.specs.State.{sum_in}
 use Rattle.semantics.proofs.SameCells.{same_cell_is}
 use Rattle.laws_strands.specs.Footprint.{Delta, Footprint, Stored, Write, held, put, read_at, write_at}

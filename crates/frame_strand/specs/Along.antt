@@ -1,5 +1,5 @@
 -- What a strand keeps: whatever frame of the definitions its loaded one shows, it stands as that frame's strand.
-use Rattle.std.specs.Prelude.{◌≡◌, ◌≢◌, ⊤, ℕ, ◌≤◌, List, length, reverse, Option, Some, None, slice_get, vec_capacity}
+use Rattle.std.specs.Prelude.{◌≡◌, ◌≢◌, ⊤, ℕ, ◌≤◌, List, length, reverse, Option, Some, slice_get, vec_capacity}
 use Rattle.std.specs.Option.{option_map}
 use Rattle.semantics.specs.Paths.{Path}
 use Rattle.semantics.specs.Frames.{Frame}
@@ -31,15 +31,12 @@ pause_in l (frame_strands.Need c) = Need (address l c)
 
 -- the cell that is waited for is one of a living object
 abbrev pub NeedsLiving : Layout → Option frame_strands.Pause → Type 0
-NeedsLiving l None = ⊤
-NeedsLiving l (Some frame_strands.Blank) = ⊤
-NeedsLiving l (Some frame_strands.Border) = ⊤
-NeedsLiving l (Some frame_strands.Limit) = ⊤
-NeedsLiving l (Some frame_strands.Full) = ⊤
 NeedsLiving l (Some (frame_strands.Need c)) = IsIn l c
+NeedsLiving l other = ⊤
 
 -- the strand stands at this pause; None where it can go on
-pub record PausesAt (prog : Program) (l : Layout) (s : frame_strands.FrameStrand) (pause : Option FrameStrandPause) : Type 0 where
+pub record PausesAt (prog : Program) (l : Layout) (s : frame_strands.FrameStrand) (pause : Option FrameStrandPause)
+    : Type 0 where
   pub is : option_map (pause_in l) (pause_of prog s) ≡ pause
   pub living : NeedsLiving l (pause_of prog s)
 
@@ -83,6 +80,7 @@ pub record HasRoom (prog : Program) (places : Places) (x : Course) : Type 0 wher
   pub loaded : HasRegisters prog (vec_capacity x.loaded.registers)
   pub present : HasRegisters prog (vec_capacity x.present.registers)
 
-pub record IsFrameStrandKept (prog : Program) (places : Places) (x : Course) (pause : Option FrameStrandPause) : Type 0 where
+pub record IsFrameStrandKept (prog : Program) (places : Places) (x : Course) (pause : Option FrameStrandPause)
+    : Type 0 where
   pub room : HasRoom prog places x
   pub going : pause ≢ Some Blank → IsGoing prog places x pause

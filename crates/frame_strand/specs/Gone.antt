@@ -21,7 +21,8 @@ named engine_pause.Limit = Limit
 named (engine_pause.Stopped stop.Full) = Full
 named (engine_pause.Stopped (stop.Need at)) = Need at
 
-pub record Gone (prog : Program) (places : Places) (x : Course) (stopped : engine.Pause CellStop) (limit : ℕ) : Type 0 where
+pub record Gone (prog : Program) (places : Places) (x : Course) (stopped : engine.Pause CellStop) (limit : ℕ)
+    : Type 0 where
   pub way : IsUnderWay prog places x
   pub pauses : x.done ≢ limit →
       (l : Layout) (g : Frame) (goes : GoesAlone prog places l (reverse x.path.items) g x.loaded) →

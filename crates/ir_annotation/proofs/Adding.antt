@@ -14,7 +14,8 @@ use Rattle.ir_annotation.specs.declared.limits.Limited.{Limited}
 use Rattle.refusal.specs.declared.refused.Refused.{Refused}
 use Rattle.refusal.specs.declared.refused.Refused.TheVariants.{Fault, Memory}
 use Rattle.ir_annotation.specs.Bounds.{is_no_sign, BeginsWithSign}
-use Rattle.ir_annotation.specs.Reading.{◌>>=◌, Fails}
+use Rattle.ir_annotation.specs.Reading.{◌>>=◌}
+use Rattle.ir_annotation.specs.Answers.{Fails}
 use Rattle.ir_annotation.specs.Forms.{SignedText, Cut, as_signed, onto_cut, cut_of, signed_texts, Total, nothing, added, is_at, is_before, has_name, with_more, with_amount, plus, all_added, term_of, kept}
 
 -- after some bytes: what is left of the word goes on from the sum so far, which so many numbers cannot have made large

@@ -12,7 +12,8 @@ use Rattle.syntax.specs.declared.instruction.Address.TheVariants as address
 use Rattle.ir_annotation.specs.declared.meaning.Annotation.{Annotation}
 use Rattle.ir_annotation.specs.declared.meaning.Annotation.TheVariants as annotation
 use Rattle.ir_annotation.specs.declared.meaning.AnnotationLine.{AnnotationLine}
-use Rattle.ir_lex.specs.Spelling.{is_name, register_text}
+use Rattle.ir_lex.specs.Spelling.{is_name}
+use Rattle.ir_lex.specs.Names.{register_text}
 use Rattle.ir_annotation.specs.Canonical.{IsCanonical}
 use Rattle.ir_annotation.specs.Spelling.{form_text, relation_text, mode_text, object_text}
 

@@ -9,3 +9,5 @@ pub mod Pieces
 pub mod Reading
 pub mod Spelling
 pub mod Words
+pub mod Answers
+pub mod Compared

@@ -3,12 +3,15 @@ use Rattle.std.specs.Prelude.{ℕ, ℤ, pos, negsuc, nat_le, int_le, Bool, true,
 use Rattle.std.specs.Prelude.{if◌then◌else◌}
 use Rattle.ir_annotation.specs.declared.limits.Limited.{Limited}
 
+abbrev pub limited : {A : Type 0} → A → Bool → Limited A
+limited x is_within = record { value = x; is_within_limits = is_within }
+
 -- a value that is within its limits, and 0 in the place of a number that is not
 abbrev pub within : {A : Type 0} → A → Limited A
-within x = record { value = x; is_within_limits = true }
+within x = limited x true
 
 abbrev pub past_limit : {A : Type 0} → A → Limited A
-past_limit x = record { value = x; is_within_limits = false }
+past_limit x = limited x false
 
 -- a number with a limit; none stands for a greater one than any limit
 abbrev pub up_to : ℕ → Option ℕ → Limited ℕ

@@ -20,26 +20,20 @@ use Rattle.ir_annotation.specs.Reading.{◌>>=◌, made}
 use Rattle.ir_annotation.specs.Words.{number_of, register_of, object_of, relation_of, mode_of}
 use Rattle.ir_annotation.specs.Forms.{form_of}
 use Rattle.ir_annotation.specs.Keywords.{keyword_of}
+use Rattle.ir_annotation.specs.Limits.{limited}
 
 -- F R F
 unfoldable pub inequality_of : ℕ → List (List ℕ) → Result (Limited Inequality) ℕ
-inequality_of line (left ∷ relation ∷ right ∷ []) =
-    form_of left >>= λ l. relation_of relation >>= λ r. form_of right >>= λ h.
-    Ok (record {
-      value = record { line = line; left = l.value; relation = r; right = h.value };
-      is_within_limits =
-          l.is_within_limits && h.is_within_limits;
-    })
+inequality_of line (left ∷ relation ∷ right ∷ []) = form_of left >>= λ l. relation_of relation >>=
+    λ r. form_of right >>= λ h. Ok (limited (record { line = line; left = l.value; relation = r; right = h.value })
+    (l.is_within_limits && h.is_within_limits))
 inequality_of line _ = Err 103
 
 -- O F F
 unfoldable pub zone_of : ℕ → Mode → List (List ℕ) → Result (Limited Zone) ℕ
-zone_of line mode (object ∷ low ∷ high ∷ []) =
-    object_of object >>= λ o. form_of low >>= λ l. form_of high >>= λ h.
-    Ok (record {
-      value = record { line = line; mode = mode; object = o.value; low = l.value; high = h.value };
-      is_within_limits = o.is_within_limits && l.is_within_limits && h.is_within_limits;
-    })
+zone_of line mode (object ∷ low ∷ high ∷ []) = object_of object >>= λ o. form_of low >>= λ l. form_of high >>=
+    λ h. Ok (limited (record { line = line; mode = mode; object = o.value; low = l.value; high = h.value })
+    (o.is_within_limits && l.is_within_limits && h.is_within_limits))
 zone_of line mode _ = Err 103
 
 -- max N, N up to 4096
@@ -48,35 +42,21 @@ bound_of max bound = if bytes_eq max (codes "max") then number_of 4096 bound els
 
 -- F max N
 unfoldable pub measure_of : ℕ → List (List ℕ) → Result (Limited Measure) ℕ
-measure_of line (form ∷ max ∷ bound ∷ []) =
-    form_of form >>= λ f. bound_of max bound >>= λ n.
-    Ok (record {
-      value = record { line = line; form = f.value; bound = n.value };
-      is_within_limits =
-          f.is_within_limits && n.is_within_limits;
-    })
+measure_of line (form ∷ max ∷ bound ∷ []) = form_of form >>= λ f. bound_of max bound >>= λ n.
+    Ok (limited (record { line = line; form = f.value; bound = n.value }) (f.is_within_limits && n.is_within_limits))
 measure_of line _ = Err 103
 
 -- K S, each up to 10^12
 unfoldable pub budget_from_words : ℕ → List (List ℕ) → Result (Limited Budget) ℕ
-budget_from_words line (calls ∷ instructions ∷ []) =
-    number_of 1000000000000 calls >>= λ k. number_of 1000000000000 instructions >>= λ s.
-    Ok (record {
-      value = record { line = line; self_calls = k.value; instructions = s.value };
-      is_within_limits =
-          k.is_within_limits && s.is_within_limits;
-    })
+budget_from_words line (calls ∷ instructions ∷ []) = number_of 1000000000000 calls >>= λ k. number_of 1000000000000
+    instructions >>= λ s. Ok (limited (record { line = line; self_calls = k.value; instructions = s.value })
+    (k.is_within_limits && s.is_within_limits))
 budget_from_words line _ = Err 103
 
 -- F F
 unfoldable pub left_of : ℕ → List (List ℕ) → Result (Limited Left) ℕ
-left_of line (calls ∷ instructions ∷ []) =
-    form_of calls >>= λ k. form_of instructions >>= λ s.
-    Ok (record {
-      value = record { line = line; self_calls = k.value; instructions = s.value };
-      is_within_limits =
-          k.is_within_limits && s.is_within_limits;
-    })
+left_of line (calls ∷ instructions ∷ []) = form_of calls >>= λ k. form_of instructions >>= λ s. Ok (limited
+    (record { line = line; self_calls = k.value; instructions = s.value }) (k.is_within_limits && s.is_within_limits))
 left_of line _ = Err 103
 
 -- MODE O F F
@@ -87,23 +67,11 @@ moded_zone_of line (word ∷ words) = mode_of word >>= λ m. zone_of line m word
 -- %s MODE O F F
 unfoldable pub pending_of : ℕ → List (List ℕ) → Result (Limited Pending) ℕ
 pending_of line [] = Err 103
-pending_of line (region ∷ words) =
-    register_of region >>= λ s. moded_zone_of line words >>= λ z.
-    Ok (record {
-      value = record { region = s.value; zone = z.value };
-      is_within_limits =
-          s.is_within_limits && z.is_within_limits;
-    })
+pending_of line (region ∷ words) = register_of region >>= λ s. moded_zone_of line words >>=
+    λ z. Ok (limited (record { region = s.value; zone = z.value }) (s.is_within_limits && z.is_within_limits))
 
 abbrev pub as_line : {A : Type 0} → (A → Annotation) → Limited A → AnnotationLine
 as_line kind found = record { annotation = kind found.value; is_within_limits = found.is_within_limits }
-
--- what an inequality says behind these words, and behind shows
-abbrev pub compared : Keyword → Inequality → Annotation
-compared keyword.Requires = annotation.Requires
-compared keyword.Ensures = annotation.Ensures
-compared keyword.Keeps = annotation.Keeps
-compared _ = annotation.Shows
 
 -- behind the first word
 unfoldable pub annotation_behind : ℕ → Keyword → List (List ℕ) → Result AnnotationLine ℕ

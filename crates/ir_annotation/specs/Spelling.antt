@@ -16,7 +16,7 @@ use Rattle.syntax.specs.declared.instruction.Address.{Address}
 use Rattle.syntax.specs.declared.instruction.Address.TheVariants as address
 use Rattle.syntax.specs.declared.operator.Mode.{Mode}
 use Rattle.syntax.specs.declared.operator.Mode.TheVariants.{Reads, Writes, Adds}
-use Rattle.ir_lex.specs.Spelling.{register_text, global_text}
+use Rattle.ir_lex.specs.Names.{register_text, global_text}
 
 -- the sign before a term or the constant; the first term has none but a minus
 abbrev pub sign_text : Bool → ℤ → List ℕ

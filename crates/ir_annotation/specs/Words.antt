@@ -13,25 +13,21 @@ use Rattle.syntax.specs.declared.operator.Mode.TheVariants.{Reads, Writes, Adds}
 use Rattle.ir_lex.specs.Spelling.{is_name, is_positive}
 use Rattle.ir_annotation.specs.declared.limits.Limited.{Limited}
 use Rattle.ir_annotation.specs.Reading.{◌>>=◌}
-use Rattle.ir_annotation.specs.Limits.{up_to}
+use Rattle.ir_annotation.specs.Limits.{limited, up_to}
 
 -- a number without sign
 abbrev pub is_numeral : List ℕ → Bool
 is_numeral [] = false
 is_numeral (b ∷ bs) = (b == 48 && length bs == 0) || is_positive (b ∷ bs)
 
--- the value of digits, where it is below 2^64
 abbrev pub small_value : List ℕ → Option ℕ
 small_value digits = if nat_lt (digits_value 10 digits) (2 ^ 64) then Some (digits_value 10 digits) else None
 
--- a number of at most this
 unfoldable pub number_of : ℕ → List ℕ → Result (Limited ℕ) ℕ
 number_of most word = if is_numeral word then Ok (up_to most (small_value word)) else Err 103
 
--- a name of at most 64 bytes
 unfoldable pub name_of : List ℕ → Result (Limited (List ℕ)) ℕ
-name_of name = if is_name name then Ok (record { value = name; is_within_limits = nat_le (length name) 64 }) else Err
-    103
+name_of name = if is_name name then Ok (limited name (nat_le (length name) 64)) else Err 103
 
 -- % and a name
 abbrev pub register_of : List ℕ → Result (Limited (List ℕ)) ℕ
@@ -41,26 +37,14 @@ register_of (sigil ∷ name) = if sigil == 37 then name_of name else Err 103
 -- a register, or @ and a name
 abbrev pub object_of : List ℕ → Result (Limited Address) ℕ
 object_of [] = Err 103
-object_of (sigil ∷ name) =
-    if sigil == 37 then (name_of name >>= λ n. Ok (record {
-      value = address.Register n.value;
-      is_within_limits =
-          n.is_within_limits;
-    }))
-    else if sigil == 64 then (name_of name >>= λ n. Ok (record {
-      value = address.Global n.value;
-      is_within_limits =
-          n.is_within_limits;
-    }))
-    else Err 103
+object_of (sigil ∷ name) = if sigil == 37 then (name_of name >>=
+    λ n. Ok (limited (address.Register n.value) n.is_within_limits)) else if sigil == 64 then (name_of name >>=
+    λ n. Ok (limited (address.Global n.value) n.is_within_limits)) else Err 103
 
 abbrev pub relation_of : List ℕ → Result Relation ℕ
-relation_of word = if bytes_eq word (codes "<=") then Ok AtMost else if bytes_eq word
-    (codes ">=") then Ok AtLeast else Err 103
+relation_of word = if bytes_eq word (codes "<=") then Ok AtMost else if bytes_eq word (codes ">=") then Ok AtLeast
+    else Err 103
 
 abbrev pub mode_of : List ℕ → Result Mode ℕ
-mode_of word =
-    if bytes_eq word (codes "reads") then Ok Reads
-    else if bytes_eq word (codes "writes") then Ok Writes
-    else if bytes_eq word (codes "adds") then Ok Adds
-    else Err 103
+mode_of word = if bytes_eq word (codes "reads") then Ok Reads else if bytes_eq word (codes "writes") then Ok Writes
+    else if bytes_eq word (codes "adds") then Ok Adds else Err 103

@@ -2,7 +2,7 @@
 
 ghost use Rattle.std.specs.Prelude.{◌≡◌, ◌≤◌, ◌<◌, ◌^◌, ◌∷◌, ◌++◌, List, length, take, drop, unsigned_abs, IfOk, OnOk, IfErr, IfSome, IfNone, [], All, ◌&&◌};
 ghost use Rattle.std.specs.List.{prefix_len, list_all, filter_map};
-ghost use Rattle.ir_annotation.specs.Reading.{Gives};
+ghost use Rattle.ir_annotation.specs.Answers.{Gives};
 ghost use Rattle.ir_annotation.specs.Limits.{narrowed};
 ghost use Rattle.ir_annotation.specs.Bounds.{total_of, is_no_sign, BeginsWithSign};
 ghost use Rattle.ir_annotation.specs.Forms.{is_no_star, term_behind, term_by_number, term_of, kept, is_narrow, form_from, form_of, nothing};

@@ -1,9 +1,11 @@
 //! The words of an annotation's line.
 
 ghost use Rattle.std.specs.Prelude.{◌≡◌};
-ghost use Rattle.ir_annotation.specs.Reading.{Gives, made};
+ghost use Rattle.ir_annotation.specs.Reading.{made};
+ghost use Rattle.ir_annotation.specs.Answers.{Gives};
 ghost use Rattle.ir_annotation.specs.Lines.{as_line, inequality_of, zone_of, measure_of, budget_from_words, left_of, moded_zone_of, pending_of};
-ghost use Rattle.ir_annotation.specs.Lines.{compared, bound_of, annotation_behind, annotation_of};
+ghost use Rattle.ir_annotation.specs.Lines.{bound_of, annotation_behind, annotation_of};
+ghost use Rattle.ir_annotation.specs.Compared.{compared};
 
 use crate::forms::read_form;
 use crate::keywords::{Keyword, read_keyword};

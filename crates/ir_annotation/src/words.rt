@@ -1,7 +1,7 @@
 //! The words of an annotation but forms.
 
 ghost use Rattle.std.specs.Prelude.{◌≡◌, ◌≤◌, true, IfOk};
-ghost use Rattle.ir_annotation.specs.Reading.{Gives};
+ghost use Rattle.ir_annotation.specs.Answers.{Gives};
 ghost use Rattle.ir_annotation.specs.Words.{is_numeral, small_value, number_of, name_of, register_of, object_of, relation_of, mode_of};
 
 use crate::limits::{Limited, NAME_MOST, up_to};

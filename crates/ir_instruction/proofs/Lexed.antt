@@ -9,7 +9,7 @@ use Rattle.ir_lex.specs.declared.token.Kind.TheVariants as kinds
 use Rattle.ir_lex.specs.declared.token.Token.{Token}
 use Rattle.ir_lex.specs.Spelling.{is_name, is_number}
 use Rattle.ir_lex.specs.Tokens.{tokens_from}
-use Rattle.ir_lex.specs.Lexemes.{text_at}
+use Rattle.ir_lex.specs.Texts.{text_at}
 use Rattle.ir_lex.proofs.Printed.{is_parted, IsLexeme, Run, Sign, space_then, one_then}
 use Rattle.ir_lex.proofs.Names.{name_runs, name_kind}
 use Rattle.ir_lex.proofs.KindLaws.{number_kind, number_runs, sigil_kind, mark_is_no_space, mark_is_no_run}

@@ -3,7 +3,8 @@ use Rattle.std.proofs.Common.{◌≡◌, ℕ, suc, ◌-◌, ◌+◌, ◌≤◌, 
 use Rattle.ir_instruction.specs.declared.fault.LineFault.{LineFault}
 use Rattle.ir_instruction.specs.declared.fault.LineFault.TheVariants as faults
 use Rattle.ir_instruction.specs.declared.symbol.Symbol.{Symbol}
-use Rattle.ir_instruction.specs.Outcome.{◌>>=◌, Fails}
+use Rattle.ir_instruction.specs.Outcome.{◌>>=◌}
+use Rattle.ir_instruction.specs.Answers.{Fails}
 use Rattle.ir_instruction.specs.Lists.{list_at}
 
 -- what was read before, and what is still read

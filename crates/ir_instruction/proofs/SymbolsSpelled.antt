@@ -9,7 +9,8 @@ use Rattle.ir_lex.specs.declared.token.Kind.{Kind}
 use Rattle.ir_lex.specs.declared.token.Kind.TheVariants as kinds
 use Rattle.ir_lex.specs.declared.token.Token.{Token}
 use Rattle.ir_lex.specs.Spelling.{is_name, is_marked_name, is_mark}
-use Rattle.ir_lex.specs.Lexemes.{HasKind, IsTokenOf, text_at}
+use Rattle.ir_lex.specs.Lexemes.{HasKind, IsTokenOf}
+use Rattle.ir_lex.specs.Texts.{text_at}
 use Rattle.ir_lex.proofs.PlainWords.{IsNameIfWord, IsPlainToken}
 use Rattle.ir_instruction.specs.declared.symbol.Numeral.{Numeral}
 use Rattle.ir_instruction.specs.declared.symbol.Symbol.TheVariants as symbols

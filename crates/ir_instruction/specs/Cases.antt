@@ -11,7 +11,6 @@ use Rattle.ir_instruction.specs.Numerals.{value_of, is_same_number}
 abbrev pub share_number_or_label : SpelledCase → SpelledCase → Bool
 share_number_or_label c d = bytes_eq c.target d.target || is_same_number c.number d.number
 
--- no two numbers and no two labels are the same
 abbrev pub are_distinct : List SpelledCase → Bool
 are_distinct [] = true
 are_distinct (c ∷ cs) = not (list_any (share_number_or_label c) cs) && are_distinct cs

@@ -23,7 +23,6 @@ abbrev pub word_at : List ℕ → List Symbol → Option (List Symbol)
 word_at text (Word found ∷ rest) = if bytes_eq found text then Some rest else None
 word_at text _ = None
 
--- this global and no other
 abbrev pub named_at : List ℕ → List Symbol → Option (List Symbol)
 named_at text (Global found ∷ rest) = if bytes_eq found text then Some rest else None
 named_at text _ = None
@@ -52,7 +51,6 @@ abbrev pub global_at : List Symbol → Option (List ℕ × List Symbol)
 global_at (Global name ∷ rest) = Some (name, rest)
 global_at _ = None
 
--- label %l
 abbrev pub label_at : List Symbol → Option (List ℕ × List Symbol)
 label_at line = word_at (codes "label") line >>= register_at
 
@@ -60,19 +58,16 @@ abbrev pub numeral_at : List Symbol → Option (Numeral × List Symbol)
 numeral_at (Number n ∷ rest) = Some (n, rest)
 numeral_at _ = None
 
--- a number or a register
 abbrev pub operand_at : List Symbol → Option (Operand × List Symbol)
 operand_at (Number n ∷ rest) = Some (operand.Number (value_of n), rest)
 operand_at (Register name ∷ rest) = Some (operand.Register name, rest)
 operand_at _ = None
 
--- a global or a register
 abbrev pub address_at : List Symbol → Option (Address × List Symbol)
 address_at (Global name ∷ rest) = Some (address.Global name, rest)
 address_at (Register name ∷ rest) = Some (address.Register name, rest)
 address_at _ = None
 
--- ptr P
 abbrev pub pointer_at : List Symbol → Option (Address × List Symbol)
 pointer_at line = word_at (codes "ptr") line >>= address_at
 
@@ -82,25 +77,18 @@ count_at _ = None
 
 -- [N x i64]
 abbrev pub array_at : List Symbol → Option (ℕ × List Symbol)
-array_at line =
-    mark_at 91 line >>= count_at >>= λ count.
-    word_at (codes "x") count.1 >>= word_at (codes "i64") >>= mark_at 93 >>= λ rest. Some (count.0, rest)
+array_at line = mark_at 91 line >>= count_at >>= λ count. word_at (codes "x") count.1 >>= word_at (codes "i64") >>=
+    mark_at 93 >>= λ rest. Some (count.0, rest)
 
 -- so many bytes, as cells
 abbrev pub bytes_at : List Symbol → Option (ℕ × List Symbol)
 bytes_at (Number n ∷ rest) = option_map (λ cells. (cells, rest)) (cells_of_bytes n)
 bytes_at _ = None
 
--- i64 or i32
 abbrev pub width_at : List Symbol → Option (Width × List Symbol)
-width_at line =
-    if is_word (codes "i64") line then Some (width.Bits64, behind line)
-    else if is_word (codes "i32") line then Some (width.Bits32, behind line)
-    else None
+width_at line = if is_word (codes "i64") line then Some (width.Bits64, behind line)
+    else if is_word (codes "i32") line then Some (width.Bits32, behind line) else None
 
--- i64 or void
 abbrev pub result_type_at : List Symbol → Option (ResultType × List Symbol)
-result_type_at line =
-    if is_word (codes "i64") line then Some (result_type.Number, behind line)
-    else if is_word (codes "void") line then Some (result_type.Void, behind line)
-    else None
+result_type_at line = if is_word (codes "i64") line then Some (result_type.Number, behind line)
+    else if is_word (codes "void") line then Some (result_type.Void, behind line) else None

@@ -65,9 +65,8 @@ alloca_array_from d g = instruction.Alloca d (Array g.0)
 
 -- %d = getelementptr inbounds i64, ptr P, i64 V
 abbrev pub element_pointer_shape : List Piece
-element_pointer_shape =
-    word (codes "inbounds") ∷ space ∷ word (codes "i64") ∷ mark 44 ∷ space ∷ gap pointer
-    ∷ mark 44 ∷ space ∷ word (codes "i64") ∷ space ∷ gap operand ∷ []
+element_pointer_shape = word (codes "inbounds") ∷ space ∷ word (codes "i64") ∷ mark 44 ∷ space ∷ gap pointer ∷ mark 44
+    ∷ space ∷ word (codes "i64") ∷ space ∷ gap operand ∷ []
 
 abbrev pub element_pointer_from : List ℕ → Gaps element_pointer_shape → Instruction
 element_pointer_from d g = instruction.ElementPointer d g.0 g.1.0
@@ -152,8 +151,8 @@ abbrev pub switch_shape : List Piece
 switch_shape = gap width ∷ space ∷ gap operand ∷ mark 44 ∷ space ∷ gap label ∷ space ∷ mark 91 ∷ space ∷ gap cases ∷ []
 
 abbrev pub switch_from : Gaps switch_shape → Option Terminator
-switch_from g = if are_cases_of g.0 g.1.1.0 g.1.1.1.0 then Some
-    (terminator.Switch g.0 g.1.0 g.1.1.0 (cases_from g.1.1.1.0)) else None
+switch_from g = if are_cases_of g.0 g.1.1.0 g.1.1.1.0 then Some (terminator.Switch g.0 g.1.0 g.1.1.0
+    (cases_from g.1.1.1.0)) else None
 
 -- ret void
 abbrev pub return_void_shape : List Piece
@@ -197,74 +196,58 @@ global_shape = mark 61 ∷ space ∷ word (codes "global") ∷ space ∷ gap arr
 abbrev pub define_shape : List Piece
 define_shape = gap result_type ∷ space ∷ gap function ∷ mark 40 ∷ gap parameters ∷ space ∷ mark 123 ∷ []
 
--- Which instruction or terminator it is
+-- Which instruction or terminator it is, by what stands behind its first word
 
 -- behind '%d = OP'
 abbrev pub binary : List ℕ → BinaryOperator → List Symbol → Option Instruction
-binary d operator rest =
-    if is_word (codes "nsw") rest then (without_wrap operator >>= λ operator. option_map (binary_from d operator)
-    (gaps_of binary_shape (behind rest)))
+binary d operator rest = if is_word (codes "nsw") rest then (without_wrap operator >>=
+    λ operator. option_map (binary_from d operator) (gaps_of binary_shape (behind rest)))
     else option_map (binary_from d operator) (gaps_of binary_shape rest)
 
 -- behind '%d = alloca'
 abbrev pub alloca : List ℕ → List Symbol → Option Instruction
-alloca d rest =
-    if is_word (codes "i64") rest then option_map (alloca_from d) (gaps_of alloca_shape rest)
+alloca d rest = if is_word (codes "i64") rest then option_map (alloca_from d) (gaps_of alloca_shape rest)
     else option_map (alloca_array_from d) (gaps_of alloca_array_shape rest)
 
 -- behind '%d = call'
 abbrev pub call : List ℕ → List Symbol → Option Instruction
-call d rest =
-    if is_word (codes "token") rest then option_map (start_region_from d) (gaps_of start_region_shape rest)
+call d rest = if is_word (codes "token") rest then option_map (start_region_from d) (gaps_of start_region_shape rest)
     else option_map (call_from d) (gaps_of call_shape rest)
 
 -- behind '%d = WORD', where the word is neither phi nor call
 unfoldable pub fixed : List ℕ → List ℕ → List Symbol → Option Instruction
-fixed d text rest =
-    if bytes_eq text (codes "icmp") then option_map (compare_from d) (gaps_of compare_shape rest)
+fixed d text rest = if bytes_eq text (codes "icmp") then option_map (compare_from d) (gaps_of compare_shape rest)
     else if bytes_eq text (codes "trunc") then option_map (truncate_from d) (gaps_of truncate_shape rest)
     else if bytes_eq text (codes "sext") then option_map (extend_from d SignExtend) (gaps_of extend_shape rest)
     else if bytes_eq text (codes "zext") then option_map (extend_from d ZeroExtend) (gaps_of extend_shape rest)
     else if bytes_eq text (codes "alloca") then alloca d rest
     else if bytes_eq text (codes "getelementptr") then option_map (element_pointer_from d)
-    (gaps_of element_pointer_shape rest)
-    else if bytes_eq text (codes "load") then option_map (load_from d) (gaps_of load_shape rest)
-    else (operator_of text >>= λ operator. binary d operator rest)
+    (gaps_of element_pointer_shape rest) else if bytes_eq text (codes "load") then option_map (load_from d)
+    (gaps_of load_shape rest) else (operator_of text >>= λ operator. binary d operator rest)
 
--- behind 'store'
 abbrev pub store : List Symbol → Option Instruction
-store rest =
-    if is_word (codes "i64") rest then option_map store_from (gaps_of store_shape rest)
+store rest = if is_word (codes "i64") rest then option_map store_from (gaps_of store_shape rest)
     else option_map store_zeros_from (gaps_of store_zeros_shape rest)
 
--- behind 'br'
 abbrev pub branch_in : List Symbol → Option Terminator
 branch_in rest = gaps_of branch_shape rest >>= branch_from
 
 abbrev pub br : List Symbol → Option Terminator
 br rest = if is_word (codes "label") rest then option_map jump_from (gaps_of jump_shape rest) else branch_in rest
 
--- behind 'switch'
 abbrev pub switch_in : List Symbol → Option Terminator
 switch_in rest = gaps_of switch_shape rest >>= switch_from
 
--- behind 'ret'
 abbrev pub return : List Symbol → Option Terminator
-return rest =
-    if is_word (codes "void") rest then option_map return_void_from (gaps_of return_void_shape rest)
+return rest = if is_word (codes "void") rest then option_map return_void_from (gaps_of return_void_shape rest)
     else option_map return_from (gaps_of return_shape rest)
 
--- behind 'detach'
 abbrev pub detach_in : List Symbol → Option Terminator
 detach_in rest = gaps_of detach_shape rest >>= detach_from
 
--- behind the first word of a terminator
 unfoldable pub terminator_in : List ℕ → List Symbol → Option Terminator
-terminator_in text rest =
-    if bytes_eq text (codes "br") then br rest
-    else if bytes_eq text (codes "switch") then switch_in rest
-    else if bytes_eq text (codes "ret") then return rest
+terminator_in text rest = if bytes_eq text (codes "br") then br rest
+    else if bytes_eq text (codes "switch") then switch_in rest else if bytes_eq text (codes "ret") then return rest
     else if bytes_eq text (codes "detach") then detach_in rest
     else if bytes_eq text (codes "reattach") then option_map reattach_from (gaps_of region_shape rest)
-    else if bytes_eq text (codes "sync") then option_map sync_from (gaps_of region_shape rest)
-    else None
+    else if bytes_eq text (codes "sync") then option_map sync_from (gaps_of region_shape rest) else None

@@ -10,3 +10,4 @@ pub mod Symbols
 pub mod Spelling
 pub mod Fits
 pub mod Spelled
+pub mod Answers

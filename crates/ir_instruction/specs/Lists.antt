@@ -20,8 +20,7 @@ more_at first others (Some rest) = others rest >>= λ found. Some (first.0 ∷ f
 -- One element or more, and what is left: element reads one, next tells where another one begins, and there are no more
 -- of them than the number says.
 unfoldable pub list_at : {A : Type 0} → (List Symbol → Option (A × List Symbol)) →
-    (List Symbol → Option (List Symbol)) → ℕ → List Symbol
-    → Option (List A × List Symbol)
+    (List Symbol → Option (List Symbol)) → ℕ → List Symbol → Option (List A × List Symbol)
 list_at element next zero line = None
 list_at element next (suc most) line = element line >>= λ first. more_at first (list_at element next most)
     (next first.1)
@@ -36,23 +35,19 @@ case_follows line = if is_mark 93 line then None else Some line
 
 -- ptr noalias dereferenceable(B) %p
 abbrev pub pointer_parameter_at : List Symbol → Option (Parameter × List Symbol)
-pointer_parameter_at line =
-    word_at (codes "ptr") line >>= word_at (codes "noalias") >>= word_at
-    (codes "dereferenceable") >>= mark_at 40 >>= bytes_at >>= λ cells.
-    mark_at 41 cells.1 >>= register_at >>= λ name. Some (parameter.Pointer name.0 cells.0, name.1)
+pointer_parameter_at line = word_at (codes "ptr") line >>= word_at (codes "noalias") >>=
+    word_at (codes "dereferenceable") >>= mark_at 40 >>= bytes_at >>= λ cells. mark_at 41 cells.1 >>= register_at >>=
+    λ name. Some (parameter.Pointer name.0 cells.0, name.1)
 
--- i64 %x
 abbrev pub number_parameter_at : List Symbol → Option (Parameter × List Symbol)
 number_parameter_at line = word_at (codes "i64") line >>= register_at >>= λ name. Some (parameter.Number name.0, name.1)
 
 abbrev pub parameter_at : List Symbol → Option (Parameter × List Symbol)
 parameter_at line = if is_word (codes "ptr") line then pointer_parameter_at line else number_parameter_at line
 
--- ptr P
 abbrev pub pointer_argument_at : List Symbol → Option (Argument × List Symbol)
 pointer_argument_at line = pointer_at line >>= λ found. Some (argument.Pointer found.0, found.1)
 
--- i64 V
 abbrev pub number_argument_at : List Symbol → Option (Argument × List Symbol)
 number_argument_at line = word_at (codes "i64") line >>= operand_at >>= λ found. Some (argument.Number found.0, found.1)
 
@@ -61,28 +56,24 @@ argument_at line = if is_word (codes "ptr") line then pointer_argument_at line e
 
 -- [ V, %l ]
 abbrev pub entry_at : List Symbol → Option (PhiEntry × List Symbol)
-entry_at line =
-    mark_at 91 line >>= operand_at >>= λ found. mark_at 44 found.1 >>= register_at >>= λ name. mark_at 93 name.1 >>= λ
-    rest.
-    Some (record { value = found.0; predecessor = name.0 }, rest)
+entry_at line = mark_at 91 line >>= operand_at >>= λ found. mark_at 44 found.1 >>= register_at >>=
+    λ name. mark_at 93 name.1 >>= λ rest. Some (record { value = found.0; predecessor = name.0 }, rest)
 
 -- T N, label %l
 abbrev pub case_at : List Symbol → Option (SpelledCase × List Symbol)
-case_at line =
-    width_at line >>= λ width. numeral_at width.1 >>= λ number. mark_at 44 number.1 >>= label_at >>= λ target.
-    Some (record { width = width.0; number = number.0; target = target.0 }, target.1)
+case_at line = width_at line >>= λ width. numeral_at width.1 >>= λ number. mark_at 44 number.1 >>= label_at >>=
+    λ target. Some (record { width = width.0; number = number.0; target = target.0 }, target.1)
 
 -- elements parted by commas up to ), which may be none
 abbrev pub all_at : {A : Type 0} → (List Symbol → Option (A × List Symbol)) → List Symbol →
     Option (List A × List Symbol)
-all_at element line =
-    if is_mark 41 line then Some ([], behind line)
+all_at element line = if is_mark 41 line then Some ([], behind line)
     else (list_at element comma_at (length line) line >>= λ found. mark_at 41 found.1 >>= λ rest. Some (found.0, rest))
 
 -- cases up to ]
 abbrev pub all_cases_at : List Symbol → Option (List SpelledCase × List Symbol)
-all_cases_at line = list_at case_at case_follows (length line) line >>= λ found. mark_at 93 found.1 >>= λ rest. Some
-    (found.0, rest)
+all_cases_at line = list_at case_at case_follows (length line) line >>= λ found. mark_at 93 found.1 >>=
+    λ rest. Some (found.0, rest)
 
 -- entries up to the line's end
 abbrev pub all_entries_at : List Symbol → Option (List PhiEntry × List Symbol)

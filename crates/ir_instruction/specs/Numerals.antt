@@ -16,15 +16,13 @@ abbrev pub is_negative : List ℕ → Bool
 is_negative [] = false
 is_negative (b ∷ bs) = b == 45
 
--- the digit at this place, counted from the end
 abbrev pub digit_from_end : ℕ → List ℕ → ℕ
 digit_from_end k digits = slice_index digits (length digits - k) - 48
 
 -- A number of three digits or more is a multiple of 8 where its last three digits are, as 1000 is.
 abbrev pub is_multiple_of_eight : List ℕ → Bool
-is_multiple_of_eight digits =
-    nat_le 3 (length digits) && (digit_from_end 3 digits * 100 + digit_from_end 2 digits * 10 + digit_from_end 1 digits)
-    % 8 == 0
+is_multiple_of_eight digits = nat_le 3 (length digits) &&
+    (digit_from_end 3 digits * 100 + digit_from_end 2 digits * 10 + digit_from_end 1 digits) % 8 == 0
 
 -- a number from 1 on; one that is too large counts as 1
 abbrev pub count_of : Numeral → Option ℕ

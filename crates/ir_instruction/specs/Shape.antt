@@ -39,7 +39,6 @@ pub data Piece : Type 0 where
   gap : Gap → Piece
   space : Piece  -- a space of the canonical print
 
--- what a gap holds
 abbrev pub Held : Gap → Type 0
 Held register = List ℕ
 Held function = List ℕ
@@ -58,11 +57,8 @@ Held entries = List PhiEntry
 -- what a shape's gaps hold, in order
 abbrev pub Gaps : List Piece → Type 0
 Gaps [] = Unit {0}
-Gaps (word text ∷ shape) = Gaps shape
-Gaps (mark byte ∷ shape) = Gaps shape
-Gaps (named text ∷ shape) = Gaps shape
 Gaps (gap g ∷ shape) = Held g × Gaps shape
-Gaps (space ∷ shape) = Gaps shape
+Gaps (other ∷ shape) = Gaps shape
 
 -- what a gap at the front of a line's rest holds, and what is left
 abbrev pub gap_at : (g : Gap) → List Symbol → Option (Held g × List Symbol)

@@ -34,7 +34,7 @@ use Rattle.syntax.specs.declared.operator.Width.TheVariants.{Bits64, Bits32}
 use Rattle.syntax.specs.declared.terminator.Case.{Case}
 use Rattle.syntax.specs.declared.terminator.Terminator.{Terminator}
 use Rattle.syntax.specs.declared.terminator.Terminator.TheVariants as terminator
-use Rattle.ir_lex.specs.Spelling.{register_text, global_text}
+use Rattle.ir_lex.specs.Names.{register_text, global_text}
 use Rattle.ir_instruction.specs.declared.symbol.Numeral.{Numeral}
 use Rattle.ir_instruction.specs.declared.symbol.Numeral.TheVariants.{Small, Large}
 use Rattle.ir_instruction.specs.declared.symbol.Symbol.{Symbol}

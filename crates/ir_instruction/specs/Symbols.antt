@@ -6,7 +6,7 @@ use Rattle.std.specs.Str.Parse.{signed_digits_value}
 use Rattle.ir_lex.specs.declared.token.Kind.{Kind}
 use Rattle.ir_lex.specs.declared.token.Kind.TheVariants as kinds
 use Rattle.ir_lex.specs.declared.token.Token.{Token}
-use Rattle.ir_lex.specs.Lexemes.{text_at}
+use Rattle.ir_lex.specs.Texts.{text_at}
 use Rattle.ir_instruction.specs.declared.symbol.Numeral.{Numeral}
 use Rattle.ir_instruction.specs.declared.symbol.Numeral.TheVariants.{Small, Large}
 use Rattle.ir_instruction.specs.declared.symbol.Symbol.{Symbol}
@@ -38,7 +38,6 @@ symbol_of kinds.Word text = Word text
 symbol_of kinds.Mark text = Mark (slice_index text 0)
 symbol_of kinds.Note text = Note
 
--- what a token of a line stands for
 abbrev pub symbol_at : List ℕ → Token → Symbol
 symbol_at line t = symbol_of t.kind (text_at line t)
 
@@ -46,8 +45,6 @@ symbol_at line t = symbol_of t.kind (text_at line t)
 abbrev pub is_within_limits : Symbol → Bool
 is_within_limits (Register name) = nat_le (length name) 64
 is_within_limits (Global name) = nat_le (length name) 64
-is_within_limits (Number (Small n)) = true
 is_within_limits (Number (Large digits)) = false
 is_within_limits (Word name) = nat_le (length name) 64
-is_within_limits (Mark byte) = true
-is_within_limits Note = true
+is_within_limits other = true

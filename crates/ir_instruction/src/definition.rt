@@ -1,7 +1,7 @@
 //! What defines a register: behind `%d =` and a word.
 
 ghost use Rattle.std.specs.Prelude.{◌≡◌, [], ◌∷◌, codes, option_map};
-ghost use Rattle.ir_instruction.specs.Outcome.{Finds, Gives};
+ghost use Rattle.ir_instruction.specs.Answers.{Finds, Gives};
 ghost use Rattle.ir_instruction.specs.Shape.{gaps_of, gap, word, mark, space, operand, pointer};
 ghost use Rattle.ir_instruction.specs.Grammar.{binary_shape, binary_from, compare_shape, compare_from, truncate_shape, truncate_from, extend_shape};
 ghost use Rattle.ir_instruction.specs.Grammar.{extend_from, alloca_shape, alloca_from, alloca_array_shape, alloca_array_from, element_pointer_shape};

@@ -1,7 +1,7 @@
 //! Instructions that define no register: what stands behind their first word.
 
 ghost use Rattle.std.specs.Prelude.{◌≡◌, [], ◌∷◌, codes, option_map};
-ghost use Rattle.ir_instruction.specs.Outcome.{Gives};
+ghost use Rattle.ir_instruction.specs.Answers.{Gives};
 ghost use Rattle.ir_instruction.specs.Shape.{gaps_of, gap, word, mark, space, operand};
 ghost use Rattle.ir_instruction.specs.Grammar.{store_shape, store_from, store_zeros_shape, store_zeros_from, atomic_shape, atomic_from, call_void_shape};
 ghost use Rattle.ir_instruction.specs.Grammar.{call_void_from, store};

@@ -2,7 +2,7 @@
 //! follows each step with all that is held at it.
 
 ghost use Rattle.std.specs.Prelude.{◌≡◌, [], ◌∷◌, codes};
-ghost use Rattle.ir_instruction.specs.Outcome.{Finds, Gives};
+ghost use Rattle.ir_instruction.specs.Answers.{Finds, Gives};
 ghost use Rattle.ir_instruction.specs.Shape.{gaps_of, gap, word, mark, space, register, function, label, operand, pointer, arguments, cases};
 
 use crate::fault::LineFault;

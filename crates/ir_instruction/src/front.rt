@@ -1,7 +1,8 @@
 //! What stands at the front of the rest of a line, and what is left behind it.
 
 ghost use Rattle.std.specs.Prelude.{◌≡◌, codes};
-ghost use Rattle.ir_instruction.specs.Outcome.{Finds, Gives, ◌>>=◌ as ◌▷◌};
+ghost use Rattle.ir_instruction.specs.Outcome.{◌>>=◌ as ◌▷◌};
+ghost use Rattle.ir_instruction.specs.Answers.{Finds, Gives};
 ghost use Rattle.ir_instruction.specs.Fronts.{mark_at, word_at, named_at, end_at, is_word, is_mark, behind, register_at, global_at, label_at, numeral_at};
 ghost use Rattle.ir_instruction.specs.Fronts.{operand_at, address_at, pointer_at, count_at, array_at, bytes_at, width_at, result_type_at};
 

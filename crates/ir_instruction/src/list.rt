@@ -2,7 +2,8 @@
 
 ghost use Rattle.std.specs.Prelude.{◌≡◌, List, length, codes, Option, option_map};
 ghost use Rattle.ir_instruction.specs.declared.symbol.Symbol.{Symbol};
-ghost use Rattle.ir_instruction.specs.Outcome.{Finds, Gives, ◌>>=◌ as ◌▷◌};
+ghost use Rattle.ir_instruction.specs.Outcome.{◌>>=◌ as ◌▷◌};
+ghost use Rattle.ir_instruction.specs.Answers.{Finds, Gives};
 ghost use Rattle.ir_instruction.specs.Fronts.{mark_at, word_at, register_at, operand_at};
 ghost use Rattle.ir_instruction.specs.Lists.{list_at, comma_at, pointer_parameter_at, number_parameter_at, parameter_at, pointer_argument_at};
 ghost use Rattle.ir_instruction.specs.Lists.{number_argument_at, argument_at, entry_at, all_at, all_entries_at};

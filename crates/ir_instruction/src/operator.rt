@@ -1,7 +1,7 @@
 //! The words of operations.
 
 ghost use Rattle.std.specs.Prelude.{◌≡◌};
-ghost use Rattle.ir_instruction.specs.Outcome.{Finds};
+ghost use Rattle.ir_instruction.specs.Answers.{Finds};
 ghost use Rattle.ir_instruction.specs.Operators.{operator_of, without_wrap, predicate_of, predicate_at};
 
 use crate::fault::LineFault;

@@ -1,7 +1,8 @@
 //! The cases of a `switch`.
 
 ghost use Rattle.std.specs.Prelude.{◌≡◌, IfOk, option_map};
-ghost use Rattle.ir_instruction.specs.Outcome.{Gives, ◌>>=◌ as ◌▷◌};
+ghost use Rattle.ir_instruction.specs.Outcome.{◌>>=◌ as ◌▷◌};
+ghost use Rattle.ir_instruction.specs.Answers.{Gives};
 ghost use Rattle.ir_instruction.specs.Fronts.{mark_at, label_at};
 ghost use Rattle.ir_instruction.specs.Lists.{case_at, case_follows, all_cases_at};
 ghost use Rattle.std.specs.List.{list_all, list_any};

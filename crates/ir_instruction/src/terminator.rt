@@ -1,7 +1,7 @@
 //! Terminators: what stands behind their first word.
 
 ghost use Rattle.std.specs.Prelude.{◌≡◌, Some, None, if◌then◌else◌, option_map};
-ghost use Rattle.ir_instruction.specs.Outcome.{Gives};
+ghost use Rattle.ir_instruction.specs.Answers.{Gives};
 ghost use Rattle.ir_instruction.specs.Shape.{gaps_of};
 ghost use Rattle.ir_instruction.specs.Cases.{are_cases_of, cases_from};
 ghost use Rattle.ir_instruction.specs.Grammar.{jump_shape, jump_from, branch_in, switch_in, return_void_shape, return_void_from, return_shape, return_from};

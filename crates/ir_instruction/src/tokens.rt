@@ -2,7 +2,8 @@
 
 ghost use Rattle.std.specs.Prelude.{◌≡◌, All, IsAscii, IfOk, map, true};
 ghost use Rattle.ir_lex.specs.Spelling.{is_number, is_marked_name};
-ghost use Rattle.ir_lex.specs.Lexemes.{HasKind, IsTokenOf, text_at};
+ghost use Rattle.ir_lex.specs.Lexemes.{HasKind, IsTokenOf};
+ghost use Rattle.ir_lex.specs.Texts.{text_at};
 ghost use Rattle.ir_instruction.specs.Symbols.{number_of, numeral_of, named, symbol_of, symbol_at};
 
 use crate::symbol::{Numeral, Symbol};

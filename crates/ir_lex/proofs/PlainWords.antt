@@ -10,7 +10,7 @@ use Rattle.ir_lex.specs.declared.token.Token.{Token}
 use Rattle.ir_lex.specs.declared.scan.Front.TheVariants.{Space, Comment, Begins}
 use Rattle.ir_lex.specs.Spelling.{is_space, is_mark, is_name, is_number, is_marked_name, is_note_mark, is_run_byte, kind_of}
 use Rattle.ir_lex.specs.Tokens.{lead_of_run, lead, tokens_from, tokens_of}
-use Rattle.ir_lex.specs.Lexemes.{text_at}
+use Rattle.ir_lex.specs.Texts.{text_at}
 use Rattle.ir_lex.proofs.Hold.{chosen, HoldsAtFronts, from_place}
 
 abbrev pub IsNameIfWord : Kind → List ℕ → Type 0

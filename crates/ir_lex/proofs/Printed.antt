@@ -11,7 +11,8 @@ use Rattle.ir_lex.specs.declared.scan.Front.{Front}
 use Rattle.ir_lex.specs.declared.scan.Front.TheVariants.{Space, Comment, Begins}
 use Rattle.ir_lex.specs.Spelling.{is_space, is_mark, is_note_mark, is_run_byte, kind_of}
 use Rattle.ir_lex.specs.Tokens.{lead_of_run, lead, front_at, tokens_from}
-use Rattle.ir_lex.specs.Lexemes.{text_at, Lexeme, lexeme_at, lexemes_of}
+use Rattle.ir_lex.specs.Lexemes.{Lexeme, lexeme_at, lexemes_of}
+use Rattle.ir_lex.specs.Texts.{text_at}
 use Rattle.ir_lex.proofs.Walk.{at_space, at_token}
 
 -- a lexeme, and whether a space stands behind it

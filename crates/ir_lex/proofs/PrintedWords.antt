@@ -11,7 +11,7 @@ use Rattle.ir_lex.specs.declared.scan.Front.{Front}
 use Rattle.ir_lex.specs.declared.scan.Front.TheVariants.{Space, Begins}
 use Rattle.ir_lex.specs.Spelling.{is_space, is_word_byte, is_printed}
 use Rattle.ir_lex.specs.Tokens.{lead_of_run, lead_in_note, front_at, tokens_from}
-use Rattle.ir_lex.specs.Lexemes.{text_at}
+use Rattle.ir_lex.specs.Texts.{text_at}
 use Rattle.ir_lex.specs.Words.{words_text, are_words}
 use Rattle.ir_lex.proofs.Walk.{at_space, at_token}
 

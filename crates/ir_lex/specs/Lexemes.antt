@@ -1,14 +1,11 @@
 -- What each token of a line is.
-use Rattle.std.specs.Prelude.{◌≡◌, ℕ, ◌-◌, ◌<◌, ◌≤◌, true, List, codes, length, take, drop, map}
+use Rattle.std.specs.Prelude.{◌≡◌, ℕ, ◌<◌, ◌≤◌, true, List, codes, length, map}
 use Rattle.ir_lex.specs.declared.token.Kind.{Kind}
 use Rattle.ir_lex.specs.declared.token.Kind.TheVariants.{Name, Number, Word, Mark, Note}
 use Rattle.ir_lex.specs.declared.token.Token.{Token}
 use Rattle.std.specs.List.{list_all}
 use Rattle.ir_lex.specs.Spelling.{is_number, is_marked_name, is_mark, is_printed}
-
--- the bytes of a token
-abbrev pub text_at : List ℕ → Token → List ℕ
-text_at line t = take (t.to - t.from) (drop t.from line)
+use Rattle.ir_lex.specs.Texts.{text_at}
 
 abbrev pub HasKind : Kind → List ℕ → Type 0
 HasKind Name text = is_marked_name text ≡ true

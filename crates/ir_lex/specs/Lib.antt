@@ -4,3 +4,5 @@ pub mod Lexemes
 pub mod Faults
 pub mod Scanning
 pub mod Words
+pub mod Texts
+pub mod Names

@@ -4,14 +4,12 @@ use Rattle.refusal.specs.declared.refused.Refused.{Refused}
 use Rattle.refusal.specs.Refusals.{IfBroken}
 use Rattle.ir_lex.specs.declared.token.Token.{Token}
 use Rattle.ir_lex.specs.declared.scan.Front.{Front}
-use Rattle.ir_lex.specs.declared.scan.Front.TheVariants.{Space, Comment, Begins, Wrong}
+use Rattle.ir_lex.specs.declared.scan.Front.TheVariants.{Begins}
 
 -- a token at the front takes a byte and no more than there are
 abbrev pub IsWithin : ℕ → Front → Type 0
-IsWithin len Space = Unit {0}
-IsWithin len Comment = Unit {0}
 IsWithin len (Begins kind n) = (0 < n) × (n ≤ len)
-IsWithin len Wrong = Unit {0}
+IsWithin len other = Unit {0}
 
 -- tokens, and those that follow
 abbrev pub prepend : List Token → Option (List Token) → Option (List Token)

@@ -1,5 +1,5 @@
 -- How tokens are spelled.
-use Rattle.std.specs.Prelude.{ℕ, Bool, false, ◌&&◌, ◌||◌, not, ◌==◌, nat_le, List, [], ◌∷◌, ◌++◌, codes, length, Option}
+use Rattle.std.specs.Prelude.{ℕ, Bool, false, ◌&&◌, ◌||◌, not, ◌==◌, nat_le, List, [], ◌∷◌, length, Option}
 use Rattle.std.specs.Prelude.{Some, None, if◌then◌else◌}
 use Rattle.std.specs.List.{list_all}
 use Rattle.std.specs.Char.{is_ascii_digit, is_ascii_alphabetic}
@@ -41,31 +41,19 @@ abbrev pub is_number : List ℕ → Bool
 is_number [] = false
 is_number (b ∷ bs) = (b == 48 && length bs == 0) || (b == 45 && is_positive bs) || is_positive (b ∷ bs)
 
--- a register, and a global or a function
-abbrev pub register_text : List ℕ → List ℕ
-register_text name = codes "%" ++ name
-
-abbrev pub global_text : List ℕ → List ℕ
-global_text name = codes "@" ++ name
-
 -- a name behind % or @
 abbrev pub is_marked_name : List ℕ → Bool
 is_marked_name [] = false
 is_marked_name (b ∷ bs) = (b == 37 || b == 64) && is_name bs
 
--- what a run is
 abbrev pub kind_of : List ℕ → Option Kind
-kind_of run =
-    if is_name run then Some Word
-    else if is_number run then Some Number
-    else if is_marked_name run then Some Name
-    else None
+kind_of run = if is_name run then Some Word else if is_number run then Some Number
+    else if is_marked_name run then Some Name else None
 
 -- a word of an annotation has printed ASCII and no semicolon
 abbrev pub is_printed : ℕ → Bool
 is_printed b = (nat_le 33 b && nat_le b 126) && not (b == 59)
 
 abbrev pub is_note_mark : List ℕ → Bool
-is_note_mark [] = false
-is_note_mark (b ∷ []) = false
 is_note_mark (b ∷ c ∷ bs) = b == 59 && c == 33
+is_note_mark other = false

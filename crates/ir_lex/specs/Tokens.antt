@@ -9,7 +9,6 @@ use Rattle.ir_lex.specs.declared.scan.Front.{Front}
 use Rattle.ir_lex.specs.declared.scan.Front.TheVariants.{Space, Comment, Begins, Wrong}
 use Rattle.ir_lex.specs.Spelling.{is_space, is_mark, is_run_byte, is_word_byte, kind_of, is_printed, is_note_mark}
 
--- the whole run at the front is a token of this kind
 abbrev pub lead_of_run : Option Kind → ℕ → Front
 lead_of_run None n = Wrong
 lead_of_run (Some kind) n = Begins kind n
@@ -17,22 +16,14 @@ lead_of_run (Some kind) n = Begins kind n
 -- what stands at the front of a line's rest that is not empty
 unfoldable pub lead : List ℕ → Front
 lead [] = Wrong
-lead (b ∷ bs) =
-    if is_space b then Space
-    else if is_mark b then Begins Mark 1
-    else if is_note_mark (b ∷ bs) then Begins Note 2
-    else if b == 59 then Comment
-    else
-    let len = prefix_len is_run_byte (b ∷ bs) in
-    lead_of_run (kind_of (take len (b ∷ bs))) len
+lead (b ∷ bs) = if is_space b then Space else if is_mark b then Begins Mark 1
+    else if is_note_mark (b ∷ bs) then Begins Note 2 else if b == 59 then Comment
+    else let len = prefix_len is_run_byte (b ∷ bs) in lead_of_run (kind_of (take len (b ∷ bs))) len
 
 -- and in an annotation
 unfoldable pub lead_in_note : List ℕ → Front
 lead_in_note [] = Wrong
-lead_in_note (b ∷ bs) =
-    if is_space b then Space
-    else
-    let len = prefix_len is_word_byte (b ∷ bs) in
+lead_in_note (b ∷ bs) = if is_space b then Space else let len = prefix_len is_word_byte (b ∷ bs) in
     lead_of_run (if list_all is_printed (take len (b ∷ bs)) then Some Word else None) len
 
 abbrev pub front_at : Bool → List ℕ → Front
@@ -55,9 +46,6 @@ tokens_from in_note zero i (b ∷ bs) = begun i (λ skip. tokens_from in_note sk
 
 -- A line whose first token is ;! is an annotation.
 abbrev pub tokens_of : List ℕ → Option (List Token)
-tokens_of line =
-    let start = prefix_len is_space line in
-    if is_note_mark (drop start line) then
-    option_map (λ ts. record { kind = Note; from = start; to = start + 2 } ∷
-    ts) (tokens_from true 0 (start + 2) (drop (start + 2) line))
-    else tokens_from false 0 start (drop start line)
+tokens_of line = let start = prefix_len is_space line in
+    if is_note_mark (drop start line) then option_map (λ ts. record { kind = Note; from = start; to = start + 2 }
+    ∷ ts) (tokens_from true 0 (start + 2) (drop (start + 2) line)) else tokens_from false 0 start (drop start line)

@@ -36,7 +36,8 @@ use Rattle.ir_reader.specs.Tracking.{IsStepless}
 use Rattle.ir_reader.specs.Defined.{parameter_name, defined_register, option_list, step_registers, phi_register, block_registers, block_names, function_names, global_name, function_name, module_names, reserved_outside, reserved_inside, open_function, names_beside, names_in, defined_outside, defined_inside, inside_before}
 use Rattle.ir_reader.specs.Limits.{global_cells, instruction_cells, step_cells, block_cells, function_cells, block_register_count, register_count}
 use Rattle.ir_reader.specs.declared.limits.Counts.{Counts}
-use Rattle.ir_reader.specs.Counting.{counts_in, counts_with}
+use Rattle.ir_reader.specs.Counting.{counts_in}
+use Rattle.ir_reader.specs.Counted.{counts_with}
 
 -- behind the item stands what it adds to a module and its open function
 pub record Adds (m : Module) (f : Option Function) (i : Item) (n : Module) (g : Option Function) : Type 0 where

@@ -25,7 +25,8 @@ use Rattle.ir_reader.specs.Draft.{placed, placed_in, placed_outside, placed_at_f
 use Rattle.ir_reader.specs.Names.{is_known, is_repeated}
 use Rattle.ir_reader.specs.Defined.{module_names, function_names, reserved_outside, reserved_inside, open_function, names_outside, names_in, names_inside, defined_outside, defined_inside, inside_before}
 use Rattle.ir_reader.specs.Limits.{register_count, function_cells, is_place_within}
-use Rattle.ir_reader.specs.Counting.{IsSmall, counts_in, counts_of, are_counts_within, is_within_limits}
+use Rattle.ir_reader.specs.Counting.{counts_in, counts_of, are_counts_within, is_within_limits}
+use Rattle.ir_reader.specs.Counted.{IsSmall}
 use Rattle.ir_reader.specs.Tracking.{IsStepless}
 use Rattle.ir_reader.specs.Lines.{lines_of}
 use Rattle.ir_reader.specs.Reading.{start, defines_again, judged_if_placed, with_item, with_said, Steps, Said, Reads, Done, Next, Stop, Overlong, ended, Answers, Read}

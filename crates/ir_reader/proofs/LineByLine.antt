@@ -4,7 +4,8 @@ use Rattle.std.specs.Prelude.{Result, Ok, Err, Some, IfErr, IsUtf8}
 use Rattle.refusal.specs.declared.refused.Refused.{Refused}
 use Rattle.refusal.specs.declared.refused.Refused.TheVariants as faults
 use Rattle.ir_reader.specs.declared.item.line.Line.{Line}
-use Rattle.ir_reader.specs.item.Lines.{line_of, IsFaultOfLine}
+use Rattle.ir_reader.specs.item.Lines.{line_of}
+use Rattle.ir_reader.specs.item.Answers.{IsFaultOfLine}
 use Rattle.syntax.specs.declared.module.Module.{Module}
 use Rattle.ir_reader.specs.declared.draft.Draft.{Draft}
 use Rattle.ir_reader.specs.declared.draft.LineContext.{LineContext}

@@ -12,7 +12,8 @@ use Rattle.refusal.specs.declared.refused.Refused.TheVariants as faults
 use Rattle.ir_reader.specs.declared.reader.Reader.{Reader}
 use Rattle.ir_reader.specs.Names.{is_repeated}
 use Rattle.ir_reader.specs.Defined.{module_names, names_outside, inside_before, defined_outside, defined_inside, reserved_outside}
-use Rattle.ir_reader.specs.Counting.{IsSmall, counts_of, counts_with, are_counts_within, is_within_limits}
+use Rattle.ir_reader.specs.Counting.{counts_of, are_counts_within, is_within_limits}
+use Rattle.ir_reader.specs.Counted.{IsSmall, counts_with}
 use Rattle.ir_reader.specs.Limits.{is_place_within}
 use Rattle.ir_reader.specs.Scoping.{repeats, scope_with}
 use Rattle.ir_reader.specs.Draft.{placed}

@@ -70,9 +70,7 @@ with_foot b zone = with_block_notes b (record b.notes { foot = b.notes.foot ++ z
 abbrev pub annotated_block : BlockHead → Annotation → Option BlockHead
 annotated_block h (annotation.Keeps i) = Some (record h { block = with_keeps h.block i })
 annotated_block h (annotation.Pending p) = Some (record h { block = with_pending h.block p })
-annotated_block h (annotation.Left left) = if h.has_left then None else Some (record {
-  block = with_left h.block left;
-  has_left = true;
-})
+annotated_block h (annotation.Left left) = if h.has_left then None
+    else Some (record { block = with_left h.block left; has_left = true })
 annotated_block h (annotation.Foot zone) = Some (record h { block = with_foot h.block zone })
 annotated_block h _ = None

@@ -28,11 +28,9 @@ defined_register (instruction.Convert d conversion value) = Some d
 defined_register (instruction.Alloca d size) = Some d
 defined_register (instruction.ElementPointer d base index) = Some d
 defined_register (instruction.Load d address) = Some d
-defined_register (instruction.Store value address) = None
-defined_register (instruction.StoreZeros cells address) = None
-defined_register (instruction.AtomicAdd address value) = None
 defined_register (instruction.Call d callee arguments) = d
 defined_register (instruction.StartRegion d) = Some d
+defined_register other = None
 
 abbrev pub option_list : {A : Type 0} → Option A → List A
 option_list None = []
@@ -72,7 +70,6 @@ reserved_outside = codes "llvm.syncregion.start"
 abbrev pub reserved_inside : List ℕ
 reserved_inside = codes ".ret"
 
--- the function that is open, as far as it was read
 abbrev pub open_function : LineContext → Option Function
 open_function place.Outside = None
 open_function (place.FunctionHead h) = Some h.function

@@ -27,12 +27,8 @@ new_place f line label = place.BlockHead f (record { block = new_block line labe
 abbrev pub placed_outside : Module → ℕ → Item → Option Draft
 placed_outside m line (item.Global g) =
     if length m.functions == 0 then Some (drafted (with_global m g) place.Outside) else None
-placed_outside m line (item.Define name result_type parameters) =
-    Some (drafted m (place.FunctionHead (record {
-      function = new_function line name result_type parameters;
-      has_measure = false;
-      has_budget = false;
-    })))
+placed_outside m line (item.Define name result_type parameters) = Some (drafted m (place.FunctionHead
+    (record { function = new_function line name result_type parameters; has_measure = false; has_budget = false })))
 placed_outside m line _ = None
 
 abbrev pub placed_at_function : Module → Option FunctionHead → Option Draft

@@ -12,3 +12,4 @@ pub mod Reading
 pub mod Scoping
 pub mod Tracking
 pub mod item
+pub mod Counted

@@ -27,7 +27,6 @@ step_cells s = instruction_cells s.instruction
 abbrev pub block_cells : Block → ℕ
 block_cells b = sum_by step_cells b.steps
 
--- cells of all allocas of a function
 unfoldable pub function_cells : Function → ℕ
 function_cells f = sum_by block_cells f.blocks
 
@@ -39,9 +38,8 @@ unfoldable pub register_count : Function → ℕ
 register_count f = length f.parameters + sum_by block_register_count f.blocks
 
 abbrev pub are_function_notes_within : FunctionNotes → Bool
-are_function_notes_within n =
-    nat_le (length n.requirements) 32 && nat_le (length n.guarantees) 32
-    && nat_le (length n.reads) 32 && nat_le (length n.writes) 32 && nat_le (length n.adds) 32
+are_function_notes_within n = nat_le (length n.requirements) 32 && nat_le (length n.guarantees) 32 &&
+    nat_le (length n.reads) 32 && nat_le (length n.writes) 32 && nat_le (length n.adds) 32
 
 abbrev pub are_block_notes_within : BlockNotes → Bool
 are_block_notes_within n = nat_le (length n.keeps) 32 && nat_le (length n.pending) 32 && nat_le (length n.foot) 32

@@ -44,24 +44,13 @@ abbrev pub no_block_notes : ℕ → BlockNotes
 no_block_notes line = record {
   keeps = [];
   pending = [];
-  left = record {
-    line = line;
-    self_calls = zero_form;
-    instructions = zero_form;
-  };
+  left = record { line = line; self_calls = zero_form; instructions = zero_form };
   foot = [];
 }
 
 abbrev pub new_block : ℕ → List ℕ → Block
-new_block line label = record {
-  line = line;
-  label = label;
-  notes = no_block_notes line;
-  phis = [];
-  steps = [];
-  ending =
-      None;
-}
+new_block line label =
+    record { line = line; label = label; notes = no_block_notes line; phis = []; steps = []; ending = None }
 
 abbrev pub with_global : Module → Global → Module
 with_global m g = record m { globals = m.globals ++ g ∷ [] }

@@ -16,16 +16,14 @@ use Rattle.ir_reader.specs.Counting.{is_within_limits}
 use Rattle.ir_reader.specs.Names.{is_repeated}
 use Rattle.ir_reader.specs.Defined.{names_outside, names_inside, inside_before, defined_outside, defined_inside}
 
--- the item defines a name that stands already
 abbrev pub defines_again : Draft → Item → Bool
 defines_again d i = is_repeated (names_outside d) (defined_outside i) || is_repeated (inside_before (names_inside d) i)
     (defined_inside i)
 
 -- the item stands where it may: past a limit, defining a name again, or good
 abbrev pub judged : Draft → Line → Draft → Result Draft ℕ
-judged d line e =
-    if line.is_within_limits && is_within_limits e then (if defines_again d line.item then Err 106 else Ok e)
-    else Err 104
+judged d line e = if line.is_within_limits &&
+    is_within_limits e then (if defines_again d line.item then Err 106 else Ok e) else Err 104
 
 abbrev pub judged_if_placed : Draft → Line → Option Draft → Result Draft ℕ
 judged_if_placed d line None = Err 103
@@ -46,35 +44,28 @@ pub data Steps (d : Draft) (at : ℕ) (line : List ℕ) : Result Draft ℕ → T
       with_said d at said ≡ out → Steps d at line out
   Faulty : (number : ℕ) → IsLineFault at line number → Steps d at line (Err number)
 
--- a line that says nothing may stand anywhere
 abbrev pub may_stand : Draft → ℕ → Option Line → Bool
 may_stand d at None = true
 may_stand d at (Some line) = is_some (placed d at line.item)
 
--- the fault of a line with which the text grows too long: its own, or 103 where its item may not stand there, but 104
--- at most
+-- the fault of a line with which the text grows too long: its own, 103 where its item may not stand, 104 at most
 pub data OverlongFault (d : Draft) (at : ℕ) (line : List ℕ) : ℕ → Type 0 where
   Unsaid : (number : ℕ) → IsLineFault at line number → OverlongFault d at line (min number 104)
   Too-late : (said : Option Line) (number : ℕ) → IsUtf8 line → line_of at line ≡ Ok said →
-      number ≡ (if may_stand d at said then 104 else 103)
-      → OverlongFault d at line number
+      number ≡ (if may_stand d at said then 104 else 103) → OverlongFault d at line number
 
 -- The lines, of which the first has this number, come behind what was read. There is room for so many bytes more. They
 -- give all of it, or the first fault and its line.
 pub data Reads : Draft → ℕ → ℕ → List (List ℕ) → Result Draft (ℕ × ℕ) → Type 0 where
   Done : (d : Draft) (at room : ℕ) → Reads d at room [] (Ok d)
   Next : (d e : Draft) (at room : ℕ) (line : List ℕ) (lines : List (List ℕ)) (out : Result Draft (ℕ × ℕ)) →
-      length line ≤ room
-      → Steps d at (content line) (Ok e) → Reads e (at + 1) (room - length line) lines out →
+      length line ≤ room → Steps d at (content line) (Ok e) → Reads e (at + 1) (room - length line) lines out →
       Reads d at room (line ∷ lines) out
   Stop : (d : Draft) (at room : ℕ) (line : List ℕ) (lines : List (List ℕ)) (number : ℕ) → length line ≤ room →
-      Steps d at (content line) (Err number)
-      → Reads d at room (line ∷ lines) (Err (number, at))
+      Steps d at (content line) (Err number) → Reads d at room (line ∷ lines) (Err (number, at))
   Overlong : (d : Draft) (at room : ℕ) (line : List ℕ) (lines : List (List ℕ)) (number : ℕ) → room < length line →
-      OverlongFault d at (content line) number
-      → Reads d at room (line ∷ lines) (Err (number, at))
+      OverlongFault d at (content line) number → Reads d at room (line ∷ lines) (Err (number, at))
 
--- nothing has been read
 abbrev pub start : Draft
 start = record { whole = record { globals = []; functions = [] }; place = place.Outside }
 

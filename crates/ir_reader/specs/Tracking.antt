@@ -13,7 +13,8 @@ use Rattle.ir_reader.specs.declared.limits.Counts.{Counts}
 use Rattle.ir_reader.specs.declared.scope.Scope.{Scope}
 use Rattle.ir_reader.specs.declared.reader.Reader.{Reader}
 use Rattle.ir_reader.specs.Defined.{names_outside, names_inside}
-use Rattle.ir_reader.specs.Counting.{counts_of, IsSmall, is_within_limits}
+use Rattle.ir_reader.specs.Counting.{counts_of, is_within_limits}
+use Rattle.ir_reader.specs.Counted.{IsSmall}
 use Rattle.ir_reader.specs.Draft.{placed}
 use Rattle.ir_reader.specs.Reading.{Steps, OverlongFault}
 

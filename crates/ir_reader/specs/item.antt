@@ -3,3 +3,4 @@ pub mod Items
 pub mod Lines
 pub mod Printed
 pub mod Laws
+pub mod Answers

@@ -1,7 +1,8 @@
 //! The limits of a module, each named at the item that passes it.
 
 ghost use Rattle.std.specs.Prelude.{◌≡◌, length};
-ghost use Rattle.ir_reader.specs.Counting.{IsSmall, counts_of, counts_with, with_instruction, are_counts_within, is_within_limits};
+ghost use Rattle.ir_reader.specs.Counting.{counts_of, are_counts_within, is_within_limits};
+ghost use Rattle.ir_reader.specs.Counted.{IsSmall, counts_with, with_instruction};
 ghost use Rattle.ir_reader.specs.Defined.{defined_register, option_list};
 ghost use Rattle.ir_reader.specs.Limits.{instruction_cells, are_function_notes_within, are_block_notes_within, is_function_head_within};
 ghost use Rattle.ir_reader.specs.Limits.{is_block_head_within, is_place_within};

@@ -25,7 +25,7 @@ use Rattle.syntax.specs.declared.terminator.Terminator.{Terminator}
 use Rattle.syntax.specs.declared.terminator.Terminator.TheVariants as terminator
 use Rattle.syntax.specs.declared.module.Parameter.{Parameter}
 use Rattle.syntax.specs.declared.module.Parameter.TheVariants as parameter
-use Rattle.ir_lex.specs.Spelling.{register_text}
+use Rattle.ir_lex.specs.Names.{register_text}
 use Rattle.ir_spelling.specs.Spelling.{operator_text, label_text, operand_text, address_text, array_text, pointer_parameter_text, parameter_text, argument_text, behind_comma, parameters_text, arguments_text}
 use Rattle.ir_spelling.specs.InstructionText.{instruction_text, call_text, call_void_text, entry_text, entries_text, phi_text}
 use Rattle.ir_spelling.specs.TerminatorText.{case_text, switch_text, reattach_text, terminator_text}

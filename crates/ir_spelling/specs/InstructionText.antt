@@ -14,7 +14,7 @@ use Rattle.syntax.specs.declared.instruction.PhiEntry.{PhiEntry}
 use Rattle.syntax.specs.declared.instruction.Phi.{Phi}
 use Rattle.syntax.specs.declared.instruction.Instruction.{Instruction}
 use Rattle.syntax.specs.declared.instruction.Instruction.TheVariants as instruction
-use Rattle.ir_lex.specs.Spelling.{register_text}
+use Rattle.ir_lex.specs.Names.{register_text}
 use Rattle.ir_instruction.specs.Spelling.{width_word, predicate_word}
 use Rattle.ir_spelling.specs.Spelling.{operator_text, operand_text, address_text, array_text, arguments_text}
 use Rattle.ir_spelling.specs.Spelling.{behind_comma}

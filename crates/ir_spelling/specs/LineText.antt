@@ -15,7 +15,7 @@ use Rattle.syntax.specs.declared.module.Global.{Global}
 use Rattle.syntax.specs.declared.module.Function.{Function}
 use Rattle.ir_annotation.specs.Spelling.{inequality_text, zone_text, measure_text, budget_text, pending_text, left_text}
 use Rattle.ir_annotation.specs.Spelling.{foot_text}
-use Rattle.ir_lex.specs.Spelling.{global_text}
+use Rattle.ir_lex.specs.Names.{global_text}
 use Rattle.ir_instruction.specs.Spelling.{result_word}
 use Rattle.ir_spelling.specs.Spelling.{array_text, parameters_text}
 use Rattle.ir_spelling.specs.InstructionText.{instruction_text, phi_text}

@@ -10,7 +10,7 @@ use Rattle.syntax.specs.declared.instruction.Address.{Address}
 use Rattle.syntax.specs.declared.instruction.Address.TheVariants as address
 use Rattle.syntax.specs.declared.instruction.Argument.{Argument}
 use Rattle.syntax.specs.declared.instruction.Argument.TheVariants as argument
-use Rattle.ir_lex.specs.Spelling.{register_text, global_text}
+use Rattle.ir_lex.specs.Names.{register_text, global_text}
 use Rattle.ir_instruction.specs.Spelling.{text_of, operator_atoms}
 
 abbrev pub operator_text : BinaryOperator → List ℕ

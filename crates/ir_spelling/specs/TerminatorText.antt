@@ -6,7 +6,7 @@ use Rattle.syntax.specs.declared.instruction.Operand.{Operand}
 use Rattle.syntax.specs.declared.terminator.Case.{Case}
 use Rattle.syntax.specs.declared.terminator.Terminator.{Terminator}
 use Rattle.syntax.specs.declared.terminator.Terminator.TheVariants as terminator
-use Rattle.ir_lex.specs.Spelling.{register_text}
+use Rattle.ir_lex.specs.Names.{register_text}
 use Rattle.ir_instruction.specs.Spelling.{width_word}
 use Rattle.ir_spelling.specs.Spelling.{label_text, operand_text}
 

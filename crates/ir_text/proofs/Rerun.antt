@@ -11,7 +11,8 @@ use Rattle.ir_reader.specs.declared.limits.Counts.{Counts}
 use Rattle.ir_reader.specs.Draft.{placed}
 use Rattle.ir_reader.specs.Names.{is_repeated}
 use Rattle.ir_reader.specs.Defined.{open_function, names_outside, names_in, names_inside, defined_outside, defined_inside, inside_before}
-use Rattle.ir_reader.specs.Counting.{counts_in, counts_of, counts_with, are_counts_within, IsSmall, is_within_limits}
+use Rattle.ir_reader.specs.Counting.{counts_in, counts_of, are_counts_within, is_within_limits}
+use Rattle.ir_reader.specs.Counted.{counts_with, IsSmall}
 use Rattle.ir_reader.specs.Tracking.{IsStepless}
 use Rattle.ir_reader.specs.Reading.{defines_again}
 use Rattle.ir_reader.proofs.Follows.{Follows, placed_follows}

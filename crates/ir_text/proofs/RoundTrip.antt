@@ -26,7 +26,8 @@ use Rattle.ir_reader.specs.declared.draft.LineContext.TheVariants as place
 use Rattle.ir_reader.specs.Draft.{drafted}
 use Rattle.ir_reader.specs.Names.{is_repeated}
 use Rattle.ir_reader.specs.Defined.{reserved_outside, reserved_inside, module_names}
-use Rattle.ir_reader.specs.Counting.{IsSmall, counts_of}
+use Rattle.ir_reader.specs.Counting.{counts_of}
+use Rattle.ir_reader.specs.Counted.{IsSmall}
 use Rattle.ir_text.specs.Items.{note_items, function_note_items, block_note_items, step_items, ending_items, body_items, block_items, function_items, module_items, printed_line, module_text}
 use Rattle.ir_reader.specs.Kept.{IsZoneOf, AreFunctionNotesWritten, AreBlockNotesWritten, IsPhiWritten, IsStepWritten, IsEndingWrittenIfAny, IsBlockWritten, IsFunctionWritten, IsGlobalWritten, AreStepShowsFew, AreEndingShowsFew, IsBlockWithin, IsFunctionWithin, IsKeptFunction, IsKeptModule}
 use Rattle.ir_reader.specs.Lines.{lines_of}

@@ -4,8 +4,10 @@ use Rattle.std.specs.Prelude.{IsSome, map, min, sum}
 use Rattle.program.specs.declared.function.Global.{Global}
 use Rattle.program.specs.declared.function.Program.{Program}
 use Rattle.store.specs.Cells.{NamedCells, cell_at}
-use Rattle.store.specs.Made.{HasGlobalCells, IsMadeFor}
-use Rattle.store.specs.Rows.{refilled, sizes_of}
+use Rattle.store.specs.Made.{IsMadeFor}
+use Rattle.store.specs.Named.{HasGlobalCells}
+use Rattle.store.specs.Rows.{sizes_of}
+use Rattle.store.specs.Refilled.{refilled}
 use Rattle.serial_machine.proofs.Held.{sizes_kept}
 use Rattle.kernel_calls.specs.Told.{cells_in, sizes_in}
 

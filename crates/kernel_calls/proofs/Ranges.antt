@@ -2,7 +2,7 @@
 use Rattle.std.proofs.Common.{◌≡◌, ◌-ℤ◌, ◌⊎◌, [], pos, unwrap_or, length, get_or, refl, arith, inl, inr, true, ℕ, ℤ, List, Option, Some, None, is_some, slice_get, subst, sym}
 use Rattle.std.specs.Prelude.{IfSome}
 use Rattle.std.proofs.lemmas.Option.{slice_get_read}
-use Rattle.linear.specs.Forms.{Combination}
+use Rattle.linear.specs.Terms.{Combination}
 use Rattle.linear.specs.declared.form.Term.{Term}
 use Rattle.program.specs.declared.annotation.Inequality.{Inequality}
 use Rattle.kernel_calls.specs.Inside.{IsBound, SetsHigh, SetsLow}

@@ -5,12 +5,13 @@ use Rattle.frame.specs.declared.event.Event.{Event}
 use Rattle.program.specs.declared.function.Program.{Program}
 use Rattle.semantics.specs.Events as running
 use Rattle.semantics.specs.Frames.{Frame}
-use Rattle.semantics.specs.Replay.{NeverTraps, has_ended}
+use Rattle.semantics.specs.Replay.{has_ended}
+use Rattle.semantics.specs.Sound.{NeverTraps}
 use Rattle.semantics.specs.SerialMeaning.{Gave}
 use Rattle.schedule_core.specs.Admission.{IsNumberOfWorkers}
 use Rattle.store.specs.Requirements.{unmet_in}
 use Rattle.store.specs.Cells.{NamedCells}
-use Rattle.store.specs.Made.{HasGlobalCells}
+use Rattle.store.specs.Named.{HasGlobalCells}
 use Rattle.store.specs.verifier.Accepted.{IsAccepted}
 use Rattle.schedule_core.specs.Replaying.{KeepsItsSchedule, Replays, event_of, first_state, state_after}
 use Rattle.schedule_core.specs.Stages.{IsState, given}

@@ -1,7 +1,7 @@
 -- What a host is told of what a module has.
 use Rattle.std.specs.Prelude.{◌≡◌, ◌≢◌, ◌⊎◌, ◌-◌, ◌^◌, ◌≤◌, ◌<◌, ◌-ℤ◌, ℕ, ℤ, List, [], length, map, min, sum, take}
 use Rattle.std.specs.Prelude.{Option, Some, None, true, false, slice_get, pos}
-use Rattle.linear.specs.Forms.{Combination}
+use Rattle.linear.specs.Terms.{Combination}
 use Rattle.linear.specs.declared.form.Term.{Term}
 use Rattle.program.specs.declared.annotation.Inequality.{Inequality}
 use Rattle.program.specs.declared.function.Alloca.{Alloca}

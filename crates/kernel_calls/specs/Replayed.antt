@@ -8,7 +8,7 @@ use Rattle.program.specs.declared.function.Program.{Program}
 use Rattle.frame.specs.declared.event.Event.{Event}
 use Rattle.store.specs.Requirements.{unmet_in}
 use Rattle.store.specs.Cells.{NamedCells, cell_at}
-use Rattle.store.specs.Rows.{row_of}
+use Rattle.store.specs.Refilled.{row_of}
 use Rattle.schedule_core.specs.Replaying.{KeepsItsSchedule, state_after}
 use Rattle.schedule_core.specs.Admission.{IsNumberOfWorkers}
 use Rattle.schedule_core.specs.Stages.{given}

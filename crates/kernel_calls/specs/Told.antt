@@ -5,8 +5,9 @@ use Rattle.program.specs.declared.function.Global.{Global}
 use Rattle.program.specs.declared.function.Program.{Program}
 use Rattle.verifier.specs.Accepted.{IsProgramOf, IsRefused}
 use Rattle.verifier.specs.Budgets.{IsDepthOf, budget_of}
-use Rattle.store.specs.Cells.{NamedCells, zeros}
-use Rattle.store.specs.Rows.{refilled, row_of}
+use Rattle.store.specs.Cells.{NamedCells}
+use Rattle.store.specs.Named.{zeros}
+use Rattle.store.specs.Refilled.{refilled, row_of}
 use Rattle.store.specs.Requirements.{unmet_in}
 use Rattle.store.specs.declared.outcome.Finished.{Finished}
 use Rattle.serial_machine.specs.SerialPromise.{EndsWithinBudget, TakesMore}

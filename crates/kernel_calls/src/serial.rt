@@ -2,7 +2,8 @@
 
 ghost use Rattle.std.specs.Prelude.{◌≡◌, ◌≢◌, ◌⊎◌, IfErr, IfOk, IsSome, None, OnOk, Some, length, sum};
 ghost use Rattle.store.specs.Requirements.{unmet_in};
-ghost use Rattle.store.specs.Made.{HasGlobalCells, IsMadeFor};
+ghost use Rattle.store.specs.Made.{IsMadeFor};
+ghost use Rattle.store.specs.Named.{HasGlobalCells};
 ghost use Rattle.serial_machine.specs.Decoding.{IsCodeOf};
 ghost use Rattle.kernel_calls.specs.Until.{IsWatchedStatus};
 ghost use Rattle.kernel_calls.specs.Told.{Exceeds, ExceedsProgram, HasOtherCells, IsOutcomeStatus, IsRunStatus, Lacks, Refuses, Runs, RunsProgram, Shows};

@@ -4,7 +4,8 @@ ghost use Rattle.std.specs.Prelude.{◌≡◌, ◌≢◌, IsSome, List, ℤ};
 ghost use Rattle.program.specs.declared.function.Program.{Program};
 ghost use Rattle.store.specs.Cells.{NamedCells};
 ghost use Rattle.serial_machine.specs.SerialPromise.{EndsWithinBudget};
-ghost use Rattle.store.specs.Made.{HasGlobalCells, IsMadeFor};
+ghost use Rattle.store.specs.Made.{IsMadeFor};
+ghost use Rattle.store.specs.Named.{HasGlobalCells};
 ghost use Rattle.kernel_calls.specs.Until.{ComesTo};
 
 use crate::hosted::Stop;

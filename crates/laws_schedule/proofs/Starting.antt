@@ -7,8 +7,8 @@ use Rattle.semantics.specs.State.{root_frame}
 use Rattle.program.specs.declared.function.Function.{Function}
 use Rattle.program.specs.declared.function.Program.{Program}
 use Rattle.laws_conditions.specs.rules.Costs.{numbers, parameters_of}
-use Rattle.semantics.specs.Cells.{or_zero}
-use Rattle.program.specs.Calls.{parameters_in}
+use Rattle.semantics.specs.Written.{or_zero}
+use Rattle.program.specs.Heads.{parameters_in}
 use Rattle.laws_phases.specs.facts.Known.{IsMet}
 use Rattle.laws_schedule.specs.Promise.{argument_at, AreTaken}
 

@@ -1,6 +1,7 @@
 -- The schedule theorem of one program: what is asked of its arguments and its memory, and what every schedule keeps.
 use Rattle.std.specs.Prelude.{◌≡◌, ℕ, ◌≤◌, List, length, Some, All, slice_get, ℤ}
-use Rattle.semantics.specs.Cells.{Shared, Memory, or_zero}
+use Rattle.semantics.specs.Cells.{Shared, Memory}
+use Rattle.semantics.specs.Written.{or_zero}
 use Rattle.semantics.specs.Frames.{global_cells}
 use Rattle.semantics.specs.SerialMeaning.{Gave, Outcome, IsSerialMeaning}
 use Rattle.semantics.specs.Events.{Event, start}

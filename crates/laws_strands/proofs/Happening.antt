@@ -1,7 +1,8 @@
 -- Lists of events that happen, and machines that never trap.
 use Rattle.std.proofs.Common.{sym, ◌≡◌, ℕ, zero, suc, List, [], ◌∷◌, ◌++◌, Some, None, refl, ap, ◌∙◌, subst}
 use Rattle.semantics.specs.Events.{Machine, Event, Step, event}
-use Rattle.semantics.specs.Replay.{replay, or_unchanged, NeverTraps}
+use Rattle.semantics.specs.Replay.{replay, or_unchanged}
+use Rattle.semantics.specs.Sound.{NeverTraps}
 use Rattle.laws_strands.specs.Law.{steps_by, Happen, ReachedNeverTraps}
 use Rattle.semantics.specs.program.declared.function.Program.{Program}
 

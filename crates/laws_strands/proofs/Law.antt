@@ -3,7 +3,8 @@ use Rattle.std.proofs.Common.{◌≡◌, ℕ, suc, ◌+◌, max, [], ◌∷◌, 
 use Rattle.std.proofs.lemmas.List.Elements.{All-nil, All-pop, All-push}
 use Rattle.std.specs.Map.{lookup}
 use Rattle.semantics.specs.Paths.{Path, same_path}
-use Rattle.semantics.specs.Cells.{Cell, Memory, same_cell, or_zero}
+use Rattle.semantics.specs.Cells.{Cell, Memory, same_cell}
+use Rattle.semantics.specs.Written.{or_zero}
 use Rattle.semantics.specs.Arithmetic.{Trap, Unmatched, cell_sum}
 use Rattle.semantics.specs.Frames.{Frame, Item}
 use Rattle.semantics.specs.Effect.{Effect, Plain, action_of}
@@ -15,7 +16,7 @@ use Rattle.semantics.proofs.Steps.{plain, change_is}
 use Rattle.laws_strands.specs.Footprint.{Write, Stored, Delta, Footprint, read_at, write_at, held, memory_of, with_write, stored, raised, added_to, settled, with_read, put}
 use Rattle.laws_strands.specs.FrameStrands.{FrameStrand, Access, Nowhere, Loads, Stores, Adds, is_border, next_of, access_of, most_done, Pause, Border, Limit, Full, Need, is_full, need, pause_at, pause_of, loaded, filled, footprint_after, advanced, next_action, IsFrameStrand, is_loaded, is_filled, is_advanced}
 use Rattle.laws_strands.specs.Law.{steps_by, Happen, Fits, absorbed, IsSteps, FrameStrandsAreSteps, ReadsAgree, FrameReadsAreThere, HasValues, FrameStrandsAreStepsWhereDefined, FrameStrandsGoOverBorders}
-use Rattle.semantics.specs.Replay.{NeverTraps}
+use Rattle.semantics.specs.Sound.{NeverTraps}
 use Rattle.semantics.proofs.SameCells.{same_cell_is}
 use Rattle.laws_strands.proofs.Footprints.{lookup_with_write}
 use Rattle.laws_strands.proofs.Items.{Touches, touches, Wants, undefined_traps}

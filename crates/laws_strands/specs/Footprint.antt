@@ -1,7 +1,8 @@
 -- What a frame strand knows of memory: the cells that it read, and what it keeps for those that it wrote.
 use Rattle.std.specs.Prelude.{List, [], ◌∷◌, ◌++◌, Option, Some, None, cond, ℤ}
 use Rattle.std.specs.Map.{lookup}
-use Rattle.semantics.specs.Cells.{Cell, Memory, same_cell, or_zero}
+use Rattle.semantics.specs.Cells.{Cell, Memory, same_cell}
+use Rattle.semantics.specs.Written.{or_zero}
 use Rattle.semantics.specs.Arithmetic.{cell_sum}
 use Rattle.semantics.specs.State.{sum_in}
 

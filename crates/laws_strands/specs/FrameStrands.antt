@@ -95,9 +95,7 @@ is_full f (Adds c) = is_none (write_at f c) && nat_le places (length f.writes)
 
 abbrev pub need : Footprint → Access → Option Pause
 need f (Loads c) = cond (is_some (held f c)) None (Some (Need c))
-need f Nowhere = None
-need f (Stores c) = None
-need f (Adds c) = None
+need f other = None
 
 -- None where it can go on
 abbrev pub pause_at : Footprint → ℕ → Option Item → Access → Option Pause

@@ -4,7 +4,8 @@ use Rattle.std.specs.List.{All}
 use Rattle.semantics.specs.Cells.{Cell}
 use Rattle.semantics.specs.State.{override, only, may_go}
 use Rattle.semantics.specs.Events.{Machine, Event, Step, event}
-use Rattle.semantics.specs.Replay.{NeverTraps, replay}
+use Rattle.semantics.specs.Replay.{replay}
+use Rattle.semantics.specs.Sound.{NeverTraps}
 use Rattle.laws_strands.specs.Footprint.{Delta, write_at, put}
 use Rattle.laws_strands.specs.FrameStrands.{FrameStrand, IsFrameStrand}
 use Rattle.semantics.specs.program.declared.function.Program.{Program}

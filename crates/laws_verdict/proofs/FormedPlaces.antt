@@ -14,7 +14,7 @@ use Rattle.syntax.specs.declared.operator.Predicate.TheVariants as predicate
 use Rattle.syntax.specs.declared.operator.Width.{Width}
 use Rattle.syntax.specs.declared.operator.Width.TheVariants.{Bits64, Bits32}
 use Rattle.program.specs.Blocks.{block_phis}
-use Rattle.program.specs.Cells.{object_cells}
+use Rattle.program.specs.Objects.{object_cells}
 use Rattle.program.specs.declared.annotation.Inequality.{Inequality}
 use Rattle.program.specs.declared.function.Block.{Block}
 use Rattle.program.specs.declared.function.Function.{Function}

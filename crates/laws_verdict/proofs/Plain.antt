@@ -9,7 +9,8 @@ use Rattle.linear_shown.proofs.Respects.{shown_same}
 use Rattle.linear_shown.proofs.Tested.{shown_from_test, shown_passes}
 use Rattle.linear.specs.declared.form.Fact.{Fact}
 use Rattle.linear.specs.declared.form.Term.{Term}
-use Rattle.linear.specs.Forms.{Combination, IsForm, Same, coefficient_of, constant_form, plus}
+use Rattle.linear.specs.Forms.{IsForm, Same, plus}
+use Rattle.linear.specs.Terms.{Combination, coefficient_of, constant_form}
 use Rattle.linear.specs.Made.{is_bounded, with_constant}
 use Rattle.linear.proofs.Added.{IsAdded, number_added, term_added}
 use Rattle.linear.proofs.Making.{same_back, same_of}

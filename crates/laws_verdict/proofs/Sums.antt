@@ -9,7 +9,7 @@ use Rattle.std.proofs.lemmas.List.Elements.{All-rest}
 use Rattle.std.proofs.lemmas.List.Sums.{sum_by-cons}
 use Rattle.linear.specs.declared.form.RegisterId.{RegisterId}
 use Rattle.linear.specs.declared.form.Term.{Term}
-use Rattle.linear.specs.Forms.{Combination, constant_form}
+use Rattle.linear.specs.Terms.{Combination, constant_form}
 use Rattle.linear.specs.Made.{is_bounded, is_below, coefficient_at, placed_at, placed, with_terms, with_term, with_constant}
 use Rattle.program.specs.declared.instruction.Operand.{Operand}
 use Rattle.program.specs.declared.instruction.Operand.TheVariants.{Number, Register}

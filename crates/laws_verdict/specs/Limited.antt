@@ -1,6 +1,6 @@
 -- The law: of forms within their limits the rules on numbers, zones and costs ask modest sums.
 use Rattle.std.specs.Prelude.{ℕ, ◌<◌, ◌≤◌, ◌^◌, List, [], All, sum_by, unsigned_abs}
-use Rattle.linear.specs.Forms.{Combination}
+use Rattle.linear.specs.Terms.{Combination}
 use Rattle.linear.specs.declared.form.Term.{Term}
 use Rattle.ranges.specs.cfg.declared.structure.Move.{Move}
 use Rattle.footprints.specs.Zones.{between}

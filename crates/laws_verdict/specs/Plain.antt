@@ -1,7 +1,8 @@
 -- A sum as it stands, over the integers without bounds.
 use Rattle.std.specs.Prelude.{ℤ, ◌*ℤ◌, List, [], ◌∷◌}
-use Rattle.linear.specs.Forms.{Combination, constant_form, plus}
-use Rattle.linear.specs.Made.{term_form}
+use Rattle.linear.specs.Forms.{plus}
+use Rattle.linear.specs.Terms.{Combination, constant_form}
+use Rattle.linear.specs.Bounded.{term_form}
 use Rattle.program.specs.declared.instruction.Operand.{Operand}
 use Rattle.program.specs.declared.instruction.Operand.TheVariants.{Number, Register}
 use Rattle.ranges.specs.ranges_owed.declared.sum.Part.{Part}

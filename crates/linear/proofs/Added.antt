@@ -8,8 +8,10 @@ use Rattle.std.proofs.lemmas.Bool.Decides.{Decides-ltb}
 use Rattle.std.proofs.lemmas.Int.{ints}
 use Rattle.linear.specs.declared.form.RegisterId.{RegisterId}
 use Rattle.linear.specs.declared.form.Term.{Term}
-use Rattle.linear.specs.Forms.{Combination, IsForm, IsRising, AreSmall, Same, constant_form, plus, value}
-use Rattle.linear.specs.Made.{IsTermAdded, is_below, coefficient_at, term_form, placed, with_terms, with_term, with_constant}
+use Rattle.linear.specs.Forms.{IsForm, IsRising, AreSmall, Same, plus, value}
+use Rattle.linear.specs.Terms.{Combination, constant_form}
+use Rattle.linear.specs.Made.{is_below, coefficient_at, placed, with_terms, with_term, with_constant}
+use Rattle.linear.specs.Bounded.{IsTermAdded, term_form}
 use Rattle.linear.proofs.Placing.{added_new, added_more, placed_new, placed_more, placed_refused, placed_more_refused}
 use Rattle.linear.proofs.Respects.{same_value}
 use Rattle.linear.proofs.Values.{value_plus}

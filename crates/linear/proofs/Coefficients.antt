@@ -5,7 +5,8 @@ use Rattle.std.proofs.lemmas.Int.{ints}
 use Rattle.std.proofs.lemmas.Bool.{ne_eqb}
 use Rattle.std.proofs.lemmas.List.Elements.{All-head, All-tail}
 use Rattle.linear.specs.declared.form.Term.{Term}
-use Rattle.linear.specs.Forms.{coefficient_of, IsRising}
+use Rattle.linear.specs.Forms.{IsRising}
+use Rattle.linear.specs.Terms.{coefficient_of}
 
 zero_plus : (x : ℤ) → pos 0 +ℤ x ≡ x
 zero_plus x = omega (arith, ints)

@@ -9,8 +9,9 @@ use Rattle.std.proofs.lemmas.List.{take_more}
 use Rattle.std.proofs.Math.Nat.{mul-le-mul}
 use Rattle.std.proofs.Math.IntN.{*ℤ-zero}
 use Rattle.linear.specs.declared.form.Term.{Term}
-use Rattle.linear.specs.Forms.{Combination, coefficient_of, IsRising, AreSmall, constant_form, plus, scaled_terms, scaled, Same}
-use Rattle.linear.specs.Made.{term_form, IsBounded}
+use Rattle.linear.specs.Forms.{IsRising, AreSmall, plus, scaled_terms, scaled, Same}
+use Rattle.linear.specs.Terms.{Combination, coefficient_of, constant_form}
+use Rattle.linear.specs.Bounded.{term_form, IsBounded}
 use Rattle.linear.proofs.Coefficients.{own_coefficient}
 use Rattle.linear.proofs.Placing.{coefficient_of-append, small_fits}
 use Rattle.linear.proofs.Values.{distributes}

@@ -10,9 +10,11 @@ use Rattle.std.proofs.lemmas.Option.{slice_get_cases, get_or_from_slice_get}
 use Rattle.std.proofs.lemmas.List.Elements.{All-cons, All-append, All-take, All-drop, All-set, All-get_or, All-weaker, All-nil}
 use Rattle.linear.specs.declared.form.RegisterId.{RegisterId}
 use Rattle.linear.specs.declared.form.Term.{Term}
-use Rattle.linear.specs.Forms.{coefficient_of, IsRising, AreSmall}
+use Rattle.linear.specs.Forms.{IsRising, AreSmall}
+use Rattle.linear.specs.Terms.{coefficient_of}
 use Rattle.linear.proofs.Coefficients.{none_above, own_coefficient as term_coefficient}
-use Rattle.linear.specs.Made.{IsTermAdded, is_below, own_coefficient, coefficient_at, is_bounded, placed_at, placed}
+use Rattle.linear.specs.Made.{is_below, own_coefficient, coefficient_at, is_bounded, placed_at, placed}
+use Rattle.linear.specs.Bounded.{IsTermAdded}
 
 abbrev own : ℕ → Term → ℤ
 own r t = cond (eqb t.register.0 r) t.coefficient (pos 0)

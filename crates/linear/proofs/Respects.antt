@@ -1,6 +1,7 @@
 -- Values depend on coefficients and constants alone.
 use Rattle.std.proofs.Common.{◌≡◌, ◌∙◌, ℕ, ◌+◌, ℤ, ◌+ℤ◌, ◌*ℤ◌, sym, ap, arith}
-use Rattle.linear.specs.Forms.{Combination, coefficient_of, Same, value_of, value}
+use Rattle.linear.specs.Forms.{Same, value_of, value}
+use Rattle.linear.specs.Terms.{Combination, coefficient_of}
 use Rattle.linear.proofs.Values.{top, sum_below_same, value_is_sum}
 
 pub same_value : (v : ℕ → ℤ) (e f : Combination) → Same e f → value v e ≡ value v f

@@ -6,7 +6,8 @@ use Rattle.std.proofs.lemmas.Int.{ints}
 use Rattle.std.proofs.lemmas.Bool.{cases_eq, eq-eqb, ne_eqb}
 use Rattle.std.proofs.lemmas.List.Elements.{All-head, All-tail}
 use borrow.Author.Differences.{up, down, sum_is_lem, product_is}
-use Rattle.linear.specs.Forms.{Combination, coefficient_of, constant_form, register_form, plus, scaled_terms, scaled, minus, put_terms, put, value_of, value, Holds}
+use Rattle.linear.specs.Forms.{register_form, plus, scaled_terms, scaled, minus, put_terms, put, value_of, value, Holds}
+use Rattle.linear.specs.Terms.{Combination, coefficient_of, constant_form}
 use Rattle.linear.specs.declared.form.Term.{Term}
 
 pub distributes : (a b c : ℤ) → a *ℤ (b +ℤ c) ≡ (a *ℤ b) +ℤ (a *ℤ c)

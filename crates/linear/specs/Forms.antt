@@ -1,17 +1,8 @@
 -- Linear forms over registers, and what they say of the registers' values.
-use Rattle.std.specs.Prelude.{◌≡◌, ℕ, ◌<◌, ◌^◌, ℤ, pos, negsuc, ◌+ℤ◌, ◌*ℤ◌, ◌≤ℤ◌, ◌==◌, List, [], ◌∷◌, ◌++◌, All}
-use Rattle.std.specs.Prelude.{unsigned_abs, if◌then◌else◌}
+use Rattle.std.specs.Prelude.{◌≡◌, ℕ, ◌<◌, ◌^◌, ℤ, pos, negsuc, ◌+ℤ◌, ◌*ℤ◌, ◌≤ℤ◌, List, [], ◌∷◌, ◌++◌, All}
+use Rattle.std.specs.Prelude.{unsigned_abs}
 use Rattle.linear.specs.declared.form.Term.{Term}
-
--- the sum of its terms and its constant
-pub record Combination : Type 0 where
-  pub terms : List Term
-  pub constant : ℤ
-
--- the coefficient of a register: the sum over its terms
-abbrev pub coefficient_of : List Term → ℕ → ℤ
-coefficient_of [] r = pos 0
-coefficient_of (t ∷ ts) r = (if t.register.0 == r then t.coefficient else pos 0) +ℤ coefficient_of ts r
+use Rattle.linear.specs.Terms.{Combination, coefficient_of, constant_form}
 
 -- ---- the bounds of the type
 
@@ -29,9 +20,6 @@ pub record IsForm (f : Combination) : Type 0 where
   pub constant : unsigned_abs f.constant < 2 ^ 100
 
 -- ---- sums, products and replacement
-
-abbrev pub constant_form : ℤ → Combination
-constant_form c = record { terms = []; constant = c }
 
 abbrev pub register_form : ℕ → Combination
 register_form r = record { terms = record { register = record { 0 = r }; coefficient = pos 1 } ∷ []; constant = pos 0 }

@@ -1,2 +1,4 @@
 pub mod Forms
 pub mod Made
+pub mod Terms
+pub mod Bounded

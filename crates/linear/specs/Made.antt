@@ -1,31 +1,11 @@
--- How forms are made.
-use Rattle.std.specs.Prelude.{◌≡◌, ℕ, ◌<◌, ◌^◌, ℤ, pos, ◌+ℤ◌, ◌==◌, Bool, nat_lt, List, [], ◌∷◌, unsigned_abs, Option}
+-- How forms are made: one more term among terms whose registers rise.
+use Rattle.std.specs.Prelude.{ℕ, ℤ, pos, ◌+ℤ◌, ◌==◌, Bool, nat_lt, List, unsigned_abs, Option}
 use Rattle.std.specs.Prelude.{Some, None, slice_get}
 use Rattle.std.specs.Prelude.{slice_set, insert, if◌then◌else◌}
 use Rattle.std.specs.List.{prefix_len}
 use Rattle.linear.specs.declared.form.RegisterId.{RegisterId}
 use Rattle.linear.specs.declared.form.Term.{Term}
-use Rattle.linear.specs.Forms.{Combination, coefficient_of, IsRising, AreSmall}
-
--- a register times a number
-abbrev pub term_form : RegisterId → ℤ → Combination
-term_form register coefficient = record {
-  terms = record { register = register; coefficient = coefficient } ∷ [];
-  constant = pos 0;
-}
-
--- each coefficient and the constant are within the bounds of a form
-pub record IsBounded (f : Combination) : Type 0 where
-  pub terms : (r : ℕ) → unsigned_abs (coefficient_of f.terms r) < 2 ^ 24
-  pub constant : unsigned_abs f.constant < 2 ^ 100
-
--- ---- one more term among terms whose registers rise
-
--- the terms say the same as the old ones with the term before them
-pub record IsTermAdded (term : Term) (old new : List Term) : Type 0 where
-  pub same : (r : ℕ) → coefficient_of new r ≡ coefficient_of (term ∷ old) r
-  pub rising : IsRising new
-  pub small : AreSmall new
+use Rattle.linear.specs.Terms.{Combination}
 
 abbrev pub is_below : ℕ → Term → Bool
 is_below r t = nat_lt t.register.0 r
@@ -43,23 +23,14 @@ is_bounded z = nat_lt (unsigned_abs z) 16777216
 
 -- the term of a register at its place, in front of the terms of greater registers
 abbrev pub placed_at : List Term → ℕ → RegisterId → ℤ → Option ℤ → Option (List Term)
-placed_at ts place register amount None =
-    if is_bounded (pos 0 +ℤ amount) then Some (insert ts place (record {
-      register = register;
-      coefficient =
-          pos 0 +ℤ amount;
-    })) else None
-placed_at ts place register amount (Some c) =
-    if is_bounded (c +ℤ amount) then Some (slice_set ts place (record {
-      register = register;
-      coefficient =
-          c +ℤ amount;
-    })) else None
+placed_at ts place register amount None = if is_bounded (pos 0 +ℤ amount) then Some (insert ts place
+    (record { register = register; coefficient = pos 0 +ℤ amount })) else None
+placed_at ts place register amount (Some c) = if is_bounded (c +ℤ amount) then Some (slice_set ts place
+    (record { register = register; coefficient = c +ℤ amount })) else None
 
 -- the terms with a register times a number, unless its coefficient would pass the bounds
 unfoldable pub placed : List Term → RegisterId → ℤ → Option (List Term)
-placed ts register amount =
-    placed_at ts (prefix_len (is_below register.0) ts) register amount
+placed ts register amount = placed_at ts (prefix_len (is_below register.0) ts) register amount
     (coefficient_at ts (prefix_len (is_below register.0) ts) register.0)
 
 abbrev pub with_terms : ℤ → Option (List Term) → Option Combination
@@ -72,6 +43,5 @@ with_term f register amount = with_terms f.constant (placed f.terms register amo
 
 -- a form with a number, unless its constant would pass the bounds
 abbrev pub with_constant : Combination → ℤ → Option Combination
-with_constant f amount =
-    if nat_lt (unsigned_abs (amount +ℤ f.constant)) 1267650600228229401496703205376
-    then Some (record { terms = f.terms; constant = amount +ℤ f.constant }) else None
+with_constant f amount = if nat_lt (unsigned_abs (amount +ℤ f.constant))
+    1267650600228229401496703205376 then Some (record { terms = f.terms; constant = amount +ℤ f.constant }) else None

@@ -1,4 +1,5 @@
-ghost use Rattle.linear.specs.Forms.{Combination, IsForm};
+ghost use Rattle.linear.specs.Forms.{IsForm};
+ghost use Rattle.linear.specs.Terms.{Combination};
 
 use lists::Seq;
 use std::marker::Model;

@@ -1,7 +1,8 @@
 //! Laws of forms: contracts of functions that do nothing.
 
 ghost use Rattle.std.specs.Prelude.{◌≡◌, ℕ, ℤ, negsuc, ◌+ℤ◌, ◌*ℤ◌};
-ghost use Rattle.linear.specs.Forms.{Combination, Same, value, plus, minus, scaled, put};
+ghost use Rattle.linear.specs.Forms.{Same, value, plus, minus, scaled, put};
+ghost use Rattle.linear.specs.Terms.{Combination};
 
 /// Forms with the same coefficients and constant have the same value.
 pub fn same_value()

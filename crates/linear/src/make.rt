@@ -2,8 +2,10 @@
 
 ghost use Rattle.std.specs.Prelude.{◌≡◌, ℕ, ◌<◌, ◌≤◌, ◌^◌, ◌+ℤ◌, ◌∷◌, length, unsigned_abs, pos, negsuc, ◌*ℤ◌, OnOk, IfOk, IfSome, IfNone, Err, Some, None};
 ghost use Rattle.std.specs.List.{prefix_len};
-ghost use Rattle.linear.specs.Forms.{IsRising, AreSmall, coefficient_of, Same, constant_form, plus, scaled, minus};
-ghost use Rattle.linear.specs.Made.{IsTermAdded, is_below, coefficient_at, term_form, IsBounded, placed, with_term, with_constant};
+ghost use Rattle.linear.specs.Forms.{IsRising, AreSmall, Same, plus, scaled, minus};
+ghost use Rattle.linear.specs.Terms.{coefficient_of, constant_form};
+ghost use Rattle.linear.specs.Made.{is_below, coefficient_at, placed, with_term, with_constant};
+ghost use Rattle.linear.specs.Bounded.{IsTermAdded, term_form, IsBounded};
 ghost use Rattle.linear.specs.declared.fault.FormFault.TheVariants.{Bounds};
 
 use crate::fault::FormFault;

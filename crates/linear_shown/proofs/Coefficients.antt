@@ -4,7 +4,8 @@ use Rattle.std.specs.List.{All}
 use Rattle.std.proofs.lemmas.Int.{ints}
 use Rattle.std.proofs.lemmas.Bool.{cases_eq, ne_eqb}
 use Rattle.linear.specs.declared.form.Term.{Term}
-use Rattle.linear.specs.Forms.{coefficient_of, IsRising}
+use Rattle.linear.specs.Forms.{IsRising}
+use Rattle.linear.specs.Terms.{coefficient_of}
 use Rattle.linear_shown.specs.Search.{looked_up, Agrees}
 use Rattle.linear.proofs.Coefficients.{none_above}
 

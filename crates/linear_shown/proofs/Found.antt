@@ -8,9 +8,11 @@ use Rattle.std.proofs.lemmas.List.{length-map, get_or-map}
 use Rattle.std.proofs.Math.IntN.{zero-*ℤ}
 use Rattle.linear.specs.declared.form.Term.{Term}
 use Rattle.linear.specs.declared.form.Fact.{Fact}
-use Rattle.linear.specs.Forms.{Combination, coefficient_of, constant_form, IsRising}
+use Rattle.linear.specs.Forms.{IsRising}
+use Rattle.linear.specs.Terms.{Combination, coefficient_of, constant_form}
 use Rattle.linear.specs.declared.form.RegisterId.{RegisterId}
-use Rattle.linear_shown.specs.Shown.{IsSum, IsFactor, sides, IsShown}
+use Rattle.linear_shown.specs.Shown.{IsSum, IsFactor, IsShown}
+use Rattle.linear_shown.specs.Sides.{sides}
 use Rattle.linear_shown.specs.Search.{factors, IsLeft, has_some, IsFound}
 use Rattle.linear.proofs.Coefficients.{own_coefficient}
 use Rattle.linear_shown.proofs.Left.{none_leads, swapped}

@@ -12,9 +12,11 @@ use Rattle.std.proofs.lemmas.List.Elements.{All-contains, All-cons, Contains-get
 use Rattle.std.proofs.lemmas.List.Sorted.{IsNonDecreasingBy-insert, IsNonDecreasingBy-short, IsPermutation-insert, IsPermutation-sym, All-permutation, Contains-permutation}
 use Rattle.linear.specs.declared.form.Term.{Term}
 use Rattle.linear.specs.declared.form.Fact.{Fact}
-use Rattle.linear.specs.Forms.{Combination, coefficient_of, constant_form, IsRising}
+use Rattle.linear.specs.Forms.{IsRising}
+use Rattle.linear.specs.Terms.{Combination, coefficient_of, constant_form}
 use Rattle.linear_shown.specs.declared.index.Entry.{Entry}
-use Rattle.linear_shown.specs.Shown.{IsSum, IsShown, sides}
+use Rattle.linear_shown.specs.Shown.{IsSum, IsShown}
+use Rattle.linear_shown.specs.Sides.{sides}
 use Rattle.linear_shown.specs.Search.{factors, IsFound}
 use Rattle.linear_shown.specs.Index.{weight, weigh, IsKeyOf, place_at, IsEntry, IsAsStrong, IsIndexed, IsIndex, AreLayers, AreEntries, IsJoined, IsBegun, IsContradiction, AreConsistent, IsNegative, IsMadeUp, IsMadeUpWith, IsMadeUpByB, IsMadeUpByA, AreNotB}
 use Rattle.linear.proofs.Values.{distributes, value_combines}

@@ -8,7 +8,8 @@ use Rattle.std.specs.Ordering.{int_eq}
 use Rattle.std.specs.Option.{IfSome}
 use Rattle.linear.specs.declared.form.RegisterId.{RegisterId}
 use Rattle.linear.specs.declared.form.Term.{Term}
-use Rattle.linear.specs.Forms.{Combination, coefficient_of, IsRising}
+use Rattle.linear.specs.Forms.{IsRising}
+use Rattle.linear.specs.Terms.{Combination, coefficient_of}
 use Rattle.linear_shown.specs.Shown.{IsSum}
 use Rattle.linear_shown.specs.Search.{Agrees, IsLeft, has_some}
 use Rattle.linear_shown.proofs.Coefficients.{looked_up_is}

@@ -2,7 +2,8 @@
 use Rattle.std.proofs.Common.{◌≡◌, ◌↔◌, ℕ, ℤ, pos, ◌+ℤ◌, ◌*ℤ◌, List, [], arith}
 use Rattle.std.proofs.lemmas.Int.{ints}
 use Rattle.linear.specs.declared.form.Term.{Term}
-use Rattle.linear.specs.Forms.{coefficient_of, IsRising}
+use Rattle.linear.specs.Forms.{IsRising}
+use Rattle.linear.specs.Terms.{coefficient_of}
 use Rattle.linear_shown.specs.Search.{Agrees}
 use Rattle.linear_shown.proofs.Coefficients.{agree_sums, sums_agree}
 

@@ -8,7 +8,7 @@ use Rattle.std.proofs.lemmas.List.{length-append, take-append-drop, get_or-appen
 use Rattle.std.proofs.lemmas.List.Elements.{All-append, All-cons, All-contains, All-more, Contains-append_left, Contains-append_right, Contains-append_cases, Contains-get_or}
 use Rattle.std.proofs.lemmas.List.Sorted.{IsNonDecreasingBy-short, All-permutation, Contains-permutation}
 use Rattle.linear.specs.declared.form.Fact.{Fact}
-use Rattle.linear.specs.Forms.{constant_form}
+use Rattle.linear.specs.Terms.{constant_form}
 use Rattle.linear_shown.specs.declared.index.Entry.{Entry}
 use Rattle.linear_shown.specs.Index.{place_at, IsEntry, IsIndexed, IsBegun, IsContradiction, AreConsistent, AreEntries, IsJoined, HasPlaces, IsMerging}
 use Rattle.linear_shown.proofs.Left.{swapped}

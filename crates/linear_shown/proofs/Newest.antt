@@ -3,8 +3,8 @@ use Rattle.std.proofs.Common.{◌≡◌, ◌∙◌, ℕ, zero, suc, ◌-◌, ◌
 use Rattle.std.specs.List.{Contains}
 use Rattle.std.proofs.lemmas.List.{length-map, length-reverse, get_or-map, get_or-reverse, reverse-reverse}
 use Rattle.linear.specs.declared.form.Fact.{Fact}
-use Rattle.linear.specs.Forms.{Combination, constant_form}
-use Rattle.linear_shown.specs.Shown.{sides}
+use Rattle.linear.specs.Terms.{Combination, constant_form}
+use Rattle.linear_shown.specs.Sides.{sides}
 use Rattle.linear_shown.specs.Search.{newest, side_at}
 
 contains_reverse : {X : Type 0} (xs : List X) (x : X) → Contains xs x → Contains (reverse xs) x

@@ -8,7 +8,7 @@ use Rattle.std.proofs.lemmas.List.{get_or_default}
 use Rattle.std.proofs.lemmas.Nat.{le-div}
 use Rattle.std.proofs.lemmas.List.Elements.{All-contains, Contains-append_cases}
 use Rattle.linear.specs.declared.form.Fact.{Fact}
-use Rattle.linear.specs.Forms.{Combination}
+use Rattle.linear.specs.Terms.{Combination}
 use Rattle.linear_shown.specs.declared.index.Entry.{Entry}
 use Rattle.linear_shown.specs.Shown.{IsSum}
 use Rattle.linear_shown.specs.Index.{IsKeyOf, place_at, IsEntry, IsIndex, AreEntries, AreInOrder, IsMadeUpWith, IsMadeUpBetween, Balance, Meet, Serve, AreLeft}

@@ -4,8 +4,10 @@ use Rattle.std.specs.List.{All, Contains}
 use Rattle.std.specs.Int.RustNames.{unsigned_abs}
 use Rattle.std.proofs.lemmas.List.Elements.{All-cons, All-map, All-contains}
 use Rattle.linear.specs.declared.form.Fact.{Fact}
-use Rattle.linear.specs.Forms.{Combination, coefficient_of, constant_form, Same}
-use Rattle.linear_shown.specs.Shown.{IsFactor, sides, IsShown, SameFacts}
+use Rattle.linear.specs.Forms.{Same}
+use Rattle.linear.specs.Terms.{Combination, coefficient_of, constant_form}
+use Rattle.linear_shown.specs.Shown.{IsFactor, IsShown, SameFacts}
+use Rattle.linear_shown.specs.Sides.{sides}
 use Rattle.linear.proofs.Making.{same_of}
 
 factor_same : (e f : Combination) (a : ℕ) → Same e f → IsFactor e a → IsFactor f a

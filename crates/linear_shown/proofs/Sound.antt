@@ -6,8 +6,10 @@ use Rattle.std.proofs.lemmas.Int.{ints}
 use Rattle.std.proofs.lemmas.List.Elements.{All-cons, All-map, All-contains}
 use borrow.Author.Differences.{up, down, le_out}
 use Rattle.linear.specs.declared.form.Fact.{Fact}
-use Rattle.linear.specs.Forms.{Combination, constant_form, value_of, Holds}
-use Rattle.linear_shown.specs.Shown.{sides, IsShown, AllHold}
+use Rattle.linear.specs.Forms.{value_of, Holds}
+use Rattle.linear.specs.Terms.{Combination, constant_form}
+use Rattle.linear_shown.specs.Shown.{IsShown, AllHold}
+use Rattle.linear_shown.specs.Sides.{sides}
 use Rattle.linear.proofs.Values.{distributes, value_combines}
 
 pub keeps_sign : (a : ℕ) (x : ℤ) → pos 0 ≤ℤ x → pos 0 ≤ℤ (pos a *ℤ x)

@@ -6,7 +6,8 @@ use Rattle.std.proofs.lemmas.Int.{ints, to_z-of_z}
 use Rattle.std.proofs.lemmas.List.{drop_all, drop_more, get_or-map}
 use Rattle.linear.specs.declared.form.Fact.{Fact}
 use Rattle.linear_shown.specs.Index.{place_at}
-use Rattle.linear.specs.Forms.{value_of, constant_form}
+use Rattle.linear.specs.Forms.{value_of}
+use Rattle.linear.specs.Terms.{constant_form}
 use Rattle.linear.specs.declared.form.Term.{Term}
 
 pub as_it_was : (x : ℤ) → unsigned_abs x < 2 ^ 100 → to_z w128 (of_z w128 x) ≡ x

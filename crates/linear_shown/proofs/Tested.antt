@@ -14,8 +14,9 @@ use Rattle.std.proofs.Math.IntN.{zero-*ℤ}
 use lib.Signed.{le_z_yes}
 use Rattle.linear.specs.declared.form.Term.{Term}
 use Rattle.linear.specs.declared.form.Fact.{Fact}
-use Rattle.linear.specs.Forms.{Combination, coefficient_of, constant_form}
-use Rattle.linear_shown.specs.Shown.{IsSum, IsFactor, sides, IsShown}
+use Rattle.linear.specs.Terms.{Combination, coefficient_of, constant_form}
+use Rattle.linear_shown.specs.Shown.{IsSum, IsFactor, IsShown}
+use Rattle.linear_shown.specs.Sides.{sides}
 use Rattle.linear_shown.specs.Tested.{agrees, agree_along, is_sum, factors_of, is_pair, is_shown}
 
 pub true_from_T : (b : Bool) → T b → b ≡ true

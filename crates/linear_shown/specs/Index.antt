@@ -4,10 +4,12 @@ use Rattle.std.specs.Prelude.{true, List, [], ◌++◌, length, take, All, Conta
 use Rattle.std.specs.List.Sorted.{IsNonDecreasingBy}
 use Rattle.linear.specs.declared.form.Term.{Term}
 use Rattle.linear.specs.declared.form.Fact.{Fact}
-use Rattle.linear.specs.Forms.{Combination, coefficient_of, constant_form, value_of}
+use Rattle.linear.specs.Forms.{value_of}
+use Rattle.linear.specs.Terms.{Combination, coefficient_of, constant_form}
 use Rattle.linear_shown.specs.declared.index.Entry.{Entry}
 use Rattle.linear_shown.specs.Search.{factors}
-use Rattle.linear_shown.specs.Shown.{IsSum, sides}
+use Rattle.linear_shown.specs.Shown.{IsSum}
+use Rattle.linear_shown.specs.Sides.{sides}
 
 abbrev pub spread : ℕ → ℕ → ℕ
 spread step r = (r % 65536 * step + 12345) % 16777213

@@ -2,3 +2,4 @@ pub mod Index
 pub mod Search
 pub mod Shown
 pub mod Tested
+pub mod Sides

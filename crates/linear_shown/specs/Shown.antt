@@ -1,8 +1,10 @@
 -- What facts show: e = a * f + b * g + c for two facts f and g, of which either may be absent, a constant c that is not
 -- below 0, and factors a and b that are 1 or the size of one of e's coefficients.
-use Rattle.std.specs.Prelude.{◌≡◌, ℕ, ◌⊎◌, ℤ, pos, ◌+ℤ◌, ◌*ℤ◌, ◌≤ℤ◌, List, ◌∷◌, map, All, Contains, unsigned_abs}
+use Rattle.std.specs.Prelude.{◌≡◌, ℕ, ◌⊎◌, ℤ, pos, ◌+ℤ◌, ◌*ℤ◌, ◌≤ℤ◌, List, All, Contains, unsigned_abs}
 use Rattle.linear.specs.declared.form.Fact.{Fact}
-use Rattle.linear.specs.Forms.{Combination, coefficient_of, constant_form, Same, Holds}
+use Rattle.linear.specs.Forms.{Same, Holds}
+use Rattle.linear.specs.Terms.{Combination, coefficient_of}
+use Rattle.linear_shown.specs.Sides.{sides}
 
 pub record IsSum (e : Combination) (a : ℕ) (f : Combination) (b : ℕ) (g : Combination) : Type 0 where
   pub terms : (r : ℕ) →
@@ -11,10 +13,6 @@ pub record IsSum (e : Combination) (a : ℕ) (f : Combination) (b : ℕ) (g : Co
 
 abbrev pub IsFactor : Combination → ℕ → Type 0
 IsFactor e a = (a ≡ 1) ⊎ ((r : ℕ) × (a ≡ unsigned_abs (coefficient_of e.terms r)))
-
--- the facts' forms, and 0 for an absent one
-abbrev pub sides : List Fact → List Combination
-sides facts = constant_form (pos 0) ∷ map (λ f. f.form) facts
 
 pub record IsShown (facts : List Fact) (e : Combination) : Type 0 where
   pub f : Combination

@@ -4,8 +4,8 @@ use Rattle.std.specs.List.{list_any, list_all}
 use Rattle.std.specs.Ordering.{int_eq}
 use Rattle.linear.specs.declared.form.Term.{Term}
 use Rattle.linear.specs.declared.form.Fact.{Fact}
-use Rattle.linear.specs.Forms.{Combination, coefficient_of}
-use Rattle.linear_shown.specs.Shown.{sides}
+use Rattle.linear.specs.Terms.{Combination, coefficient_of}
+use Rattle.linear_shown.specs.Sides.{sides}
 
 -- e and a * f + b * g have one coefficient at the register
 abbrev pub agrees : Combination → ℕ → Combination → ℕ → Combination → ℕ → Bool
@@ -17,9 +17,8 @@ abbrev pub agree_along : List Term → Combination → ℕ → Combination → �
 agree_along terms e a f b g = list_all (λ t. agrees e a f b g t.register.0) terms
 
 abbrev pub is_sum : Combination → Combination → Combination → ℕ → ℕ → Bool
-is_sum e f g a b =
-    (agree_along e.terms e a f b g && (agree_along f.terms e a f b g && agree_along g.terms e a f b g))
-    && int_le ((pos a *ℤ f.constant) +ℤ (pos b *ℤ g.constant)) e.constant
+is_sum e f g a b = (agree_along e.terms e a f b g && (agree_along f.terms e a f b g &&
+    agree_along g.terms e a f b g)) && int_le ((pos a *ℤ f.constant) +ℤ (pos b *ℤ g.constant)) e.constant
 
 -- 1, and the sizes of the coefficients
 abbrev pub factors_of : Combination → List ℕ
@@ -28,6 +27,5 @@ factors_of e = 1 ∷ map (λ t. unsigned_abs (coefficient_of e.terms t.register.
 abbrev pub is_pair : Combination → Combination → Combination → Bool
 is_pair e f g = list_any (λ a. list_any (is_sum e f g a) (factors_of e)) (factors_of e)
 
--- whether the facts show the form
 unfoldable pub is_shown : List Fact → Combination → Bool
 is_shown facts e = list_any (λ f. list_any (is_pair e f) (sides facts)) (sides facts)

@@ -3,7 +3,8 @@
 ghost use Rattle.std.specs.Prelude.{◌≡◌, ◌<◌, ◌≤◌, ◌+◌, ◌*◌, ◌^◌, ◌↔◌, ◌++◌, [], ℕ, suc, All, Contains, IsTrue, IfSome, IfNone, IfOk, OnOk, length};
 ghost use Rattle.std.specs.Prelude.{unsigned_abs, ◌≤ℤ◌, false, true, slice_index_or};
 ghost use Rattle.std.specs.List.Sorted.{IsNonDecreasingBy};
-ghost use Rattle.linear.specs.Forms.{AreSmall, IsRising, coefficient_of};
+ghost use Rattle.linear.specs.Forms.{AreSmall, IsRising};
+ghost use Rattle.linear.specs.Terms.{coefficient_of};
 ghost use Rattle.linear_shown.specs.Index.{place_at, IsKeyOf, IsEntry, IsBegun, IsContradiction, AreEntries, AreLayers, IsJoined};
 ghost use Rattle.linear_shown.specs.declared.index.Entry.{Entry};
 

@@ -3,7 +3,8 @@
 ghost use Rattle.std.specs.Prelude.{ℕ, ℤ, List};
 ghost use Rattle.std.specs.Bool.{Decides};
 ghost use Rattle.linear.specs.declared.form.Fact.{Fact};
-ghost use Rattle.linear.specs.Forms.{Combination, Same, Holds};
+ghost use Rattle.linear.specs.Forms.{Same, Holds};
+ghost use Rattle.linear.specs.Terms.{Combination};
 ghost use Rattle.linear_shown.specs.Shown.{IsShown, AllHold, SameFacts};
 ghost use Rattle.linear_shown.specs.Tested.{is_shown};
 

@@ -6,8 +6,9 @@ use Rattle.store.specs.Requirements.{unmet_in}
 use Rattle.store.specs.declared.outcome.RunFault.{RunFault}
 use Rattle.store.specs.declared.outcome.RunFault.TheVariants.{BadArguments, BadWorkers, OutOfMemory, Stopped}
 use Rattle.store.specs.Cells.{NamedCells}
-use Rattle.store.specs.Made.{HasGlobalCells}
-use Rattle.store.specs.Rows.{row_of, sizes_of}
+use Rattle.store.specs.Named.{HasGlobalCells}
+use Rattle.store.specs.Rows.{sizes_of}
+use Rattle.store.specs.Refilled.{row_of}
 use Rattle.store.specs.verifier.Accepted.{IsAccepted}
 use Rattle.store.specs.verifier.Budgets.{budget_of}
 use Rattle.frame.specs.code.Codes.{program_codes}

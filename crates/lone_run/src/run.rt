@@ -1,6 +1,7 @@
 ghost use Rattle.std.specs.Prelude.{◌≡◌, ◌≢◌, ◌+◌, ◌<◌, ◌≤◌, Err, IfErr, IfNone, IfOk, IfSome, None};
 ghost use Rattle.store.specs.Requirements.{unmet_in};
-ghost use Rattle.store.specs.Made.{HasGlobalCells, IsMadeFor};
+ghost use Rattle.store.specs.Made.{IsMadeFor};
+ghost use Rattle.store.specs.Named.{HasGlobalCells};
 ghost use Rattle.store.specs.verifier.Accepted.{IsAccepted};
 ghost use Rattle.store.specs.verifier.Budgets.{budget_of};
 ghost use Rattle.serial_machine.specs.SerialPromise.{EndsWithinBudget, TakesMore};

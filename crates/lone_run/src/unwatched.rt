@@ -1,6 +1,6 @@
 ghost use Rattle.std.specs.Prelude.{◌≡◌, ◌≢◌, Err, IfErr, IfOk, None, OnOk};
 ghost use Rattle.store.specs.Requirements.{unmet_in};
-ghost use Rattle.store.specs.Made.{HasGlobalCells};
+ghost use Rattle.store.specs.Named.{HasGlobalCells};
 ghost use Rattle.serial_machine.specs.SerialPromise.{EndsWithinBudget};
 ghost use Rattle.lone_run.specs.UnderWay.{IsRefusal};
 

@@ -3,6 +3,9 @@ pub mod Calls
 pub mod Cells
 pub mod Steps
 pub mod Widths
+pub mod Left
+pub mod Heads
+pub mod Objects
 -- for the crates above
 pub use Rattle.syntax.specs as syntax
 pub use Rattle.linear.specs as linear

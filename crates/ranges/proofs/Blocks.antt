@@ -11,12 +11,16 @@ use Rattle.program.specs.declared.function.Block.{Block}
 use Rattle.program.specs.declared.function.Function.{Function}
 use Rattle.program.specs.declared.function.Program.{Program}
 use Rattle.refusal.specs.declared.broken.Broken.{Broken}
-use Rattle.refusal.specs.Earliest.{IsLowerOf, IsEarliest}
+use Rattle.refusal.specs.Earliest.{IsEarliest}
+use Rattle.refusal.specs.Named.{IsLowerOf}
 use Rattle.refusal.proofs.Elements.{earliest_same, earliest_both}
 use Rattle.ranges.specs.declared.table.EdgeFacts.{EdgeFacts}
 use Rattle.ranges_owed.specs.Owed.{owed_at_end}
-use Rattle.ranges.specs.Edges.{edge_owed, all_with_known}
-use Rattle.ranges.specs.Places.{start_facts, with_shows, stated, step_shows, ending_shows, facts_before, facts_at_step, facts_at_end, edges_known, IsBlockTable}
+use Rattle.ranges.specs.Edges.{edge_owed}
+use Rattle.ranges.specs.Tables.{all_with_known}
+use Rattle.ranges.specs.Places.{start_facts, with_shows, stated, step_shows, ending_shows, facts_before, facts_at_step}
+use Rattle.ranges.specs.Places.{facts_at_end, edges_known}
+use Rattle.ranges.specs.Tables.{IsBlockTable}
 use Rattle.ranges.specs.Rules.{AreUnmet, AreUnshown, IsStepBroken, AreStepsBroken, IsEndBroken, IsBlockBroken}
 use Rattle.ranges.specs.Walks.{IsWalked, edges_behind, IsEndUnmetAt}
 

@@ -15,7 +15,8 @@ use Rattle.ranges_owed.specs.cfg.declared.structure.Move.{Move}
 use Rattle.ranges_owed.specs.cfg.Edges.{moves_from}
 use Rattle.ranges.specs.declared.edge.EdgeSums.{EdgeSums}
 use Rattle.ranges.specs.Sums.{facts_of}
-use Rattle.ranges.specs.Edges.{edge_facts, with_known, all_with_known}
+use Rattle.ranges.specs.Edges.{edge_facts}
+use Rattle.ranges.specs.Tables.{with_known, all_with_known}
 
 any_to : {X Y : Type 0} (f : X → Y) (P : Y → Type 0) (xs : List X) → Any (λ x. P (f x)) xs → Any P (map f xs)
 any_to f P xs (i, x, l, is, p) = (i, f x, rw (length-map xs f) l, get_or-map f xs i x (f x) l ∙ ap f is, p)

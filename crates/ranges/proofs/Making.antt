@@ -5,7 +5,7 @@ use Rattle.std.proofs.lemmas.Bool.{false≢true}
 use Rattle.lists.specs.declared.memory.OutOfMemory.{OutOfMemory}
 use Rattle.linear.specs.declared.fault.FormFault.{FormFault}
 use Rattle.linear.specs.declared.fault.FormFault.TheVariants.{Bounds, Memory}
-use Rattle.linear.specs.Forms.{Combination}
+use Rattle.linear.specs.Terms.{Combination}
 
 refused_is : (result : Result (Option Combination) OutOfMemory) (o : Option Combination) → IsErr result → IfOk result (λ f. f ≡ o)
 refused_is (Ok f) o e = absurd (false≢true e)

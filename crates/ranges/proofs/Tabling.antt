@@ -9,7 +9,7 @@ use Rattle.program.specs.declared.function.Function.{Function}
 use Rattle.program.specs.declared.function.Program.{Program}
 use Rattle.ranges.specs.declared.table.BlockFacts.{BlockFacts}
 use Rattle.ranges.specs.declared.table.FunctionFacts.{FunctionFacts}
-use Rattle.ranges.specs.Places.{IsBlockTable, IsFunctionTable, AreFacts}
+use Rattle.ranges.specs.Tables.{IsBlockTable, IsFunctionTable, AreFacts}
 use Rattle.refusal.proofs.Places.{same_at, read_at}
 
 -- what the table says of the first elements

@@ -10,9 +10,11 @@ use Rattle.std.proofs.lemmas.Int.{ints}
 use Rattle.std.proofs.lemmas.List.Elements.{All-nil, All-cons, All-head, All-tail, All-append}
 use Rattle.std.proofs.lemmas.List.Folds.{Any-from_list_any}
 use Rattle.linear.specs.declared.form.Fact.{Fact}
-use Rattle.linear.specs.Forms.{Combination, IsForm, constant_form, Holds, value}
+use Rattle.linear.specs.Forms.{IsForm, Holds, value}
+use Rattle.linear.specs.Terms.{Combination, constant_form}
 use Rattle.linear_shown.specs.Shown.{AllHold}
-use Rattle.linear.specs.Made.{is_bounded, term_form, with_constant}
+use Rattle.linear.specs.Made.{is_bounded, with_constant}
+use Rattle.linear.specs.Bounded.{term_form}
 use Rattle.linear.proofs.Added.{term_added, number_added, added_value}
 use Rattle.linear_shown.proofs.Tested.{shown_from_test}
 use Rattle.linear_shown.proofs.Sound.{shown_holds}

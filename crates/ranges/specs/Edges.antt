@@ -4,8 +4,7 @@ use Rattle.std.specs.Prelude.{Option, Some, None, slice_get}
 use Rattle.linear.specs.declared.form.RegisterId.{RegisterId}
 use Rattle.linear.specs.declared.form.Fact.{Fact}
 use Rattle.program.specs.syntax.declared.operator.Predicate.{Predicate}
-use Rattle.program.specs.syntax.declared.operator.Predicate.TheVariants.{Equal, NotEqual, UnsignedGreater}
-use Rattle.program.specs.syntax.declared.operator.Predicate.TheVariants.{UnsignedAtLeast, UnsignedLess, UnsignedAtMost}
+use Rattle.program.specs.syntax.declared.operator.Predicate.TheVariants.{Equal}
 use Rattle.program.specs.syntax.declared.operator.Predicate.TheVariants.{SignedGreater, SignedAtLeast, SignedLess}
 use Rattle.program.specs.syntax.declared.operator.Predicate.TheVariants.{SignedAtMost}
 use Rattle.program.specs.Blocks.{block_phis}
@@ -35,18 +34,9 @@ use Rattle.ranges_owed.specs.Owed.{inequalities_owed}
 -- ---- the compare that a branch takes
 
 abbrev pub compare_of : RegisterId → Instruction → Option Comparison
-compare_of r (instruction.Binary d operator width x y) = None
 compare_of r (instruction.Compare d predicate width x y) =
     if d.0 == r.0 then Some (record { predicate = predicate; left = x; right = y }) else None
-compare_of r (instruction.Convert d conversion x) = None
-compare_of r (instruction.Alloca d alloca) = None
-compare_of r (instruction.ElementPointer d object index) = None
-compare_of r (instruction.Load d address) = None
-compare_of r (instruction.Store x address) = None
-compare_of r (instruction.StoreZeros cells object) = None
-compare_of r (instruction.AtomicAdd address x) = None
-compare_of r (instruction.Call d callee arguments) = None
-compare_of r (instruction.StartRegion d) = None
+compare_of r other = None
 
 -- the first compare among the steps that defines the register
 abbrev pub compared : RegisterId → List Step → Option Comparison
@@ -65,12 +55,6 @@ above x y = two (negsuc 0) (pos 1) x (negsuc 0) y
 -- a signed compare or its opposite, and equality where it holds; the others say nothing
 abbrev pub compare_sums : Predicate → Bool → Operand → Operand → List Sum
 compare_sums Equal true x y = at_least x y ∷ (at_least y x ∷ [])
-compare_sums Equal false x y = []
-compare_sums NotEqual holds x y = []
-compare_sums UnsignedGreater holds x y = []
-compare_sums UnsignedAtLeast holds x y = []
-compare_sums UnsignedLess holds x y = []
-compare_sums UnsignedAtMost holds x y = []
 compare_sums SignedGreater true x y = above x y ∷ []
 compare_sums SignedGreater false x y = at_least y x ∷ []
 compare_sums SignedAtLeast true x y = at_least x y ∷ []
@@ -79,6 +63,7 @@ compare_sums SignedLess true x y = above y x ∷ []
 compare_sums SignedLess false x y = at_least x y ∷ []
 compare_sums SignedAtMost true x y = at_least y x ∷ []
 compare_sums SignedAtMost false x y = above x y ∷ []
+compare_sums predicate holds x y = []
 
 abbrev pub branch_sums : Option Comparison → Bool → List Sum
 branch_sums None holds = []
@@ -96,16 +81,14 @@ edge_to to way sums = record { to = to; way = way; sums = sums }
 -- the edges of a terminator in its order, each with what its being taken makes known; a reattach has none
 abbrev pub edges_out : List Step → Terminator → List EdgeSums
 edges_out steps (terminator.Jump target) = edge_to target Branch [] ∷ []
-edges_out steps (terminator.Branch condition when_true when_false) =
-    edge_to when_true Branch (branch_sums (compared condition steps) true) ∷
-    (edge_to when_false Branch (branch_sums (compared condition steps) false) ∷ [])
+edges_out steps (terminator.Branch condition when_true when_false) = edge_to when_true Branch (branch_sums
+    (compared condition steps) true) ∷ (edge_to when_false Branch (branch_sums (compared condition steps) false) ∷ [])
 edges_out steps (terminator.Switch width value default cases) = edge_to default Branch [] ∷
     map (λ c. edge_to c.target Branch (case_sums value c.number)) cases
-edges_out steps (terminator.Return value) = []
 edges_out steps (terminator.Detach region body continuation) = edge_to body Detached [] ∷
     (edge_to continuation Continued [] ∷ [])
-edges_out steps (terminator.Reattach region continuation) = []
 edges_out steps (terminator.Sync region target) = edge_to target (Synced region) [] ∷ []
+edges_out steps other = []
 
 -- ---- at the target
 
@@ -126,14 +109,6 @@ edge_facts blocks from known e =
 
 abbrev pub all_edge_facts : List Block → ℕ → List Fact → List EdgeSums → List EdgeFacts
 all_edge_facts blocks from known edges = map (edge_facts blocks from known) edges
-
--- an edge that has only what its being taken says, with all that is known on it, where this is known at the end of its
--- block
-abbrev pub with_known : List Fact → EdgeFacts → EdgeFacts
-with_known known e = record { to = e.to; way = e.way; moves = e.moves; facts = known ++ e.facts }
-
-abbrev pub all_with_known : List Fact → List EdgeFacts → List EdgeFacts
-all_with_known known edges = map (with_known known) edges
 
 -- 505: the `keeps` of the target, with what its phis take put in
 abbrev pub edge_owed : List Block → EdgeFacts → List Obligation

@@ -1,7 +1,7 @@
 -- What a phase says that does not pass a program.
 use Rattle.std.specs.Prelude.{◌≡◌, ℕ, Option, Some}
 use Rattle.refusal.specs.declared.broken.Broken.{Broken}
-use Rattle.refusal.specs.Earliest.{NamesEarliest}
+use Rattle.refusal.specs.Named.{NamesEarliest}
 use Rattle.ranges.specs.declared.unverified.Unverified.{Unverified}
 use Rattle.ranges.specs.declared.unverified.Unverified.TheVariants.{Refused, OutOfEffort}
 

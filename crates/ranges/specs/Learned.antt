@@ -4,13 +4,11 @@ use Rattle.std.specs.Prelude.{slice_get, if◌then◌else◌}
 use Rattle.linear.specs.declared.form.RegisterId.{RegisterId}
 use Rattle.linear.specs.declared.form.Fact.{Fact}
 use Rattle.program.specs.syntax.declared.operator.BinaryOperator.{BinaryOperator}
-use Rattle.program.specs.syntax.declared.operator.BinaryOperator.TheVariants.{Add, Subtract, Multiply, AddNoWrap}
+use Rattle.program.specs.syntax.declared.operator.BinaryOperator.TheVariants.{AddNoWrap}
 use Rattle.program.specs.syntax.declared.operator.BinaryOperator.TheVariants.{SubtractNoWrap, MultiplyNoWrap}
-use Rattle.program.specs.syntax.declared.operator.BinaryOperator.TheVariants.{SignedDivide, UnsignedDivide}
-use Rattle.program.specs.syntax.declared.operator.BinaryOperator.TheVariants.{SignedRemainder, UnsignedRemainder}
-use Rattle.program.specs.syntax.declared.operator.BinaryOperator.TheVariants.{ShiftLeft}
-use Rattle.program.specs.syntax.declared.operator.BinaryOperator.TheVariants.{LogicalShiftRight, ArithmeticShiftRight}
-use Rattle.program.specs.syntax.declared.operator.BinaryOperator.TheVariants.{And, Or, ExclusiveOr}
+use Rattle.program.specs.syntax.declared.operator.BinaryOperator.TheVariants.{SignedDivide}
+use Rattle.program.specs.syntax.declared.operator.BinaryOperator.TheVariants.{SignedRemainder}
+use Rattle.program.specs.syntax.declared.operator.BinaryOperator.TheVariants.{And}
 use Rattle.program.specs.syntax.declared.operator.Conversion.{Conversion}
 use Rattle.program.specs.syntax.declared.operator.Conversion.TheVariants.{Truncate, SignExtend, ZeroExtend}
 use Rattle.program.specs.declared.instruction.Argument.{Argument}
@@ -60,24 +58,15 @@ masked_by d (Number m) = if int_le (pos 0) m then is_between (pos 0) m d else []
 masked_by d (Register r) = []
 
 abbrev pub binary_sums : List Fact → BinaryOperator → Operand → Operand → Operand → List Sum
-binary_sums known Add d x y = []
-binary_sums known Subtract d x y = []
-binary_sums known Multiply d x y = []
 binary_sums known AddNoWrap d x y = three (pos 0) (pos 1) d (negsuc 0) x (negsuc 0) y ∷
     (three (pos 0) (negsuc 0) d (pos 1) x (pos 1) y ∷ [])
 binary_sums known SubtractNoWrap d x y = three (pos 0) (pos 1) d (negsuc 0) x (pos 1) y ∷
     (three (pos 0) (negsuc 0) d (pos 1) x (negsuc 0) y ∷ [])
 binary_sums known MultiplyNoWrap d x y = is_product d (scale_of x y)
 binary_sums known SignedDivide d x y = quotient_by known d x y
-binary_sums known UnsignedDivide d x y = []
 binary_sums known SignedRemainder d x y = remainder_by known d x y
-binary_sums known UnsignedRemainder d x y = []
-binary_sums known ShiftLeft d x y = []
-binary_sums known LogicalShiftRight d x y = []
-binary_sums known ArithmeticShiftRight d x y = []
 binary_sums known And d x y = masked_by d y
-binary_sums known Or d x y = []
-binary_sums known ExclusiveOr d x y = []
+binary_sums known other d x y = []
 
 -- whether x is shown to lie from -2147483648 to 2147483647
 abbrev pub is_32_bits : List Fact → Operand → Bool
@@ -98,13 +87,6 @@ call_sums (Some callee) arguments d = differences_of (call_moves callee argument
 -- what an instruction makes known, where `known` is known before it
 abbrev pub learned : List Function → List Fact → Instruction → List Sum
 learned functions known (instruction.Binary d operator width x y) = binary_sums known operator (Register d) x y
-learned functions known (instruction.Compare d predicate width x y) = []
 learned functions known (instruction.Convert d conversion x) = conversion_sums known conversion (Register d) x
-learned functions known (instruction.Alloca d alloca) = []
-learned functions known (instruction.ElementPointer d object index) = []
-learned functions known (instruction.Load d address) = []
-learned functions known (instruction.Store x address) = []
-learned functions known (instruction.StoreZeros cells object) = []
-learned functions known (instruction.AtomicAdd address x) = []
 learned functions known (instruction.Call d callee arguments) = call_sums (slice_get functions callee.0) arguments d
-learned functions known (instruction.StartRegion d) = []
+learned functions known other = []

@@ -6,6 +6,7 @@ pub mod Rules
 pub mod Walks
 pub mod Truth
 pub mod Judged
+pub mod Tables
 -- for the crates above
 pub use Rattle.linear_shown.specs as linear_shown
 pub use Rattle.ranges_owed.specs as ranges_owed

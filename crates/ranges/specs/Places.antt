@@ -1,23 +1,17 @@
 -- What is known at each place: one fold over the steps of a block.
-use Rattle.std.specs.Prelude.{◌≡◌, ℕ, zero, suc, List, [], ◌∷◌, ◌++◌, length, take, Option, Some, None, slice_get}
-use Rattle.std.specs.Prelude.{slice_index_or}
+use Rattle.std.specs.Prelude.{ℕ, zero, suc, List, [], ◌∷◌, ◌++◌, length, Option, Some, None, slice_get}
 use Rattle.linear.specs.declared.form.Fact.{Fact}
 use Rattle.program.specs.declared.annotation.Inequality.{Inequality}
 use Rattle.program.specs.declared.instruction.Ending.{Ending}
 use Rattle.program.specs.declared.instruction.Step.{Step}
 use Rattle.program.specs.declared.function.Block.{Block}
 use Rattle.program.specs.declared.function.Function.{Function}
-use Rattle.program.specs.declared.function.Program.{Program}
-use Rattle.ranges.specs.declared.table.BlockFacts.{BlockFacts}
 use Rattle.ranges.specs.declared.table.EdgeFacts.{EdgeFacts}
-use Rattle.ranges.specs.declared.table.Facts.{Facts}
-use Rattle.ranges.specs.declared.table.FunctionFacts.{FunctionFacts}
 use Rattle.ranges.specs.Sums.{facts_of}
 use Rattle.ranges_owed.specs.Inequalities.{differences_of}
 use Rattle.ranges.specs.Learned.{learned}
-use Rattle.ranges.specs.Edges.{edges_out, all_edge_facts, all_with_known}
+use Rattle.ranges.specs.Edges.{edges_out, all_edge_facts}
 
--- inequalities as facts
 abbrev pub stated : List Inequality → List Fact
 stated qs = facts_of (differences_of [] qs)
 
@@ -30,16 +24,14 @@ start_facts function (suc b) block = stated block.keeps
 abbrev pub with_shows : List Fact → List Inequality → List Fact
 with_shows known shows = known ++ stated shows
 
--- behind a step
 abbrev pub after_step : List Function → List Fact → Step → List Fact
 after_step functions known step = with_shows known step.shows ++
     facts_of (learned functions (with_shows known step.shows) step.instruction)
 
 -- before the `shows` lines of the step of this number; behind all steps where there are fewer
 abbrev pub facts_before : List Function → List Fact → List Step → ℕ → List Fact
-facts_before functions known steps zero = known
-facts_before functions known [] (suc i) = known
 facts_before functions known (step ∷ steps) (suc i) = facts_before functions (after_step functions known step) steps i
+facts_before functions known one other = known
 
 abbrev pub step_shows : Option Step → List Inequality
 step_shows None = []
@@ -51,49 +43,15 @@ ending_shows (Some ending) = ending.shows
 
 -- at the step of this number of a block of this number
 abbrev pub facts_at_step : List Function → Function → ℕ → Block → ℕ → List Fact
-facts_at_step functions function b block i =
-    with_shows (facts_before functions (start_facts function b block) block.steps i)
-    (step_shows (slice_get block.steps i))
+facts_at_step functions function b block i = with_shows (facts_before functions (start_facts function b block)
+    block.steps i) (step_shows (slice_get block.steps i))
 
--- at the terminator
 abbrev pub facts_at_end : List Function → Function → ℕ → Block → List Fact
-facts_at_end functions function b block =
-    with_shows (facts_before functions (start_facts function b block) block.steps (length block.steps))
-    (ending_shows block.ending)
+facts_at_end functions function b block = with_shows (facts_before functions (start_facts function b block) block.steps
+    (length block.steps)) (ending_shows block.ending)
 
 -- the facts of each edge at the end of a block, in the order of its terminator
 abbrev pub edges_known : List Function → Function → ℕ → Block → Option Ending → List EdgeFacts
 edges_known functions function b block None = []
 edges_known functions function b block (Some ending) =
     all_edge_facts function.blocks b (facts_at_end functions function b block) (edges_out block.steps ending.terminator)
-
--- ---- the tables
-
--- what the table of a block says is known at its step of this number
-abbrev pub facts_in_table : BlockFacts → ℕ → List Fact
-facts_in_table table i = take (slice_index_or table.counts i 0) table.facts
-
--- and on its edges
-abbrev pub edges_in_table : BlockFacts → List EdgeFacts
-edges_in_table table = all_with_known table.facts table.edges
-
--- the facts of a block's places and edges
-pub record IsBlockTable (functions : List Function) (function : Function) (b : ℕ) (block : Block)
-    (table : BlockFacts) : Type 0 where
-  pub steps : length table.counts ≡ length block.steps
-  pub at_step : (i : ℕ) (step : Step) → slice_get block.steps i ≡ Some step →
-      facts_in_table table i ≡ facts_at_step functions function b block i
-  pub at_end : table.facts ≡ facts_at_end functions function b block
-  pub edges : edges_in_table table ≡ edges_known functions function b block block.ending
-
-pub record IsFunctionTable (functions : List Function) (function : Function) (table : FunctionFacts) : Type 0 where
-  pub blocks : length table.blocks ≡ length function.blocks
-  pub each : (b : ℕ) (block : Block) (facts : BlockFacts) → slice_get function.blocks b ≡ Some block →
-      slice_get table.blocks b ≡ Some facts
-      → IsBlockTable functions function b block facts
-
--- the facts of a program's places and edges
-pub record AreFacts (program : Program) (facts : Facts) : Type 0 where
-  pub functions : length facts.functions ≡ length program.functions
-  pub each : (f : ℕ) (function : Function) (table : FunctionFacts) → slice_get program.functions f ≡ Some function
-      → slice_get facts.functions f ≡ Some table → IsFunctionTable program.functions function table

@@ -32,14 +32,12 @@ AreUnshown known lines broken = (i : ℕ) × (q : Inequality) × (slice_get line
 
 -- 501 to 504 and 506 at a step, and 508 before it
 abbrev pub IsStepBroken : Program → Function → List Fact → Step → Broken → Type 0
-IsStepBroken program function known step broken =
-    AreUnshown known step.shows broken ⊎ AreUnmet (with_shows known step.shows) step.line
-    (owed program function step.instruction) broken
+IsStepBroken program function known step broken = AreUnshown known step.shows broken ⊎
+    AreUnmet (with_shows known step.shows) step.line (owed program function step.instruction) broken
 
 abbrev pub AreStepsBroken : Program → Function → ℕ → Block → Broken → Type 0
-AreStepsBroken program function b block broken =
-    (i : ℕ) × (step : Step) × (slice_get block.steps i ≡ Some step)
-    × IsStepBroken program function (facts_before program.functions (start_facts function b block) block.steps i) step
+AreStepsBroken program function b block broken = (i : ℕ) × (step : Step) × (slice_get block.steps i ≡ Some step) ×
+    IsStepBroken program function (facts_before program.functions (start_facts function b block) block.steps i) step
     broken
 
 -- 505 on one of the edges
@@ -49,20 +47,17 @@ AreEdgesBroken function line edges broken = Any (λ e. AreUnmet e.facts line (ed
 -- 507 and 505 at a terminator, and 508 before it
 abbrev pub IsEndBroken : Program → Function → ℕ → Block → Option Ending → Broken → Type 0
 IsEndBroken program function b block None broken = ⊥
-IsEndBroken program function b block (Some ending) broken =
-    AreUnshown (facts_before program.functions (start_facts function b block) block.steps (length block.steps))
-    ending.shows broken
-    ⊎ (AreUnmet (facts_at_end program.functions function b block) ending.line (owed_at_end function ending.terminator)
-    broken
-    ⊎ AreEdgesBroken function ending.line (edges_known program.functions function b block (Some ending)) broken)
+IsEndBroken program function b block (Some ending) broken = AreUnshown (facts_before program.functions
+    (start_facts function b block) block.steps (length block.steps)) ending.shows broken ⊎
+    (AreUnmet (facts_at_end program.functions function b block) ending.line (owed_at_end function ending.terminator)
+    broken ⊎ AreEdgesBroken function ending.line (edges_known program.functions function b block (Some ending)) broken)
 
 abbrev pub IsBlockBroken : Program → Function → ℕ → Block → Broken → Type 0
 IsBlockBroken program function b block broken = AreStepsBroken program function b block broken ⊎
     IsEndBroken program function b block block.ending broken
 
 abbrev pub IsFunctionBroken : Program → Function → Broken → Type 0
-IsFunctionBroken program function broken =
-    (b : ℕ) × (block : Block) × (slice_get function.blocks b ≡ Some block) ×
+IsFunctionBroken program function broken = (b : ℕ) × (block : Block) × (slice_get function.blocks b ≡ Some block) ×
     IsBlockBroken program function b block broken
 
 -- 501 to 508

@@ -4,7 +4,7 @@ use Rattle.std.specs.Prelude.{if◌then◌else◌}
 use Rattle.std.specs.List.{flat_map, list_any}
 use Rattle.std.specs.Option.{option_map, option_to_list}
 use Rattle.linear.specs.declared.form.Fact.{Fact}
-use Rattle.linear.specs.Forms.{Combination, constant_form}
+use Rattle.linear.specs.Terms.{Combination, constant_form}
 use Rattle.linear.specs.Made.{is_bounded, with_term, with_constant}
 use Rattle.linear_shown.specs.Tested.{is_shown}
 use Rattle.program.specs.declared.instruction.Operand.{Operand}
@@ -26,8 +26,8 @@ with_parts (p ∷ ps) None = None
 with_parts (p ∷ ps) (Some f) = with_parts ps (with_operand f p.factor p.operand)
 
 abbrev pub start_of : ℤ → Option Combination
-start_of constant = if nat_lt (unsigned_abs constant) 1267650600228229401496703205376 then Some
-    (constant_form constant) else None
+start_of constant = if nat_lt (unsigned_abs constant) 1267650600228229401496703205376 then Some (constant_form constant)
+    else None
 
 -- the form of a sum, its parts added one by one, unless a number of it would pass the bounds of a form
 unfoldable pub sum_form : Sum → Option Combination

@@ -2,7 +2,7 @@ ghost use Rattle.std.specs.Prelude.{◌≡◌, IfOk, IfErr, Any};
 ghost use Rattle.refusal.specs.declared.broken.Broken.{Broken};
 ghost use Rattle.refusal.specs.Earliest.{IsEarliest};
 ghost use Rattle.ranges.specs.Judged.{JudgesEarliest};
-ghost use Rattle.ranges.specs.Places.{IsFunctionTable, AreFacts};
+ghost use Rattle.ranges.specs.Tables.{IsFunctionTable, AreFacts};
 ghost use Rattle.ranges.specs.Rules.{IsFunctionBroken, IsRangeBroken};
 
 use crate::table::{BlockFacts, Facts, FunctionFacts};

@@ -6,7 +6,8 @@ ghost use Rattle.ranges.specs.Sums.{facts_of};
 ghost use Rattle.ranges_owed.specs.Sums.{one, two};
 ghost use Rattle.ranges.specs.Edges.{compare_of, compared, at_least, above, compare_sums, branch_sums, case_sums, edge_to, edges_out};
 ghost use Rattle.linear.specs.declared.form.Fact.{Fact};
-ghost use Rattle.ranges.specs.Edges.{edge_facts, all_edge_facts, with_known, all_with_known};
+ghost use Rattle.ranges.specs.Edges.{edge_facts, all_edge_facts};
+ghost use Rattle.ranges.specs.Tables.{with_known, all_with_known};
 
 use crate::know::push_facts;
 use crate::table::EdgeFacts;

@@ -4,7 +4,8 @@ ghost use Rattle.ranges.specs.Sums.{shows, is_met};
 ghost use Rattle.ranges_owed.specs.Inequalities.{difference_of};
 ghost use Rattle.ranges.specs.Places.{with_shows, stated};
 ghost use Rattle.ranges.specs.Rules.{AreUnmet, AreUnshown, AreEdgesBroken};
-ghost use Rattle.ranges.specs.Edges.{edge_owed, keeps_of, all_with_known};
+ghost use Rattle.ranges.specs.Edges.{edge_owed, keeps_of};
+ghost use Rattle.ranges.specs.Tables.{all_with_known};
 ghost use Rattle.refusal.specs.declared.broken.Broken.{Broken};
 
 use crate::know::{is_met_at, push_fact, shows_at};

@@ -5,8 +5,9 @@ ghost use Rattle.refusal.specs.Earliest.{IsEarliest};
 ghost use Rattle.ranges.specs.Learned.{learned};
 ghost use Rattle.ranges.specs.Sums.{facts_of};
 ghost use Rattle.ranges.specs.Places.{stated, start_facts, with_shows, after_step, facts_before, facts_at_step, facts_at_end, edges_known};
-ghost use Rattle.ranges.specs.Places.{ending_shows, IsBlockTable};
-ghost use Rattle.ranges.specs.Edges.{all_with_known};
+ghost use Rattle.ranges.specs.Places.{ending_shows};
+ghost use Rattle.ranges.specs.Tables.{IsBlockTable};
+ghost use Rattle.ranges.specs.Tables.{all_with_known};
 ghost use Rattle.ranges.specs.Walks.{IsWalked, edges_behind, IsEndUnmetAt};
 ghost use Rattle.ranges.specs.Rules.{IsStepBroken, AreStepsBroken, IsEndBroken, IsBlockBroken};
 

@@ -2,7 +2,7 @@
 use Rattle.std.proofs.Common.{◌≡◌, ℕ, ◌<◌, List, length, get_or, None, false, sym, ltb, ltb-false}
 use Rattle.std.specs.Prelude.{slice_get}
 use Rattle.std.proofs.lemmas.Option.{slice_get_past}
-use Rattle.program.specs.Cells.{object_cells}
+use Rattle.program.specs.Objects.{object_cells}
 use Rattle.program.specs.declared.function.Alloca.{Alloca as AllocaOf}
 use Rattle.program.specs.declared.function.Function.{Function}
 use Rattle.program.specs.declared.function.Global.{Global as GlobalOf}

@@ -53,7 +53,6 @@ argument_moves n (a ∷ arguments) = record { register = record { 0 = n }; value
 abbrev pub result_of : Function → RegisterId
 result_of function = record { 0 = length function.registers }
 
--- an operand for the result
 abbrev pub result_moves : Function → Option Operand → List Move
 result_moves function None = []
 result_moves function (Some x) = record { register = result_of function; value = x } ∷ []

@@ -1,13 +1,12 @@
 -- What the facts at an instruction must show, so that it does not trap and its callee's conditions hold.
 use Rattle.std.specs.Prelude.{ℕ, ℤ, pos, negsuc, ◌-ℤ◌, ◌*ℤ◌, List, [], ◌∷◌, map, Option, Some, None, slice_get}
 use Rattle.program.specs.syntax.declared.operator.BinaryOperator.{BinaryOperator}
-use Rattle.program.specs.syntax.declared.operator.BinaryOperator.TheVariants.{Add, Subtract, Multiply, AddNoWrap}
+use Rattle.program.specs.syntax.declared.operator.BinaryOperator.TheVariants.{AddNoWrap}
 use Rattle.program.specs.syntax.declared.operator.BinaryOperator.TheVariants.{SubtractNoWrap, MultiplyNoWrap}
 use Rattle.program.specs.syntax.declared.operator.BinaryOperator.TheVariants.{SignedDivide, UnsignedDivide}
 use Rattle.program.specs.syntax.declared.operator.BinaryOperator.TheVariants.{SignedRemainder, UnsignedRemainder}
 use Rattle.program.specs.syntax.declared.operator.BinaryOperator.TheVariants.{ShiftLeft}
 use Rattle.program.specs.syntax.declared.operator.BinaryOperator.TheVariants.{LogicalShiftRight, ArithmeticShiftRight}
-use Rattle.program.specs.syntax.declared.operator.BinaryOperator.TheVariants.{And, Or, ExclusiveOr}
 use Rattle.program.specs.syntax.declared.operator.Width.{Width}
 use Rattle.program.specs.syntax.declared.operator.Width.TheVariants.{Bits64, Bits32}
 use Rattle.program.specs.declared.annotation.Inequality.{Inequality}
@@ -19,7 +18,7 @@ use Rattle.program.specs.declared.instruction.Terminator.{Terminator}
 use Rattle.program.specs.declared.instruction.Terminator.TheVariants as terminator
 use Rattle.program.specs.declared.function.Function.{Function}
 use Rattle.program.specs.declared.function.Program.{Program}
-use Rattle.program.specs.Cells.{object_cells}
+use Rattle.program.specs.Objects.{object_cells}
 use Rattle.cfg.specs.declared.structure.Move.{Move}
 use Rattle.ranges_owed.specs.declared.sum.Part.{Part}
 use Rattle.ranges_owed.specs.declared.sum.Sum.{Sum}
@@ -73,9 +72,6 @@ abbrev pub is_amount : Width → Operand → List Obligation
 is_amount w y = must 504 (one (pos 0) (pos 1) y) ∷ (must 504 (one (last_bit w) (negsuc 0) y) ∷ [])
 
 abbrev pub binary_owed : BinaryOperator → Width → Operand → Operand → List Obligation
-binary_owed Add w x y = []
-binary_owed Subtract w x y = []
-binary_owed Multiply w x y = []
 binary_owed AddNoWrap w x y = must 503 (two (half w) (pos 1) x (pos 1) y) ∷
     (must 503 (two (greatest w) (negsuc 0) x (negsuc 0) y) ∷ [])
 binary_owed SubtractNoWrap w x y = must 503 (two (half w) (pos 1) x (negsuc 0) y) ∷
@@ -88,9 +84,7 @@ binary_owed UnsignedRemainder w x y = is_not_zero y ∷ []
 binary_owed ShiftLeft w x y = is_amount w y
 binary_owed LogicalShiftRight w x y = is_amount w y
 binary_owed ArithmeticShiftRight w x y = is_amount w y
-binary_owed And w x y = []
-binary_owed Or w x y = []
-binary_owed ExclusiveOr w x y = []
+binary_owed other w x y = []
 
 -- ---- objects
 
@@ -113,24 +107,12 @@ call_owed (Some callee) arguments = inequalities_owed 506 (argument_moves 0 argu
 -- what the facts at an instruction must show
 abbrev pub owed : Program → Function → Instruction → List Obligation
 owed program function (instruction.Binary d operator width x y) = binary_owed operator width x y
-owed program function (instruction.Compare d predicate width x y) = []
-owed program function (instruction.Convert d conversion x) = []
-owed program function (instruction.Alloca d alloca) = []
 owed program function (instruction.ElementPointer d object index) =
     index_owed (object_cells program function object) index
-owed program function (instruction.Load d address) = []
-owed program function (instruction.Store x address) = []
-owed program function (instruction.StoreZeros cells object) = []
-owed program function (instruction.AtomicAdd address x) = []
 owed program function (instruction.Call d callee arguments) = call_owed (slice_get program.functions callee.0) arguments
-owed program function (instruction.StartRegion d) = []
+owed program function other = []
 
 -- 507: at a `ret` the function's `ensures`, with the returned operand put in
 abbrev pub owed_at_end : Function → Terminator → List Obligation
-owed_at_end function (terminator.Jump target) = []
-owed_at_end function (terminator.Branch condition when_true when_false) = []
-owed_at_end function (terminator.Switch width value default cases) = []
 owed_at_end function (terminator.Return value) = inequalities_owed 507 (result_moves function value) function.guarantees
-owed_at_end function (terminator.Detach region body continuation) = []
-owed_at_end function (terminator.Reattach region continuation) = []
-owed_at_end function (terminator.Sync region target) = []
+owed_at_end function other = []

@@ -9,11 +9,8 @@ abbrev pub one : ℤ → ℤ → Operand → Sum
 one constant a x = record { constant = constant; parts = record { factor = a; operand = x } ∷ [] }
 
 abbrev pub two : ℤ → ℤ → Operand → ℤ → Operand → Sum
-two constant a x b y = record {
-  constant = constant;
-  parts = record { factor = a; operand = x } ∷
-      (record { factor = b; operand = y } ∷ []);
-}
+two constant a x b y = record
+    { constant = constant; parts = record { factor = a; operand = x } ∷ (record { factor = b; operand = y } ∷ []) }
 
 abbrev pub three : ℤ → ℤ → Operand → ℤ → Operand → ℤ → Operand → Sum
 three constant a x b y c z =

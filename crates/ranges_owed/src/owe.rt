@@ -5,7 +5,7 @@ ghost use Rattle.ranges_owed.specs.Scales.{is_scale, scale_of};
 ghost use Rattle.ranges_owed.specs.Sums.{one};
 ghost use Rattle.ranges_owed.specs.Owed.{must, half, greatest, last_bit, is_not_zero, is_not_least_by_minus_one, product_owed, is_amount, binary_owed};
 ghost use Rattle.ranges_owed.specs.Owed.{index_owed, inequalities_owed, call_owed, owed, owed_at_end};
-ghost use Rattle.program.specs.Cells.{object_cells};
+ghost use Rattle.program.specs.Objects.{object_cells};
 
 use crate::inequality::{argument_moves, difference_of, result_moves};
 use crate::scale::scale_of;

@@ -2,7 +2,8 @@
 use Rattle.std.proofs.Common.{◌≡◌, ◌⊎◌, ℕ, ◌+◌, ◌<◌, ◌≤◌, List, length, get_or, take, Option, Some, None, subst, arith, take_all}
 use Rattle.std.specs.List.{Any}
 use Rattle.refusal.specs.declared.broken.Broken.{Broken}
-use Rattle.refusal.specs.Earliest.{IsLowerOf, IsEarliest}
+use Rattle.refusal.specs.Earliest.{IsEarliest}
+use Rattle.refusal.specs.Named.{IsLowerOf}
 use Rattle.refusal.proofs.Judging.{judged_lower, judged_same, judged_next}
 
 pub earliest_nothing : (P : Broken → Type 0) → ((b : Broken) → P b → ⊥) → IsEarliest P None

@@ -8,7 +8,9 @@ use Rattle.std.proofs.lemmas.List.{take_more, length_push, get_or_append_left, g
 use Rattle.std.proofs.lemmas.List.Elements.{All-push}
 use Rattle.std.proofs.lemmas.List.Quantifiers.{Any-push}
 use Rattle.refusal.specs.declared.broken.Broken.{Broken}
-use Rattle.refusal.specs.Earliest.{is_before, earlier_of, IsAtOrBefore, IsLowerOf, IsJudged}
+use Rattle.refusal.specs.Earliest.{IsAtOrBefore, IsJudged}
+use Rattle.refusal.specs.Before.{is_before, earlier_of}
+use Rattle.refusal.specs.Named.{IsLowerOf}
 
 before_trans : (a b c : Broken) → IsAtOrBefore a b → IsAtOrBefore b c → IsAtOrBefore a c
 before_trans a b c h k = (

@@ -4,7 +4,8 @@ use Rattle.std.specs.Prelude.{slice_get}
 use Rattle.std.proofs.lemmas.Bool.{cases_eq}
 use Rattle.std.proofs.lemmas.Option.{slice_get-get_or, slice_get_within}
 use Rattle.refusal.specs.declared.broken.Broken.{Broken}
-use Rattle.refusal.specs.Earliest.{IsLowerOf, IsEarliest}
+use Rattle.refusal.specs.Earliest.{IsEarliest}
+use Rattle.refusal.specs.Named.{IsLowerOf}
 use Rattle.refusal.proofs.Elements.{earliest_same, earliest_both}
 
 -- what is broken at the first elements

@@ -1,2 +1,4 @@
 pub mod Earliest
 pub mod Refusals
+pub mod Named
+pub mod Before

@@ -1,5 +1,4 @@
--- What a contract says of a refusal. Only contracts speak of memory: what a text means, and which rule it breaks, has
--- none.
+-- What a contract says of a refusal. Only contracts speak of memory: no meaning of a text and no broken rule does.
 use Rattle.refusal.specs.declared.broken.Broken.{Broken}
 use Rattle.refusal.specs.declared.refused.Refused.{Refused}
 use Rattle.refusal.specs.declared.refused.Refused.TheVariants.{Fault, Memory}

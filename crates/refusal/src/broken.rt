@@ -1,5 +1,6 @@
 ghost use Rattle.std.specs.Prelude.{◌≡◌};
-ghost use Rattle.refusal.specs.Earliest as spec;
+ghost use Rattle.refusal.specs.Before as spec;
+ghost use Rattle.refusal.specs.Named.{IsLowerOf};
 
 /// A broken rule and the line that breaks it.
 #[derive(Clone, Copy)]
@@ -27,7 +28,7 @@ impl Broken {
 
 /// What is named of the two.
 pub fn lower(left: Option<Broken>, right: Option<Broken>) -> Option<Broken>
-    ensures { spec.IsLowerOf left right result }
+    ensures { IsLowerOf left right result }
 {
     match (left, right) {
         (Some(first), Some(second)) => Some(first.earlier(second)),

@@ -7,7 +7,8 @@ use Rattle.program.specs.declared.function.Program.{Program}
 use Rattle.cfg.specs.declared.structure.FunctionGraph.{FunctionGraph}
 use Rattle.refusal.specs.declared.broken.Broken.{Broken}
 use Rattle.cfg.specs.Edges.{graph_of}
-use Rattle.refusal.specs.Earliest.{IsLowerOf, IsJudged}
+use Rattle.refusal.specs.Earliest.{IsJudged}
+use Rattle.refusal.specs.Named.{IsLowerOf}
 use Rattle.refusal.proofs.Judging.{judged_lower, judged_same, Any-append_left, Any-push_cases}
 use Rattle.std.proofs.lemmas.List.Quantifiers.{Any-push}
 use Rattle.region_match.specs.declared.tables.FunctionTasks.{FunctionTasks}

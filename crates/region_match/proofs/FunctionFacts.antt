@@ -5,7 +5,8 @@ use Rattle.program.specs.declared.function.Function.{Function}
 use Rattle.cfg.specs.declared.structure.BlockEdges.{BlockEdges}
 use Rattle.refusal.specs.declared.broken.Broken.{Broken}
 use Rattle.cfg.specs.Edges.{graph_of}
-use Rattle.refusal.specs.Earliest.{IsLowerOf, IsEarliest}
+use Rattle.refusal.specs.Earliest.{IsEarliest}
+use Rattle.refusal.specs.Named.{IsLowerOf}
 use Rattle.cfg.proofs.EdgeLists.{length-edges_from}
 use Rattle.region_match.specs.Rules.{IsOpenEnd}
 use Rattle.region_match.specs.Matched.{IsBlockBroken, IsFunctionBroken}

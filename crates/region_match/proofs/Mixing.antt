@@ -7,7 +7,8 @@ use Rattle.program.specs.declared.function.Block.{Block}
 use Rattle.program.specs.declared.function.Function.{Function}
 use Rattle.cfg.specs.declared.structure.BlockEdges.{BlockEdges}
 use Rattle.refusal.specs.declared.broken.Broken.{Broken}
-use Rattle.refusal.specs.Earliest.{IsLowerOf, IsJudged}
+use Rattle.refusal.specs.Earliest.{IsJudged}
+use Rattle.refusal.specs.Named.{IsLowerOf}
 use Rattle.refusal.proofs.Places.{same_at}
 use Rattle.refusal.proofs.Judging.{judged_lower, judged_same}
 use Rattle.region_match.specs.declared.task.Task.{Task}

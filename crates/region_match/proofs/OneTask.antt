@@ -8,7 +8,8 @@ use Rattle.cfg.specs.declared.structure.Way.{Way}
 use Rattle.cfg.specs.declared.structure.Way.TheVariants.{Branch, Detached, Continued, Synced}
 use Rattle.cfg.specs.declared.structure.Edge.{Edge}
 use Rattle.cfg.specs.declared.structure.BlockEdges.{BlockEdges}
-use Rattle.cfg.specs.Paths.{edges_of, Leg, IsPath, Avoids, IsReached}
+use Rattle.cfg.specs.Paths.{edges_of, Leg, IsPath}
+use Rattle.cfg.specs.Reached.{Avoids, IsReached}
 use Rattle.region_match.specs.declared.task.Task.{Task}
 use Rattle.region_match.specs.declared.task.Task.TheVariants.{Unreached, Body, Child}
 use Rattle.region_match.specs.Tasks.{task_along, task_on, innermost, task_at, HasTwoTasks, IsInnermostAt}

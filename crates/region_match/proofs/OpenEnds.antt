@@ -10,7 +10,8 @@ use Rattle.program.specs.declared.instruction.Terminator.TheVariants.{Detach}
 use Rattle.program.specs.declared.function.Block.{Block}
 use Rattle.cfg.specs.declared.structure.BlockEdges.{BlockEdges}
 use Rattle.refusal.specs.declared.broken.Broken.{Broken}
-use Rattle.refusal.specs.Earliest.{IsLowerOf, IsEarliest}
+use Rattle.refusal.specs.Earliest.{IsEarliest}
+use Rattle.refusal.specs.Named.{IsLowerOf}
 use Rattle.cfg.specs.Paths.{Leg, IsPath}
 use Rattle.region_match.specs.declared.task.Task.{Task}
 use Rattle.region_match.specs.Tasks.{task_at, HasTask, AreTasks, innermost}

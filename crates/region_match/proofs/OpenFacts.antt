@@ -6,7 +6,8 @@ use Rattle.program.specs.linear.declared.form.RegisterId.{RegisterId}
 use Rattle.program.specs.declared.identifier.BlockId.{BlockId}
 use Rattle.program.specs.declared.function.Block.{Block}
 use Rattle.cfg.specs.declared.structure.BlockEdges.{BlockEdges}
-use Rattle.cfg.specs.Paths.{Leg, IsPath, Avoids, IsReached}
+use Rattle.cfg.specs.Paths.{Leg, IsPath}
+use Rattle.cfg.specs.Reached.{Avoids, IsReached}
 use Rattle.region_match.specs.Rules.{ending_at, IsSync, IsUnsynced}
 use Rattle.region_match.proofs.OneTask.{start_within, edges_within}
 

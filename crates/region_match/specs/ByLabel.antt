@@ -5,7 +5,7 @@ use Rattle.program.specs.declared.identifier.BlockId.{BlockId}
 use Rattle.program.specs.declared.annotation.Pending.{Pending}
 use Rattle.program.specs.declared.instruction.Ending.{Ending}
 use Rattle.program.specs.declared.instruction.Terminator.{Terminator}
-use Rattle.program.specs.declared.instruction.Terminator.TheVariants.{Jump, Branch, Switch, Return, Detach, Reattach}
+use Rattle.program.specs.declared.instruction.Terminator.TheVariants.{Return, Detach, Reattach}
 use Rattle.program.specs.declared.instruction.Terminator.TheVariants.{Sync}
 use Rattle.program.specs.declared.function.Block.{Block}
 use Rattle.refusal.specs.declared.broken.Broken.{Broken}
@@ -41,15 +41,13 @@ IsInsideBy Body = ⊥
 IsInsideBy (Child detach) = Unit {0}
 
 abbrev pub IsEndingWrongBy : List Block → List Task → Task → Terminator → ℕ → Type 0
-IsEndingWrongBy bodies tasks task (Jump target) number = ⊥
-IsEndingWrongBy bodies tasks task (Branch condition when_true when_false) number = ⊥
-IsEndingWrongBy bodies tasks task (Switch width value default cases) number = ⊥
 IsEndingWrongBy bodies tasks task (Return value) number = (number ≡ 305) × IsInsideBy task
 IsEndingWrongBy bodies tasks task (Detach region body continuation) number = (number ≡ 303) ×
     IsForeignBy bodies tasks task region
 IsEndingWrongBy bodies tasks task (Reattach region continuation) number =
     ((number ≡ 301) × IsStrayBy bodies task region) ⊎ ((number ≡ 302) × IsElsewhereBy bodies task continuation)
 IsEndingWrongBy bodies tasks task (Sync region target) number = (number ≡ 303) × IsForeignBy bodies tasks task region
+IsEndingWrongBy bodies tasks task other number = ⊥
 
 abbrev pub IsEndingBrokenBy : List Block → List Task → Task → Option Ending → Broken → Type 0
 IsEndingBrokenBy bodies tasks task None broken = ⊥

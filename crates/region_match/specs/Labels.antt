@@ -2,7 +2,7 @@
 use Rattle.std.specs.Prelude.{◌≡◌, ◌≢◌, ◌⊎◌, ℕ, ◌+◌, ◌<◌, Bool, true, false, not, List, length, All, Any, Contains}
 use Rattle.std.specs.Prelude.{count_by}
 use Rattle.cfg.specs.declared.structure.Way.{Way}
-use Rattle.cfg.specs.declared.structure.Way.TheVariants.{Branch, Detached, Continued, Synced}
+use Rattle.cfg.specs.declared.structure.Way.TheVariants.{Detached}
 use Rattle.cfg.specs.declared.structure.Edge.{Edge}
 use Rattle.cfg.specs.declared.structure.BlockEdges.{BlockEdges}
 use Rattle.cfg.specs.Paths.{Leg, IsPath, edges_of}
@@ -12,10 +12,8 @@ use Rattle.region_match.specs.Tasks.{task_at, task_on, innermost}
 
 -- the label behind an edge that leaves a block of this label
 abbrev pub next_task : Way → ℕ → Task → Task
-next_task Branch from task = task
 next_task Detached from task = Child (record { 0 = from })
-next_task Continued from task = task
-next_task (Synced region) from task = task
+next_task other from task = task
 
 abbrev pub is_seen : Task → Bool
 is_seen Unreached = false

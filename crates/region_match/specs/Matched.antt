@@ -10,14 +10,12 @@ use Rattle.region_match.specs.Mixed.{IsMixed}
 use Rattle.region_match.specs.Rules.{IsEndingBroken, IsPendingBroken, IsOpenEnd, IsPlaceBroken}
 
 abbrev pub IsBlockBroken : List Block → List BlockEdges → ℕ → Block → Broken → Type 0
-IsBlockBroken bodies blocks b block broken =
-    IsEndingBroken bodies blocks b block.ending broken ⊎ (IsPendingBroken bodies blocks b block.pending broken ⊎
-    IsPlaceBroken blocks b block broken)
+IsBlockBroken bodies blocks b block broken = IsEndingBroken bodies blocks b block.ending broken ⊎
+    (IsPendingBroken bodies blocks b block.pending broken ⊎ IsPlaceBroken blocks b block broken)
 
 abbrev pub IsFunctionBroken : Function → Broken → Type 0
-IsFunctionBroken function broken =
-    IsOpenEnd function.blocks (graph_of function).blocks broken
-    ⊎ ((b : ℕ) × (block : Block) × (slice_get function.blocks b ≡ Some block) ×
+IsFunctionBroken function broken = IsOpenEnd function.blocks (graph_of function).blocks broken ⊎
+    ((b : ℕ) × (block : Block) × (slice_get function.blocks b ≡ Some block) ×
     IsBlockBroken function.blocks (graph_of function).blocks b block broken)
 
 -- 301 to 305 and 307

@@ -10,9 +10,8 @@ use Rattle.region_match.specs.Tasks.{HasTwoTasks}
 
 -- at the label of a block
 abbrev pub IsMixedBlock : List Block → List BlockEdges → Broken → Type 0
-IsMixedBlock bodies blocks broken =
-    (b : ℕ) × (block : Block) × (slice_get bodies b ≡ Some block) × (broken.number ≡ 306) × (broken.line ≡ block.line) ×
-    HasTwoTasks blocks b
+IsMixedBlock bodies blocks broken = (b : ℕ) × (block : Block) × (slice_get bodies b ≡ Some block) ×
+    (broken.number ≡ 306) × (broken.line ≡ block.line) × HasTwoTasks blocks b
 
 abbrev pub IsMixedIn : Function → Broken → Type 0
 IsMixedIn function broken = IsMixedBlock function.blocks (graph_of function).blocks broken

@@ -9,7 +9,7 @@ use Rattle.program.specs.declared.instruction.Step.{Step}
 use Rattle.program.specs.declared.instruction.Phi.{Phi}
 use Rattle.program.specs.declared.instruction.Ending.{Ending}
 use Rattle.program.specs.declared.instruction.Terminator.{Terminator}
-use Rattle.program.specs.declared.instruction.Terminator.TheVariants.{Jump, Branch, Switch, Return, Detach, Reattach}
+use Rattle.program.specs.declared.instruction.Terminator.TheVariants.{Return, Detach, Reattach}
 use Rattle.program.specs.declared.instruction.Terminator.TheVariants.{Sync}
 use Rattle.program.specs.declared.function.Block.{Block}
 use Rattle.cfg.specs.declared.structure.Way.{Way}
@@ -28,7 +28,6 @@ abbrev pub ending_of : Option Block → Option Terminator
 ending_of None = None
 ending_of (Some block) = terminator_of block.ending
 
--- the terminator of the block of this number
 abbrev pub ending_at : List Block → ℕ → Option Terminator
 ending_at bodies b = ending_of (slice_get bodies b)
 
@@ -36,7 +35,6 @@ ending_at bodies b = ending_of (slice_get bodies b)
 abbrev pub IsDetach : Option Terminator → RegisterId → BlockId → Type 0
 IsDetach terminator region continuation = (body : BlockId) × (terminator ≡ Some (Detach region body continuation))
 
--- a step of the list starts this region
 abbrev pub Starts : RegisterId → List Step → Type 0
 Starts region steps = Any (λ step. step.instruction ≡ StartRegion region) steps
 
@@ -47,15 +45,12 @@ IsStarted bodies blocks region detaches = (b : ℕ) × (block : Block) × (slice
 
 -- 301: a reattach in no task, or within another region than its detach's
 abbrev pub IsStray : List Block → List BlockEdges → ℕ → RegisterId → Type 0
-IsStray bodies blocks b region =
-    HasTask blocks b []
-    ⊎ ((detach : ℕ) × (outer : List ℕ) × HasTask blocks b (detach ∷ outer)
-    × ((continuation : BlockId) → IsDetach (ending_at bodies detach) region continuation → ⊥))
+IsStray bodies blocks b region = HasTask blocks b [] ⊎ ((detach : ℕ) × (outer : List ℕ) × HasTask blocks b
+    (detach ∷ outer) × ((continuation : BlockId) → IsDetach (ending_at bodies detach) region continuation → ⊥))
 
 -- 302: a reattach to another continuation than its detach's
 abbrev pub IsElsewhere : List Block → List BlockEdges → ℕ → BlockId → Type 0
-IsElsewhere bodies blocks b continuation =
-    (detach : ℕ) × (outer : List ℕ) × HasTask blocks b (detach ∷ outer) ×
+IsElsewhere bodies blocks b continuation = (detach : ℕ) × (outer : List ℕ) × HasTask blocks b (detach ∷ outer) ×
     ((region : RegisterId) → IsDetach (ending_at bodies detach) region continuation → ⊥)
 
 -- 303: the task of a use did not start the region
@@ -69,15 +64,13 @@ IsInside blocks b = (detach : ℕ) × (outer : List ℕ) × HasTask blocks b (de
 
 -- which rule the terminator of a block breaks by itself
 abbrev pub IsEndingWrong : List Block → List BlockEdges → ℕ → Terminator → ℕ → Type 0
-IsEndingWrong bodies blocks b (Jump target) number = ⊥
-IsEndingWrong bodies blocks b (Branch condition when_true when_false) number = ⊥
-IsEndingWrong bodies blocks b (Switch width value default cases) number = ⊥
 IsEndingWrong bodies blocks b (Return value) number = (number ≡ 305) × IsInside blocks b
 IsEndingWrong bodies blocks b (Detach region body continuation) number = (number ≡ 303) ×
     IsForeign bodies blocks b region
 IsEndingWrong bodies blocks b (Reattach region continuation) number =
     ((number ≡ 301) × IsStray bodies blocks b region) ⊎ ((number ≡ 302) × IsElsewhere bodies blocks b continuation)
 IsEndingWrong bodies blocks b (Sync region target) number = (number ≡ 303) × IsForeign bodies blocks b region
+IsEndingWrong bodies blocks b other number = ⊥
 
 abbrev pub IsEndingBroken : List Block → List BlockEdges → ℕ → Option Ending → Broken → Type 0
 IsEndingBroken bodies blocks b None broken = ⊥
@@ -89,17 +82,11 @@ abbrev pub IsPendingBroken : List Block → List BlockEdges → ℕ → List Pen
 IsPendingBroken bodies blocks b pending broken = Any (λ p. (broken.number ≡ 303) × (broken.line ≡ p.zone.line) ×
     IsForeign bodies blocks b p.region) pending
 
--- a `ret` or a reattach
 abbrev pub is_leave : Terminator → Bool
-is_leave (Jump target) = false
-is_leave (Branch condition when_true when_false) = false
-is_leave (Switch width value default cases) = false
 is_leave (Return value) = true
-is_leave (Detach region body continuation) = false
 is_leave (Reattach region continuation) = true
-is_leave (Sync region target) = false
+is_leave other = false
 
--- a sync within this region
 abbrev pub IsSync : Option Terminator → RegisterId → Type 0
 IsSync terminator region = (target : BlockId) × (terminator ≡ Some (Sync region target))
 
@@ -121,10 +108,9 @@ pub record IsOpen (bodies : List Block) (blocks : List BlockEdges) (detach to : 
   pub unsynced : IsUnsynced bodies region legs
 
 abbrev pub IsOpenEnd : List Block → List BlockEdges → Broken → Type 0
-IsOpenEnd bodies blocks broken =
-    (to : ℕ) × (block : Block) × (ending : Ending) × (slice_get bodies to ≡ Some block) × (block.ending ≡ Some ending)
-    × (is_leave ending.terminator ≡ true) × (broken.number ≡ 304) × (broken.line ≡ ending.line)
-    × (detach : ℕ) × IsOpen bodies blocks detach to
+IsOpenEnd bodies blocks broken = (to : ℕ) × (block : Block) × (ending : Ending) × (slice_get bodies to ≡ Some block) ×
+    (block.ending ≡ Some ending) × (is_leave ending.terminator ≡ true) × (broken.number ≡ 304) ×
+    (broken.line ≡ ending.line) × (detach : ℕ) × IsOpen bodies blocks detach to
 
 -- an edge leads to the block this way
 abbrev pub IsEntered : List BlockEdges → ℕ → Way → Type 0
@@ -132,15 +118,12 @@ IsEntered blocks b way = (a : ℕ) × Any (λ e. (e.to.0 ≡ b) × (e.way ≡ wa
 
 -- 307, at an instruction: a region starts in an entry block or a detached block
 abbrev pub IsStartBroken : List BlockEdges → ℕ → List Step → Broken → Type 0
-IsStartBroken blocks b steps broken =
-    (b ≢ 0) × (IsEntered blocks b Detached → ⊥)
-    × Any (λ step. (broken.number ≡ 307) × (broken.line ≡ step.line) × (region : RegisterId) ×
-    (step.instruction ≡ StartRegion region)) steps
+IsStartBroken blocks b steps broken = (b ≢ 0) × (IsEntered blocks b Detached → ⊥) × Any (λ step. (broken.number ≡ 307) ×
+    (broken.line ≡ step.line) × (region : RegisterId) × (step.instruction ≡ StartRegion region)) steps
 
 -- 307, at a phi: detached and continuation blocks have none
 abbrev pub IsPhiBroken : List BlockEdges → ℕ → List Phi → Broken → Type 0
-IsPhiBroken blocks b phis broken =
-    (IsEntered blocks b Detached ⊎ IsEntered blocks b Continued) ×
+IsPhiBroken blocks b phis broken = (IsEntered blocks b Detached ⊎ IsEntered blocks b Continued) ×
     Any (λ phi. (broken.number ≡ 307) × (broken.line ≡ phi.line)) phis
 
 -- 307, at a `foot` line: it stands on detached blocks
@@ -158,6 +141,5 @@ IsLabelBroken blocks b block broken = (broken.number ≡ 307) × (broken.line �
 
 -- 307, in all its forms
 abbrev pub IsPlaceBroken : List BlockEdges → ℕ → Block → Broken → Type 0
-IsPlaceBroken blocks b block broken =
-    (IsStartBroken blocks b block.steps broken ⊎ IsPhiBroken blocks b block.phis broken)
-    ⊎ (IsFootBroken blocks b block.foot broken ⊎ IsLabelBroken blocks b block broken)
+IsPlaceBroken blocks b block broken = (IsStartBroken blocks b block.steps broken ⊎ IsPhiBroken blocks b block.phis
+    broken) ⊎ (IsFootBroken blocks b block.foot broken ⊎ IsLabelBroken blocks b block broken)

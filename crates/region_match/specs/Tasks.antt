@@ -1,7 +1,7 @@
 -- Tasks: the detaches on a path that lead into detached blocks.
 use Rattle.std.specs.Prelude.{◌≡◌, ◌≢◌, ℕ, ◌<◌, List, [], ◌∷◌, length, Option, Some, None, slice_index_or}
 use Rattle.cfg.specs.declared.structure.Way.{Way}
-use Rattle.cfg.specs.declared.structure.Way.TheVariants.{Branch, Detached, Continued, Synced}
+use Rattle.cfg.specs.declared.structure.Way.TheVariants.{Detached}
 use Rattle.cfg.specs.declared.structure.BlockEdges.{BlockEdges}
 use Rattle.cfg.specs.declared.structure.FunctionGraph.{FunctionGraph}
 use Rattle.cfg.specs.Paths.{Leg, IsPath}
@@ -11,12 +11,9 @@ use Rattle.region_match.specs.declared.task.Task.TheVariants.{Unreached, Body, C
 
 -- the task behind an edge that leaves a block: its detaches, the innermost first
 abbrev pub task_along : Way → ℕ → List ℕ → List ℕ
-task_along Branch from detaches = detaches
 task_along Detached from detaches = from ∷ detaches
-task_along Continued from detaches = detaches
-task_along (Synced region) from detaches = detaches
+task_along other from detaches = detaches
 
--- the task of a path
 abbrev pub task_on : List Leg → List ℕ
 task_on [] = []
 task_on (leg ∷ legs) = task_along leg.edge.way leg.from (task_on legs)
@@ -52,9 +49,7 @@ pub record AreTasks (blocks : List BlockEdges) (tasks : List Task) : Type 0 wher
   pub innermost : (b : ℕ) → b < length blocks → IsInnermostAt blocks tasks b
   pub reached : (b : ℕ) → task_at tasks b ≢ Unreached → (detaches : List ℕ) × HasTask blocks b detaches
 
--- the tables of all functions
 abbrev pub AreAllTasks : List FunctionGraph → List FunctionTasks → Type 0
 AreAllTasks [] [] = Unit {0}
-AreAllTasks [] (t ∷ ts) = ⊥
-AreAllTasks (g ∷ gs) [] = ⊥
 AreAllTasks (g ∷ gs) (t ∷ ts) = AreTasks g.blocks t.tasks × AreAllTasks gs ts
+AreAllTasks one other = ⊥

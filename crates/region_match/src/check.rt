@@ -1,6 +1,7 @@
 ghost use Rattle.std.specs.Prelude.{◌≡◌, ◌<◌, ◌⊎◌, ℕ, length, IfOk, IfErr};
 ghost use Rattle.cfg.specs.Edges.{graph_of};
-ghost use Rattle.refusal.specs.Earliest.{IsJudged, NamesEarliest, IsEarliest};
+ghost use Rattle.refusal.specs.Earliest.{IsJudged, IsEarliest};
+ghost use Rattle.refusal.specs.Named.{NamesEarliest};
 ghost use Rattle.region_match.specs.Mixed.{IsMixed};
 ghost use Rattle.region_match.specs.Tasks.{AreTasks, AreAllTasks};
 ghost use Rattle.region_match.specs.Matched.{AreRegionsRight, IsBlockBroken, IsFunctionBroken, IsRegionBroken, IsTaskBroken};

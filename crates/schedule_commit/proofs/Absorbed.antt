@@ -7,7 +7,8 @@ use Rattle.semantics.specs.Cells.{Cell, Memory, Object, Shared, Local}
 use Rattle.semantics.specs.Counts.{count_of}
 use Rattle.semantics.specs.Frames as frames
 use Rattle.semantics.specs.Frames.{Free}
-use Rattle.semantics.specs.State.{State, children_within, outside, override, sum_in, wait_after}
+use Rattle.semantics.specs.State.{State, outside, override, sum_in, wait_after}
+use Rattle.semantics.specs.CoreSteps.{children_within}
 use Rattle.semantics.specs.Events.{Machine}
 use Rattle.semantics.proofs.ChildCounts.{count_at}
 use Rattle.semantics.proofs.Places.{only_here, only_off, same_path_tells}

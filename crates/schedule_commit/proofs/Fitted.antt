@@ -10,7 +10,8 @@ use Rattle.semantics.specs.Frames as frames
 use Rattle.semantics.specs.Frames.{item_at}
 use Rattle.semantics.specs.State.{may_go}
 use Rattle.semantics.specs.Events.{Machine}
-use Rattle.semantics.specs.Replay.{NeverTraps, replay}
+use Rattle.semantics.specs.Replay.{replay}
+use Rattle.semantics.specs.Sound.{NeverTraps}
 use Rattle.program.specs.declared.function.Program.{Program}
 use Rattle.program.specs.declared.identifier.FunctionId.{FunctionId}
 use Rattle.laws_strands.specs.Footprint.{Write}

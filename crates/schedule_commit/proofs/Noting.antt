@@ -4,7 +4,8 @@ use Rattle.std.proofs.lemmas.List.Elements.{All-pop}
 use Rattle.semantics.specs.Paths.{Path}
 use Rattle.semantics.specs.Events as running
 use Rattle.semantics.specs.Events.{Machine, Event, Step, event}
-use Rattle.semantics.specs.Replay.{NeverTraps, or_unchanged, replay}
+use Rattle.semantics.specs.Replay.{or_unchanged, replay}
+use Rattle.semantics.specs.Sound.{NeverTraps}
 use Rattle.semantics.proofs.Places.{same_path_apart}
 use Rattle.program.specs.declared.function.Program.{Program}
 use Rattle.laws_strands.specs.Law.{Fits, Happen, absorbed, steps_by}

@@ -7,7 +7,8 @@ use Rattle.semantics.specs.Effect.{action_of}
 use Rattle.semantics.specs.State.{State, Change, change_of}
 use Rattle.semantics.specs.Events as running
 use Rattle.semantics.specs.Events.{Machine, Event, Step, Steal, Status, Running, Ready, Stalled, event}
-use Rattle.semantics.specs.Replay.{NeverTraps, or_unchanged, replay}
+use Rattle.semantics.specs.Replay.{or_unchanged, replay}
+use Rattle.semantics.specs.Sound.{NeverTraps}
 use Rattle.semantics.proofs.Steps.{Does, plain, detach, reattach, sync, call, ret, end, does, some_same}
 use Rattle.program.specs.declared.function.Program.{Program}
 use Rattle.frame_engine.specs.Shows.{TrapFree}

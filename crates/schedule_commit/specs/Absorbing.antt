@@ -1,5 +1,5 @@
 -- What a run comes to that takes over a frame strand.
-use Rattle.std.specs.Prelude.{ℕ, suc, length, Option, Some, None}
+use Rattle.std.specs.Prelude.{ℕ, suc, length, Option, Some}
 use Rattle.semantics.specs.Paths.{Path}
 use Rattle.semantics.specs.Cells.{Object}
 use Rattle.semantics.specs.Frames as frames
@@ -12,7 +12,7 @@ use Rattle.frame_engine.specs.declared.activation.Places.{Places}
 use Rattle.frame_strand.specs.Alone.{StaysSafeAlone}
 use Rattle.frame_strand.specs.declared.outside.FrameStrand.{FrameStrand}
 use Rattle.frame_strand.specs.declared.standing.FrameStrandPause.{FrameStrandPause}
-use Rattle.frame_strand.specs.declared.standing.FrameStrandPause.TheVariants.{Blank, Border, Limit, Full, Need}
+use Rattle.frame_strand.specs.declared.standing.FrameStrandPause.TheVariants.{Border}
 use Rattle.schedule_workers.specs.declared.run.Run.{Run}
 use Rattle.schedule_workers.specs.Going.{RunsSafely}
 use Rattle.schedule_workers.specs.Layouts.{living}
@@ -35,12 +35,8 @@ pub record StandsAlone (prog : Program) (places : Places) (k : Run) : Type 0 whe
 
 -- its instructions, and the border's where it stands at one
 abbrev pub steps_in : Option FrameStrandPause → ℕ → ℕ
-steps_in None done = done
-steps_in (Some Blank) done = done
 steps_in (Some Border) done = suc done
-steps_in (Some Limit) done = done
-steps_in (Some Full) done = done
-steps_in (Some (Need at)) done = done
+steps_in other done = done
 
 -- whatever machine is shown, so many steps of the worker happen, and the machine after them is shown
 abbrev pub DoesSteps : Program → Places → Run → Run → ℕ → ℕ → Type 0

@@ -10,7 +10,8 @@ use Rattle.serial_machine.specs.laws_conditions.theorem.Schedules.{KeepsSchedule
 use Rattle.serial_machine.specs.verifier.Accepted.{IsAccepted}
 use Rattle.serial_machine.specs.store.Requirements.{unmet_in}
 use Rattle.serial_machine.specs.store.Cells.{NamedCells, cell_at}
-use Rattle.serial_machine.specs.store.Rows.{row_of, sizes_of}
+use Rattle.serial_machine.specs.store.Rows.{sizes_of}
+use Rattle.serial_machine.specs.store.Refilled.{row_of}
 use Rattle.schedule_workers.specs.Follows.{AreGiven}
 use Rattle.schedule_workers.specs.Stalls.{StallsAgree, no_blocks}
 use Rattle.frame_engine.specs.Fits.{HasMoves}

@@ -7,7 +7,8 @@ use Rattle.semantics.specs.State.{State, Change, apply, change_of}
 use Rattle.semantics.specs.Tree.{Tree}
 use Rattle.semantics.specs.SerialMeaning.{Outcome}
 use Rattle.semantics.specs.Events.{Machine, Event, Step, event, by_change, by_frame, by_hand, start}
-use Rattle.semantics.specs.Replay.{NeverTraps, has_ended, or_unchanged, replay}
+use Rattle.semantics.specs.Replay.{has_ended, or_unchanged, replay}
+use Rattle.semantics.specs.Sound.{NeverTraps}
 use Rattle.semantics.proofs.Deep.{Deep, deep_kept}
 use Rattle.semantics.proofs.Starting.{start_deep, start_tree}
 use Rattle.semantics.proofs.Steps.{Does}

@@ -9,7 +9,8 @@ use Rattle.program.specs.declared.function.Program.{Program}
 use Rattle.serial_machine.specs.verifier.Accepted.{IsAccepted}
 use Rattle.serial_machine.specs.store.Requirements.{unmet_in}
 use Rattle.serial_machine.specs.store.Cells.{NamedCells, cell_at}
-use Rattle.serial_machine.specs.store.Made.{HasGlobalCells, IsMadeFor}
+use Rattle.serial_machine.specs.store.Made.{IsMadeFor}
+use Rattle.serial_machine.specs.store.Named.{HasGlobalCells}
 use Rattle.serial_machine.specs.store.Rows.{sizes_of}
 use Rattle.serial_machine.specs.laws_schedule.Promise.{AreTaken, HasGlobals}
 use Rattle.serial_machine.proofs.Arguments.{are_taken}

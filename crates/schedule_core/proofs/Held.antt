@@ -16,9 +16,11 @@ use Rattle.semantics.specs.Events.{Machine}
 use Rattle.syntax.specs.declared.operator.Width.TheVariants.{Bits64}
 use Rattle.program.specs.Cells.{global_cells}
 use Rattle.program.specs.declared.function.Global.{Global}
-use Rattle.serial_machine.specs.store.Cells.{NamedCells, cell_at, cell_named, cell_of, number_of, size_of}
+use Rattle.serial_machine.specs.store.Cells.{NamedCells, cell_at}
+use Rattle.serial_machine.specs.store.Named.{cell_named, cell_of, number_of, size_of}
 use Rattle.serial_machine.specs.store.Made.{IsMadeFor}
-use Rattle.serial_machine.specs.store.Rows.{refilled, sizes_of}
+use Rattle.serial_machine.specs.store.Rows.{sizes_of}
+use Rattle.serial_machine.specs.store.Refilled.{refilled}
 use Rattle.serial_machine.proofs.Held.{sizes_kept}
 use Rattle.frame_engine.specs.Flat.{cell_in}
 use Rattle.frame_engine.specs.Starts.{global_starts, starts_from}

@@ -53,8 +53,7 @@ GrowsOnly prog m (Steal worker path) = ⊥
 -- each event is enabled where it stands
 abbrev pub AreEnabled : Program → ℕ → List running.Event → running.Machine → Type 0
 AreEnabled prog workers [] m = ⊤
-AreEnabled prog workers (e ∷ events) m =
-    IsSome (running.event prog workers e m) ×
+AreEnabled prog workers (e ∷ events) m = IsSome (running.event prog workers e m) ×
     AreEnabled prog workers events (or_unchanged (running.event prog workers e m) m)
 
 -- the definitions' state before the first event
@@ -78,9 +77,8 @@ pub record Replays (prog : Program) (arguments : List ℤ) (globals : List Named
 
 -- whatever events lead to the one stage, they lead to the other with this one more
 abbrev pub ReplaysOneMore : Stage → Stage → Event → Type 0
-ReplaysOneMore old new event =
-    (prog : Program) (arguments : List ℤ) (globals : List NamedCells) (workers : ℕ) (events : List Event) →
-    Replays prog arguments globals workers events old →
+ReplaysOneMore old new event = (prog : Program) (arguments : List ℤ) (globals : List NamedCells) (workers : ℕ)
+    (events : List Event) → Replays prog arguments globals workers events old →
     Replays prog arguments globals workers (events ++ event ∷ []) new
 
 -- and with these
@@ -151,10 +149,9 @@ pub record KeepsItsSchedule (prog : Program) (arguments : List ℤ) (globals : L
 -- whatever arguments that `main` takes, memory that was made for the module, and events led to the stage: the theorem
 -- of them
 abbrev pub KeepsSchedules : Stage → Type 0
-KeepsSchedules stage =
-    (prog : Program) (arguments : List ℤ) (globals : List NamedCells) (workers : ℕ) (events : List Event) →
-    unmet_in prog arguments ≡ None → IsMadeFor prog globals → Replays prog arguments globals workers events stage →
-    KeepsItsSchedule prog arguments globals workers events
+KeepsSchedules stage = (prog : Program) (arguments : List ℤ) (globals : List NamedCells) (workers : ℕ)
+    (events : List Event) → unmet_in prog arguments ≡ None → IsMadeFor prog globals →
+    Replays prog arguments globals workers events stage → KeepsItsSchedule prog arguments globals workers events
 
 -- ---- lines
 

@@ -6,7 +6,8 @@ use Rattle.semantics.specs.Events.{Machine, Event, start}
 use Rattle.semantics.specs.Replay.{replay}
 use Rattle.program.specs.declared.function.Global.{Global}
 use Rattle.program.specs.declared.function.Program.{Program}
-use Rattle.serial_machine.specs.store.Cells.{NamedCells, cell_at, number_of}
+use Rattle.serial_machine.specs.store.Cells.{NamedCells, cell_at}
+use Rattle.serial_machine.specs.store.Named.{number_of}
 use Rattle.serial_machine.specs.store.Rows.{sizes_of}
 use Rattle.schedule_core.specs.laws_workers.strands.StrandsPromise.{StaysSafeAsStrands}
 use Rattle.schedule_workers.specs.Going.{RunsSafely}
@@ -37,8 +38,7 @@ given globals x = given_in globals x.object x.index
 
 -- each declared cell of a global holds a number
 abbrev pub AreFull : Program → Memory → Type 0
-AreFull prog memory =
-    (g i : ℕ) (global : Global) → slice_get prog.globals g ≡ Some global → i < global.cells →
+AreFull prog memory = (g i : ℕ) (global : Global) → slice_get prog.globals g ≡ Some global → i < global.cells →
     IsSome (memory (record { object = Shared g; index = i }))
 
 -- what the machine's memory holds of a global, by its name

@@ -8,7 +8,8 @@ use Rattle.linear.specs.declared.form.RegisterId.{RegisterId}
 use Rattle.semantics.specs.Paths.{Path}
 use Rattle.semantics.specs.Frames.{Frame as Shown, Ends, item_at, region_of}
 use Rattle.semantics.specs.Effect.{Detach, action_of, item_action}
-use Rattle.semantics.specs.State.{State, Change, continued, detached, detach_change, may_go, override, children_within, outside}
+use Rattle.semantics.specs.State.{State, Change, continued, detached, detach_change, may_go, override, outside}
+use Rattle.semantics.specs.CoreSteps.{children_within}
 use Rattle.semantics.specs.Counts.{count_of, counts_after}
 use Rattle.semantics.specs.Events as running
 use Rattle.semantics.specs.Events.{Machine, Step, event}

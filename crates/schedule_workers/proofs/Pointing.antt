@@ -2,7 +2,8 @@
 use Rattle.std.proofs.Common.{◌≡◌, ◌≢◌, ℕ, Some, None, inl, inr, ◌⊎◌, refl, sym, ap, ◌∙◌, subst, ℤ, ◌+ℤ◌, pos}
 use Rattle.std.specs.Prelude.{⊤}
 use Rattle.semantics.specs.Arithmetic.{wrapped}
-use Rattle.semantics.specs.Paths.{Path, Under, itself, deeper}
+use Rattle.semantics.specs.Paths.{Path}
+use Rattle.semantics.specs.Below.{Under, itself, deeper}
 use Rattle.semantics.specs.Cells.{Cell, Object, Shared, Local}
 use Rattle.semantics.specs.Frames.{Frame, Value, Word, Truth, Pointer, Region, first_cell}
 use Rattle.semantics.specs.State.{State}

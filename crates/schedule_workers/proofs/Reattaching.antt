@@ -11,7 +11,9 @@ use Rattle.semantics.specs.Arithmetic.{Unmatched}
 use Rattle.semantics.specs.Paths.{Path}
 use Rattle.semantics.specs.Frames.{Frame as Shown, Role, cells_of, Body, Child, Ends, item_at}
 use Rattle.semantics.specs.Effect.{Reattach, action_of, item_action, reattaches}
-use Rattle.semantics.specs.State.{State, Change, act, apply, override, may_go, childless, children_within, none_within, outside, outside_role, change_of_frame, reattach_change}
+use Rattle.semantics.specs.State.{State, Change, act, apply, override, may_go, childless, none_within, outside}
+use Rattle.semantics.specs.State.{outside_role, change_of_frame, reattach_change}
+use Rattle.semantics.specs.CoreSteps.{children_within}
 use Rattle.semantics.specs.Counts.{changed_at, count_of, counts_after, left_by, lowered}
 use Rattle.semantics.specs.Events as running
 use Rattle.semantics.specs.Events.{Machine, Step, event}

@@ -12,7 +12,8 @@ use Rattle.semantics.specs.Cells.{Object, Shared, Local, Memory}
 use Rattle.semantics.specs.Paths.{Path, same_path}
 use Rattle.semantics.specs.Frames.{Frame as Shown, Registers, Ends, item_at, region_of}
 use Rattle.semantics.specs.Effect.{Action, Sync, action_of, if_own, item_action, registers_along, syncs, traps}
-use Rattle.semantics.specs.State.{Change, only, override, synced, sync_change, none_within, may_go, children_within, apply}
+use Rattle.semantics.specs.State.{Change, only, override, synced, sync_change, none_within, may_go, apply}
+use Rattle.semantics.specs.CoreSteps.{children_within}
 use Rattle.semantics.specs.Events as running
 use Rattle.semantics.specs.Events.{Machine, Step, event}
 use Rattle.semantics.proofs.Steps.{change_is, sync}

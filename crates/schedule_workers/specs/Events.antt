@@ -2,7 +2,7 @@
 use Rattle.std.specs.Prelude.{◌≡◌, ⊤, ℕ, Bool, length, Some}
 use Rattle.semantics.specs.Paths.{Path}
 use Rattle.semantics.specs.Frames.{Frame}
-use Rattle.semantics.specs.Effect.{Action, Plain, Detach, Reattach, Sync, Call, Return, action_of}
+use Rattle.semantics.specs.Effect.{Action, Detach, Call, action_of}
 use Rattle.semantics.specs.Events.{Machine, Event}
 use Rattle.program.specs.declared.function.Program.{Program}
 use Rattle.frame_engine.specs.declared.activation.Places.{Places}
@@ -25,12 +25,9 @@ LeavesStalls prog places old new e done =
 
 -- a detach or a call
 abbrev pub MakesFrame : Action → Type 0
-MakesFrame (Plain e) = ⊥
 MakesFrame (Detach r b c) = ⊤
-MakesFrame (Reattach r) = ⊥
-MakesFrame (Sync r b regs) = ⊥
 MakesFrame (Call d g vs) = ⊤
-MakesFrame (Return v) = ⊥
+MakesFrame other = ⊥
 
 -- the worker runs a task, and what the task's top does next makes a frame
 pub record GrowsAtStep (prog : Program) (m : Machine) (worker : ℕ) : Type 0 where

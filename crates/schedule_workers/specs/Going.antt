@@ -1,7 +1,8 @@
 -- What a run rests on, and what a step comes to.
 use Rattle.std.specs.Prelude.{◌≡◌, ⊤, ℕ, Bool, true, false, Option, None, ◌+◌, ◌<◌, ◌≤◌, List, length, map, Some}
 use Rattle.std.specs.Prelude.{IsSome, slice_get, ℤ}
-use Rattle.semantics.specs.Paths.{Path, Under}
+use Rattle.semantics.specs.Paths.{Path}
+use Rattle.semantics.specs.Below.{Under}
 use Rattle.semantics.specs.Cells.{Cell, Object, Shared, Local}
 use Rattle.semantics.specs.Frames.{Frame, Pointer, Does, Ends, item_at}
 use Rattle.semantics.specs.State.{change_of}

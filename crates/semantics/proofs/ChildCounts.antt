@@ -4,7 +4,9 @@ use Rattle.std.proofs.lemmas.Bool.Decides.{eqb_tells}
 use Rattle.semantics.specs.Paths.{Path}
 use Rattle.semantics.specs.Frames.{Child, Body, Frame}
 use Rattle.semantics.specs.Effect.{Action, action_of}
-use Rattle.semantics.specs.State.{State, Change, apply, only, both, none_within, outside, childless, children_within, went, detached, continued, synced, called, waiting, resumed, detach_change, reattach_change}
+use Rattle.semantics.specs.State.{State, Change, apply, only, both, none_within, outside, childless, went, detached}
+use Rattle.semantics.specs.State.{continued, synced, called, waiting, resumed, detach_change, reattach_change}
+use Rattle.semantics.specs.CoreSteps.{children_within}
 use Rattle.semantics.specs.Tree.{Tree}
 use Rattle.semantics.specs.Counts.{lowered, changed_at, left_by, counts_after, count_of}
 use Rattle.semantics.proofs.Places.{same_path_tells, same_path_apart, no_own_child, only_off, both_off}

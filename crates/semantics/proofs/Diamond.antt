@@ -7,7 +7,9 @@ use Rattle.semantics.specs.Cells.{Cell}
 use Rattle.semantics.specs.Arithmetic.{Trap, cell_sum}
 use Rattle.semantics.specs.Frames.{Wait, Free, OnRegion, OnCall, Halted, Body, Frame}
 use Rattle.semantics.specs.Effect.{Action, Plain, no_cells, no_adds, action_of}
-use Rattle.semantics.specs.State.{State, Change, override, override_result, added, apply, wait_after, called, resumed, may_go, childless, outside, outside_role, change_of, core_step}
+use Rattle.semantics.specs.State.{State, Change, override, override_result, added, apply, wait_after, called, resumed}
+use Rattle.semantics.specs.State.{may_go, childless, outside, outside_role, change_of}
+use Rattle.semantics.specs.CoreSteps.{core_step}
 use Rattle.semantics.specs.Tree.{Tree, MissesAt, is_left, is_unseen, is_added, Misses, Apart}
 use Rattle.semantics.proofs.Actions.{reads_of, adds_of, action_kept}
 use Rattle.semantics.proofs.Steps.{Does, plain, detach, reattach, sync, call, ret, end, change_is, does}

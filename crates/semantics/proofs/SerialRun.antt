@@ -5,7 +5,10 @@ use Rattle.semantics.specs.Cells.{Memory}
 use Rattle.semantics.specs.Arithmetic.{Trap}
 use Rattle.semantics.specs.Frames.{Value, Registers, Wait, Free, OnRegion, OnCall, Halted, Child, Body, Frame}
 use Rattle.semantics.specs.Effect.{Effect, Action, Plain, Detach, Reattach, Sync, Call, Return, action_of}
-use Rattle.semantics.specs.State.{State, Change, apply, core_step, all_below, may_go, childless, went, detached, continued, synced, called, waiting, resumed, plain_change, detach_change, reattach_change, sync_change, call_change, return_change, only, both}
+use Rattle.semantics.specs.State.{State, Change, apply, all_below, may_go, childless, went, detached, continued, synced}
+use Rattle.semantics.specs.State.{called, waiting, resumed, plain_change, detach_change, reattach_change, sync_change}
+use Rattle.semantics.specs.State.{call_change, return_change, only, both}
+use Rattle.semantics.specs.CoreSteps.{core_step}
 use Rattle.semantics.specs.Tree.{Tree}
 use Rattle.semantics.specs.SerialMeaning.{Ending, Left, Gave, Outcome, cleared, counted, last, after_effect, after_left, after_child, after_gave, after_call, by_action, meaning}
 use Rattle.semantics.proofs.Confluence.{Run}

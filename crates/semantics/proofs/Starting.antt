@@ -4,7 +4,8 @@ use Rattle.std.proofs.lemmas.Bool.Decides.{eqb_tells}
 use Rattle.semantics.specs.Paths.{Path}
 use Rattle.semantics.specs.Cells.{Memory}
 use Rattle.semantics.specs.Frames.{Free, OnCall, Child, Body, Frame}
-use Rattle.semantics.specs.State.{State, apply, core_step, end_change, override_result, root_frame, start_state}
+use Rattle.semantics.specs.State.{State, apply, end_change, override_result, root_frame, start_state}
+use Rattle.semantics.specs.CoreSteps.{core_step}
 use Rattle.semantics.specs.Tree.{Tree}
 use Rattle.semantics.specs.SerialMeaning.{Ending, Left, Gave, Outcome, IsSerialMeaning}
 use Rattle.semantics.specs.Events.{start}

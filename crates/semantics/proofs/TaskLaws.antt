@@ -1,11 +1,13 @@
 -- Counts and tasks along a schedule, whatever the program.
 use Rattle.std.proofs.Common.{◌≡◌, ℕ, zero, suc, ◌+◌, ◌-◌, ◌≤◌, [], ◌∷◌, List, length, Option, Some, None, Bool, true, false, cond, refl, sym, ap, ◌∙◌, subst, arith, ℤ}
-use Rattle.semantics.specs.Paths.{Path, Under, itself, deeper}
+use Rattle.semantics.specs.Paths.{Path}
+use Rattle.semantics.specs.Below.{Under, itself, deeper}
 use Rattle.semantics.specs.Cells.{Memory}
 use Rattle.semantics.specs.Arithmetic.{Trap, Unmatched}
 use Rattle.semantics.specs.Frames.{Wait, Free, OnRegion, OnCall, Halted, Role, Child, Body, Frame}
 use Rattle.semantics.specs.Effect.{action_of}
-use Rattle.semantics.specs.State.{State, Change, apply, change_of, trap_change, halted, children_within}
+use Rattle.semantics.specs.State.{State, Change, apply, change_of, trap_change, halted}
+use Rattle.semantics.specs.CoreSteps.{children_within}
 use Rattle.semantics.specs.Tree.{Tree}
 use Rattle.semantics.specs.Events.{Machine, Event, Step, Steal, event, start, sound_event, unless_trapped, by_hand, by_frame, by_change, holder, on_wait, on_frame, top_within, waiting_status, unheld_status, is_child, is_task, top_of, Status, Running, Ready, Stalled, status_at, top_status, status_of}
 use Rattle.semantics.specs.Replay.{or_unchanged, replay}

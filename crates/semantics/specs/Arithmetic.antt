@@ -31,10 +31,8 @@ pub data Trap : Type 0 where
   -- a register or cell without value, a sum, difference or product past the width under nsw, a shift amount past the
   -- width
   Undefined : Trap
-  -- an index outside its object
-  BadIndex : Trap
-  -- division by 0, or of the least value by -1
-  BadDivisor : Trap
+  BadIndex : Trap  -- an index outside its object
+  BadDivisor : Trap  -- division by 0, or of the least value by -1
   -- a reattach that is not of its task's detach, a ret inside a task, an end with a child left, a region of another
   -- task
   Unmatched : Trap

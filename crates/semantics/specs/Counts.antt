@@ -5,8 +5,9 @@ use Rattle.std.specs.Prelude.{◌≡◌, ℕ, zero, suc, ◌≤◌, List, [], �
 use Rattle.semantics.specs.Paths.{Path, same_path}
 use Rattle.semantics.specs.Cells.{Memory}
 use Rattle.semantics.specs.Frames.{Frame}
-use Rattle.semantics.specs.Effect.{Action, Plain, Detach, Reattach, Sync, Call, Return, action_of}
-use Rattle.semantics.specs.State.{State, Change, none_within, change_of, children_within}
+use Rattle.semantics.specs.Effect.{Action, Detach, Reattach, action_of}
+use Rattle.semantics.specs.State.{State, Change, none_within, change_of}
+use Rattle.semantics.specs.CoreSteps.{children_within}
 use Rattle.semantics.specs.Events.{Machine, Event, Step, Steal, event, start}
 use Rattle.semantics.specs.Replay.{or_unchanged, replay}
 use Rattle.program.specs.declared.function.Program.{Program}
@@ -35,12 +36,9 @@ left_by [] region counts = counts
 left_by (k ∷ above) region counts = changed_at above region lowered counts
 
 abbrev pub counts_after : Path → Action → Counts → Counts
-counts_after p (Plain e) counts = counts
 counts_after p (Detach region body continuation) counts = changed_at p region raised counts
 counts_after p (Reattach region) counts = left_by p region counts
-counts_after p (Sync region block registers) counts = counts
-counts_after p (Call d callee values) counts = counts
-counts_after p (Return result) counts = counts
+counts_after p other counts = counts
 
 -- an end with a child left traps, and changes no count
 abbrev pub if_changed : Option Change → Counts → Counts → Counts

@@ -29,8 +29,7 @@ pub record Effect : Type 0 where
   pub block : ℕ
   pub index : ℕ
   pub reads : Cell → Bool
-  -- Some None: undefined from here on
-  pub writes : Cell → Option (Option ℤ)
+  pub writes : Cell → Option (Option ℤ)  -- Some None: undefined from here on
   pub adds : Cell → Option ℤ
   pub trap : Option Trap
 
@@ -55,28 +54,23 @@ no_writes c = None
 abbrev pub no_adds : Cell → Option ℤ
 no_adds c = None
 
-abbrev pub stops : Trap → Frame → Effect
-stops t f = record {
-  registers = f.registers;
-  block = f.block;
-  index = f.index;
+-- at this place with these registers, and no cell is touched
+abbrev pub stands : Registers → ℕ → ℕ → Option Trap → Effect
+stands registers block index trap = record {
+  registers = registers;
+  block = block;
+  index = index;
   reads = no_cells;
   writes = no_writes;
   adds = no_adds;
-  trap = Some t;
+  trap = trap;
 }
 
+abbrev pub stops : Trap → Frame → Effect
+stops t f = stands f.registers f.block f.index (Some t)
+
 abbrev pub goes_on : Frame → Effect
-goes_on f = record {
-  registers = f.registers;
-  block = f.block;
-  index = suc f.index;
-  reads = no_cells;
-  writes =
-      no_writes;
-  adds = no_adds;
-  trap = None;
-}
+goes_on f = stands f.registers f.block (suc f.index) None
 
 abbrev pub sets : Frame → RegisterId → Value → Effect
 sets f d v = record (goes_on f) { registers = set_register f.registers d v }
@@ -92,9 +86,8 @@ given f (Some a) next = next a
 
 -- LLVM Language Reference, "getelementptr", of cells in an object
 abbrev pub points : Frame → RegisterId → ℕ → Object → ℤ → Effect
-points f d cells o i =
-    cond (int_le (pos 0) i && int_lt i (pos cells)) (sets f d (Pointer (record { object = o; index = unsigned_abs i })))
-    (stops BadIndex f)
+points f d cells o i = cond (int_le (pos 0) i && int_lt i (pos cells))
+    (sets f d (Pointer (record { object = o; index = unsigned_abs i }))) (stops BadIndex f)
 
 -- LLVM Language Reference, "load"
 abbrev pub loads : Frame → RegisterId → Cell → Option ℤ → Effect
@@ -106,11 +99,8 @@ abbrev pub stores : Frame → Cell → ℤ → Effect
 stores f c z = record (goes_on f) { writes = λ x. cond (same_cell c x) (Some (Some z)) None }
 
 abbrev pub stores_zeros : Frame → ℕ → Object → Effect
-stores_zeros f cells o =
-    record (goes_on f) {
-      writes =
-          λ x. cond (same_object o x.object && nat_lt x.index cells) (Some (Some (pos 0))) None;
-    }
+stores_zeros f cells o = record (goes_on
+    f) { writes = λ x. cond (same_object o x.object && nat_lt x.index cells) (Some (Some (pos 0))) None }
 
 -- LLVM Language Reference, "atomicrmw"
 abbrev pub adds_to : Frame → Cell → ℤ → Option ℤ → Effect
@@ -196,15 +186,13 @@ returns_value f (Some z) = returns f f.role (Some z)
 abbrev pub instruction_action : Program → Path → Frame → Memory → Instruction → Action
 instruction_action prog p f m (instruction.Binary d op w a b) =
     Plain (given f (word_at f.registers a) (λ x. given f (word_at f.registers b) (λ y. answers f d (binary op w x y))))
-instruction_action prog p f m (instruction.Compare d by w a b) =
-    Plain (given f (word_at f.registers a) (λ x. given f (word_at f.registers b)
-    (λ y. sets f d (Truth (compares by w x y)))))
+instruction_action prog p f m (instruction.Compare d by w a b) = Plain (given f (word_at f.registers a)
+    (λ x. given f (word_at f.registers b) (λ y. sets f d (Truth (compares by w x y)))))
 instruction_action prog p f m (instruction.Convert d by a) =
     Plain (given f (word_at f.registers a) (λ x. sets f d (Word (converts by x))))
 instruction_action prog p f m (instruction.Alloca d a) = Plain (sets f d (Pointer (first_cell (Local f.home a.0))))
-instruction_action prog p f m (instruction.ElementPointer d name i) =
-    Plain (given f (object_at f name) (λ o. given f (word_at f.registers i)
-    (points f d (cells_of prog f.function name) o)))
+instruction_action prog p f m (instruction.ElementPointer d name i) = Plain (given f (object_at f name)
+    (λ o. given f (word_at f.registers i) (points f d (cells_of prog f.function name) o)))
 instruction_action prog p f m (instruction.Load d address) =
     Plain (given f (cell_at f address) (λ c. loads f d c (m c)))
 instruction_action prog p f m (instruction.Store a address) =

@@ -6,17 +6,15 @@ use Rattle.std.specs.Prelude.{is_none, ℤ}
 use Rattle.semantics.specs.Paths.{Path, same_path}
 use Rattle.semantics.specs.Cells.{Memory}
 use Rattle.semantics.specs.Arithmetic.{Trap, Unmatched}
-use Rattle.semantics.specs.Frames.{Wait, Free, OnRegion, OnCall, Halted, Role, Child, Body, Frame}
+use Rattle.semantics.specs.Frames.{Wait, Free, OnRegion, OnCall, Role, Child, Body, Frame}
 use Rattle.semantics.specs.Effect.{Action, Plain, Detach, Reattach, Sync, Call, Return, action_of}
 use Rattle.semantics.specs.State.{State, Change, apply, none_within, change_of, trap_change, start_state}
 use Rattle.program.specs.declared.function.Program.{Program}
 
 pub record Machine : Type 0 where
   pub core : State
-  -- the top frame of the task that a worker runs; an idle worker has none
-  pub hands : ℕ → Option Path
-  -- once a step has trapped nothing is enabled any more
-  pub trapped : Option Trap
+  pub hands : ℕ → Option Path  -- the top frame of the task that a worker runs; an idle worker has none
+  pub trapped : Option Trap  -- once a step has trapped nothing is enabled any more
 
 pub data Event : Type 0 where
   Step : (worker : ℕ) → Event
@@ -43,10 +41,8 @@ is_task [] (Some f) = true
 is_task (k ∷ above) (Some f) = is_child f.role
 
 abbrev pub on_wait : (ℕ → Path) → Path → Wait → Path
-on_wait next p Free = p
-on_wait next p (OnRegion r) = p
 on_wait next p (OnCall k d) = next k
-on_wait next p Halted = p
+on_wait next p other = p
 
 abbrev pub on_frame : (ℕ → Path) → Path → Option Frame → Path
 on_frame next p None = p
@@ -57,7 +53,6 @@ abbrev pub top_within : ℕ → State → Path → Path
 top_within zero s p = p
 top_within (suc n) s p = on_frame (λ k. top_within n s (k ∷ p)) p (s.frames p)
 
--- the top frame of a task
 abbrev pub top_of : State → Path → Path
 top_of s t = top_within s.peak s t
 
@@ -70,8 +65,7 @@ pub data Status : Type 0 where
 abbrev pub waiting_status : Wait → Option Status
 waiting_status Free = Some Ready
 waiting_status (OnRegion r) = Some (Stalled r)
-waiting_status (OnCall k d) = None
-waiting_status Halted = None
+waiting_status other = None
 
 abbrev pub unheld_status : Option Frame → Option Status
 unheld_status None = None
@@ -92,15 +86,13 @@ status_of workers m t = cond (is_task t (m.core.frames t)) (top_status workers m
 
 abbrev pub unless_held : Option ℕ → Bool → Path → Option Path
 unless_held None true p = Some p
-unless_held None false p = None
-unless_held (Some w) b p = None
+unless_held one other p = None
 
 -- its newest child was this one, or it is stalled on the region and none is left in it
 abbrev pub may_be_taken : State → ℕ → Path → ℕ → Frame → Wait → Bool
 may_be_taken new k above region g Free = eqb g.made (suc k)
 may_be_taken new k above region g (OnRegion r) = eqb r region && none_within new above g.made r
-may_be_taken new k above region g (OnCall j d) = false
-may_be_taken new k above region g Halted = false
+may_be_taken new k above region g other = false
 
 abbrev pub takes_parent : ℕ → Machine → State → ℕ → Path → ℕ → Option Frame → Option Path
 takes_parent workers m new k above region None = None
@@ -147,10 +139,8 @@ by_hand prog workers m w (Some p) = by_frame prog workers m w p (m.core.frames p
 -- ---- a steal
 
 abbrev pub if_ready : Machine → Option Status → Option Machine
-if_ready m None = None
 if_ready m (Some Ready) = Some m
-if_ready m (Some (Running w)) = None
-if_ready m (Some (Stalled r)) = None
+if_ready m other = None
 
 abbrev pub stolen : Machine → ℕ → Path → Machine
 stolen m w t = record m { hands = with_hand m.hands w (Some (top_of m.core t)) }
@@ -172,9 +162,5 @@ event prog workers e m = unless_trapped m.trapped (sound_event prog workers e m)
 
 -- worker 0 runs the root, the others are idle
 abbrev pub start : Program → List ℤ → Memory → Machine
-start prog arguments memory = record {
-  core = start_state prog arguments memory;
-  hands =
-      λ w. cond (eqb 0 w) (Some []) None;
-  trapped = None;
-}
+start prog arguments memory =
+    record { core = start_state prog arguments memory; hands = λ w. cond (eqb 0 w) (Some []) None; trapped = None }

@@ -34,18 +34,14 @@ Registers = ℕ → Option Value
 -- what a frame waits for before its next instruction
 pub data Wait : Type 0 where
   Free : Wait
-  -- the children that it detached within the region
-  OnRegion : (region : ℕ) → Wait
+  OnRegion : (region : ℕ) → Wait  -- the children that it detached within the region
   -- the call that is its child of this number, whose result goes into the register
   OnCall : (child : ℕ) (register : Option RegisterId) → Wait
-  -- it trapped
-  Halted : Wait
+  Halted : Wait  -- it trapped
 
 pub data Role : Type 0 where
-  -- of a detach within the region, whose parent goes on at the continuation
-  Child : (region continuation : ℕ) → Role
-  -- of a function
-  Body : Role
+  Child : (region continuation : ℕ) → Role  -- of a detach within the region, whose parent goes on at the continuation
+  Body : Role  -- of a function
 
 pub record Frame : Type 0 where
   -- the place: function, block, and index among the block's steps, where its terminator comes last
@@ -53,12 +49,10 @@ pub record Frame : Type 0 where
   pub block : ℕ
   pub index : ℕ
   pub registers : Registers
-  -- children made so far, by calls and detaches
-  pub made : ℕ
+  pub made : ℕ  -- children made so far, by calls and detaches
   pub waits : Wait
   pub role : Role
-  -- the path of the function's own frame, which owns the allocas
-  pub home : Path
+  pub home : Path  -- the path of the function's own frame, which owns the allocas
 
 -- ---- what stands at a place
 
@@ -72,11 +66,10 @@ pub data Item : Type 0 where
   Ends : (terminator : Terminator) → Item
 
 abbrev pub item_of : List Step → Option Ending → ℕ → Option Item
-item_of [] None index = None
 item_of [] (Some ending) zero = Some (Ends ending.terminator)
-item_of [] (Some ending) (suc index) = None
 item_of (step ∷ steps) ending zero = Some (Does step.instruction)
 item_of (step ∷ steps) ending (suc index) = item_of steps ending index
+item_of [] one other = None
 
 abbrev pub block_at : Program → ℕ → ℕ → Option Block
 block_at prog function block = and_then (slice_get prog.functions function) (λ (f : Function). slice_get f.blocks block)
@@ -92,10 +85,9 @@ phis_at prog function block = block_phis (block_at prog function block)
 
 abbrev pub cells_in : Program → Option Function → ObjectName → ℕ
 cells_in prog f (Global g) = global_cells (slice_get prog.globals g.0)
-cells_in prog None (Alloca a) = 0
 cells_in prog (Some f) (Alloca a) = alloca_cells (slice_get f.allocas a.0)
-cells_in prog None (Parameter r) = 0
 cells_in prog (Some f) (Parameter r) = parameter_cells (slice_get f.parameters r.0)
+cells_in prog None other = 0
 
 -- the cells of an object as the function's text declares it
 abbrev pub cells_of : Program → ℕ → ObjectName → ℕ
@@ -104,32 +96,20 @@ cells_of prog function name = cells_in prog (slice_get prog.functions function) 
 -- ---- what registers say
 
 abbrev pub word_of : Option Value → Option ℤ
-word_of None = None
 word_of (Some (Word z)) = Some z
-word_of (Some (Truth b)) = None
-word_of (Some (Pointer c)) = None
-word_of (Some (Region p)) = None
+word_of other = None
 
 abbrev pub truth_of : Option Value → Option Bool
-truth_of None = None
-truth_of (Some (Word z)) = None
 truth_of (Some (Truth b)) = Some b
-truth_of (Some (Pointer c)) = None
-truth_of (Some (Region p)) = None
+truth_of other = None
 
 abbrev pub cell_of : Option Value → Option Cell
-cell_of None = None
-cell_of (Some (Word z)) = None
-cell_of (Some (Truth b)) = None
 cell_of (Some (Pointer c)) = Some c
-cell_of (Some (Region p)) = None
+cell_of other = None
 
 abbrev pub region_of : Option Value → Option Path
-region_of None = None
-region_of (Some (Word z)) = None
-region_of (Some (Truth b)) = None
-region_of (Some (Pointer c)) = None
 region_of (Some (Region p)) = Some p
+region_of other = None
 
 abbrev pub set_register : Registers → RegisterId → Value → Registers
 set_register r d v = λ x. cond (eqb d.0 x) (Some v) (r x)

@@ -10,6 +10,10 @@ pub mod Events
 pub mod Replay
 pub mod Counts
 pub mod Tasks
+pub mod Below
+pub mod Written
+pub mod CoreSteps
+pub mod Sound
 -- for the crates above
 pub use Rattle.program.specs as program
 pub use Rattle.program.specs.linear as linear

@@ -8,11 +8,5 @@ Path = List ℕ
 
 abbrev pub same_path : Path → Path → Bool
 same_path [] [] = true
-same_path [] (y ∷ ys) = false
-same_path (x ∷ xs) [] = false
 same_path (x ∷ xs) (y ∷ ys) = eqb x y && same_path xs ys
-
--- y is x or stands below it
-pub data Under (x : Path) : Path → Type 0 where
-  itself : Under x x
-  deeper : (k : ℕ) {y : Path} → Under x y → Under x (k ∷ y)
+same_path one other = false

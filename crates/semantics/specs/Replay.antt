@@ -16,10 +16,6 @@ abbrev pub replay : Program → ℕ → List Event → Machine → Machine
 replay prog workers [] m = m
 replay prog workers (e ∷ events) m = replay prog workers events (or_unchanged (event prog workers e m) m)
 
--- no events trap from here on
-abbrev pub NeverTraps : Program → ℕ → Machine → Type 0
-NeverTraps prog workers m = (events : List Event) → (replay prog workers events m).trapped ≡ None
-
 -- the run has ended: the root has returned
 abbrev pub has_ended : Machine → Bool
 has_ended m = is_none (m.core.frames [])

@@ -19,10 +19,8 @@ pub data Ending : Type 0 where
 pub record Outcome : Type 0 where
   pub ending : Ending
   pub memory : Memory
-  -- instructions done, each 1 but phis
-  pub count : ℕ
-  -- frames from this one on, itself counted
-  pub depth : ℕ
+  pub count : ℕ  -- instructions done, each 1 but phis
+  pub depth : ℕ  -- frames from this one on, itself counted
 
 abbrev pub Rest : Type 0
 Rest = Path → Frame → Memory → Option Outcome
@@ -38,13 +36,8 @@ one_more o = record o { count = suc o.count }
 
 -- a child or callee and then the rest
 abbrev pub both_outcomes : Outcome → Outcome → Outcome
-both_outcomes o u = record {
-  ending = u.ending;
-  memory = u.memory;
-  count = suc (o.count + u.count);
-  depth =
-      max (suc o.depth) u.depth;
-}
+both_outcomes o u =
+    record { ending = u.ending; memory = u.memory; count = suc (o.count + u.count); depth = max (suc o.depth) u.depth }
 
 abbrev pub at_last : Ending → Memory → Outcome
 at_last ending m = record { ending = ending; memory = m; count = 1; depth = 1 }

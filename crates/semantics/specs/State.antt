@@ -13,15 +13,11 @@ use Rattle.program.specs.linear.declared.form.RegisterId.{RegisterId}
 use Rattle.program.specs.declared.function.Program.{Program}
 
 pub record State : Type 0 where
-  -- the living frames
-  pub frames : Path → Option Frame
+  pub frames : Path → Option Frame  -- the living frames
   pub memory : Memory
-  -- instructions done
-  pub done : ℕ
-  -- the most frames from the root to one that ever lived
-  pub peak : ℕ
-  -- what the root returned
-  pub result : Option ℤ
+  pub done : ℕ  -- instructions done
+  pub peak : ℕ  -- the most frames from the root to one that ever lived
+  pub result : Option ℤ  -- what the root returned
 
 -- What one step changes: frames (Some None: removed), cells written, cells added to, the depth of a new frame, and the
 -- root's result. reads says what it looked at.
@@ -72,20 +68,22 @@ wait_after (Some t) = Halted
 abbrev pub went : Frame → Effect → Frame
 went f e = record f { block = e.block; index = e.index; registers = e.registers; waits = wait_after e.trap }
 
+-- at the start of a block, with no child made
+abbrev pub begun : ℕ → ℕ → Registers → Role → Path → Frame
+begun function block registers role home = record {
+  function = function;
+  block = block;
+  index = 0;
+  registers = registers;
+  made = 0;
+  waits = Free;
+  role = role;
+  home = home;
+}
+
 -- the child begins with its parent's registers
 abbrev pub detached : Frame → ℕ → ℕ → ℕ → Frame
-detached f region body continuation =
-    record {
-      function = f.function;
-      block = body;
-      index = 0;
-      registers = f.registers;
-      made = 0;
-      waits = Free;
-      role =
-          Child region continuation;
-      home = f.home;
-    }
+detached f region body continuation = begun f.function body f.registers (Child region continuation) f.home
 
 abbrev pub continued : Frame → ℕ → Frame
 continued f continuation = record f { block = continuation; index = 0; made = suc f.made; waits = Free }
@@ -95,25 +93,14 @@ synced f region block r = record f { block = block; index = 0; registers = r; wa
 
 -- the parameters are the registers from 0 on
 abbrev pub called : Path → Frame → ℕ → List Value → Frame
-called p f callee values =
-    record {
-      function = callee;
-      block = 0;
-      index = 0;
-      registers = slice_get values;
-      made = 0;
-      waits = Free;
-      role = Body;
-      home = f.made ∷ p;
-    }
+called p f callee values = begun callee 0 (slice_get values) Body (f.made ∷ p)
 
 abbrev pub waiting : Frame → Option RegisterId → Frame
 waiting f d = record f { index = suc f.index; made = suc f.made; waits = OnCall f.made d }
 
 abbrev pub with_result : Registers → Option RegisterId → Option ℤ → Registers
-with_result r None result = r
-with_result r (Some d) None = r
 with_result r (Some d) (Some z) = set_register r d (Word z)
+with_result r one other = r
 
 abbrev pub resumed : Frame → Option RegisterId → Option ℤ → Frame
 resumed g d result = record g { registers = with_result g.registers d result; waits = Free }
@@ -130,33 +117,16 @@ abbrev pub both : Path → Option Frame → Path → Option Frame → Path → O
 both p f q g x = cond (same_path p x) (Some f) (cond (same_path q x) (Some g) None)
 
 abbrev pub frame_change : (Path → Option (Option Frame)) → ℕ → Change
-frame_change frames depth = record {
-  frames = frames;
-  reads = no_cells;
-  writes = no_writes;
-  adds = no_adds;
-  depth =
-      depth;
-  result = None;
-  trap = None;
-}
+frame_change frames depth = record
+    { frames = frames; reads = no_cells; writes = no_writes; adds = no_adds; depth = depth; result = None; trap = None }
 
 abbrev pub plain_change : Path → Frame → Effect → Change
-plain_change p f e =
-    record {
-      frames = only p (Some (went f e));
-      reads = e.reads;
-      writes = e.writes;
-      adds = e.adds;
-      depth = 0;
-      result = None;
-      trap = e.trap;
-    }
+plain_change p f e = let c : Change = frame_change (only p (Some (went f e))) 0 in
+    record c { reads = e.reads; writes = e.writes; adds = e.adds; trap = e.trap }
 
 abbrev pub detach_change : Path → Frame → ℕ → ℕ → ℕ → Change
-detach_change p f region body continuation =
-    frame_change (both p (Some (continued f continuation)) (f.made ∷ p) (Some (detached f region body continuation)))
-    (length p + 2)
+detach_change p f region body continuation = frame_change (both p (Some (continued f continuation))
+    (f.made ∷ p) (Some (detached f region body continuation))) (length p + 2)
 
 abbrev pub reattach_change : Path → Change
 reattach_change p = frame_change (only p None) 0
@@ -173,10 +143,8 @@ abbrev pub clears : Path → Cell → Option (Option ℤ)
 clears p x = cond (owns p x.object) (Some None) None
 
 abbrev pub return_change : Path → Path → Frame → Option RegisterId → Option ℤ → Change
-return_change p above g d result = record (frame_change (both p None above (Some (resumed g d result))) 0) {
-  writes =
-      clears p;
-}
+return_change p above g d result =
+    record (frame_change (both p None above (Some (resumed g d result))) 0) { writes = clears p }
 
 abbrev pub end_change : Path → Option ℤ → Change
 end_change p result = record (frame_change (only p None) 0) { writes = clears p; result = result }
@@ -205,17 +173,14 @@ none_within s p made region = all_below made (λ k. outside region (s.frames (k 
 abbrev pub may_go : State → Path → ℕ → Wait → Bool
 may_go s p made Free = true
 may_go s p made (OnRegion region) = none_within s p made region
-may_go s p made (OnCall k d) = false
-may_go s p made Halted = false
+may_go s p made other = false
 
 abbrev pub childless : State → Path → ℕ → Bool
 childless s p made = all_below made (λ k. is_none (s.frames (k ∷ p)))
 
 abbrev pub hand_over : Path → Path → Frame → Wait → Option ℤ → Option Change
 hand_over p above g (OnCall k d) result = Some (return_change p above g d result)
-hand_over p above g Free result = None
-hand_over p above g (OnRegion r) result = None
-hand_over p above g Halted result = None
+hand_over p above g other result = None
 
 abbrev pub to_caller : Path → Path → Option Frame → Option ℤ → Option Change
 to_caller p above None result = None
@@ -241,27 +206,10 @@ change_of_frame prog s p (Some f) = cond (may_go s p f.made f.waits) (act s p f 
 abbrev pub change_of : Program → State → Path → Option Change
 change_of prog s p = change_of_frame prog s p (s.frames p)
 
-abbrev pub applied : State → Option Change → Option State
-applied s None = None
-applied s (Some c) = Some (apply c s)
-
-abbrev pub core_step : Program → Path → State → Option State
-core_step prog p s = applied s (change_of prog s p)
-
 -- ---- the start
 
 abbrev pub root_frame : Program → List ℤ → Frame
-root_frame prog arguments =
-    record {
-      function = prog.main.0;
-      block = 0;
-      index = 0;
-      registers = slice_get (map (λ z. Word z) arguments);
-      made = 0;
-      waits = Free;
-      role = Body;
-      home = [];
-    }
+root_frame prog arguments = begun prog.main.0 0 (slice_get (map (λ z. Word z) arguments)) Body []
 
 -- the root frame alone, with the globals as they are given; no alloca is defined
 abbrev pub start_state : Program → List ℤ → Memory → State
@@ -273,11 +221,3 @@ start_state prog arguments memory =
       peak = 1;
       result = None;
     }
-
--- ---- what is seen of it
-
--- living children that the frame at p detached within the region
-abbrev pub children_within : State → Path → ℕ → ℕ → ℕ
-children_within s p zero region = 0
-children_within s p (suc k) region = cond (outside region (s.frames (k ∷ p))) (children_within s p k region)
-    (suc (children_within s p k region))

@@ -1,7 +1,8 @@
 -- Tasks part the living frames. A task is a detached child's frame, or the root, with the frames called on top of it,
 -- and is named by its lowest frame.
 use Rattle.std.specs.Prelude.{◌≡◌, ℕ, suc, ◌≤◌, List, ◌∷◌, Some, None, true, ℤ}
-use Rattle.semantics.specs.Paths.{Path, Under}
+use Rattle.semantics.specs.Paths.{Path}
+use Rattle.semantics.specs.Below.{Under}
 use Rattle.semantics.specs.Cells.{Memory}
 use Rattle.semantics.specs.Frames.{Body, Frame}
 use Rattle.semantics.specs.State.{State}

@@ -10,13 +10,14 @@ use Rattle.std.proofs.lemmas.List.Folds.{find_at}
 use Rattle.std.proofs.lemmas.Option.{slice_get_past}
 use lib.Signed.{le_z_yes}
 use Rattle.linear.specs.declared.form.Term.{Term}
-use Rattle.linear.specs.Forms.{Combination, value, value_of}
+use Rattle.linear.specs.Forms.{value, value_of}
+use Rattle.linear.specs.Terms.{Combination}
 use Rattle.semantics.specs.Frames.{and_then}
 use Rattle.program.specs.declared.annotation.Inequality.{Inequality}
 use Rattle.program.specs.declared.function.Function.{Function}
 use Rattle.program.specs.declared.function.Program.{Program}
 use Rattle.store.specs.Requirements.{size, wide, with_term, with_terms, value_at, at_most, is_met, unmet_of, unmet_in}
-use Rattle.semantics.specs.Cells.{or_zero}
+use Rattle.semantics.specs.Written.{or_zero}
 use Rattle.laws_schedule.specs.laws_phases.facts.Known.{IsMet}
 use Rattle.laws_schedule.specs.Promise.{argument_at, AreTaken}
 

@@ -5,7 +5,7 @@ use Rattle.program.specs.declared.function.Program.{Program}
 use Rattle.store.specs.verifier.Accepted.{IsProgramOf}
 use Rattle.store.specs.verifier.Budgets.{budget_of}
 use Rattle.store.specs.Cells.{NamedCells}
-use Rattle.store.specs.Made.{HasGlobalCells}
+use Rattle.store.specs.Named.{HasGlobalCells}
 use Rattle.store.specs.Rows.{sizes_of}
 use Rattle.laws_schedule.specs.Promise.{KeepsItsPromise}
 use Rattle.laws_schedule.proofs.Promise.{accepted_programs_keep_their_promise}

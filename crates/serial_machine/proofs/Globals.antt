@@ -5,7 +5,7 @@ use Rattle.semantics.specs.Frames.{global_cells}
 use Rattle.program.specs.declared.function.Global.{Global}
 use Rattle.program.specs.declared.function.Program.{Program}
 use Rattle.store.specs.Cells.{NamedCells, cell_at}
-use Rattle.store.specs.Made.{HasGlobalCells}
+use Rattle.store.specs.Named.{HasGlobalCells}
 use Rattle.laws_schedule.specs.Promise.{HasGlobals}
 use Rattle.store.specs.Serially.{memory_of_globals}
 

@@ -10,8 +10,9 @@ use Rattle.program.specs.declared.function.Program.{Program}
 use Rattle.store.specs.verifier.Accepted.{IsProgramOf}
 use Rattle.frame_engine.specs.Starts.{starts_from}
 use Rattle.store.specs.Cells.{NamedCells, cell_at}
-use Rattle.store.specs.Made.{HasGlobalCells}
-use Rattle.store.specs.Rows.{refilled, row_of, sizes_of}
+use Rattle.store.specs.Named.{HasGlobalCells}
+use Rattle.store.specs.Rows.{sizes_of}
+use Rattle.store.specs.Refilled.{refilled, row_of}
 use Rattle.store.specs.Serially.{global_cell, memory_of_globals, names_of}
 use Rattle.serial_stack.specs.Layouts.{size_in, start_in}
 use Rattle.serial_stack.specs.Starts.{StandsInRow}

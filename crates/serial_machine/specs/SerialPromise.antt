@@ -8,7 +8,7 @@ use Rattle.store.specs.Rows.{sizes_of}
 use Rattle.store.specs.Serially.{IsMeant, memory_of_globals}
 use Rattle.store.specs.declared.outcome.Finished.{Finished}
 use Rattle.store.specs.declared.outcome.RunFault.{RunFault}
-use Rattle.store.specs.declared.outcome.RunFault.TheVariants.{BadArguments, BadWorkers, OutOfMemory, Stopped}
+use Rattle.store.specs.declared.outcome.RunFault.TheVariants.{OutOfMemory}
 use Rattle.serial_machine.specs.declared.run.Unfinished.{Unfinished}
 use Rattle.serial_machine.specs.declared.run.Unfinished.TheVariants.{Fault, OutOfFuel}
 
@@ -24,10 +24,8 @@ pub record EndsWithinBudget (program : Program) (arguments : List ℤ) (memory :
 -- 803 is the only fault: it is neither 801, 802 nor 804
 abbrev pub EndsOrLacksMemory : Program → List ℤ → List NamedCells → Result Finished RunFault → Type 0
 EndsOrLacksMemory program arguments memory (Ok done) = EndsWithinBudget program arguments memory done
-EndsOrLacksMemory program arguments memory (Err (BadArguments r m)) = ⊥
-EndsOrLacksMemory program arguments memory (Err (BadWorkers m)) = ⊥
 EndsOrLacksMemory program arguments memory (Err OutOfMemory) = ⊤
-EndsOrLacksMemory program arguments memory (Err Stopped) = ⊥
+EndsOrLacksMemory program arguments memory other = ⊥
 
 -- the serial meaning, which is within the budget, takes more instructions than the fuel allows
 pub record TakesMore (program : Program) (arguments : List ℤ) (memory : List NamedCells) (fuel : ℕ) : Type 0 where

@@ -3,7 +3,7 @@ ghost use Rattle.program.specs.declared.function.Function.{Function};
 ghost use Rattle.frame.specs.code.Codes.{program_codes};
 ghost use Rattle.frame_engine.specs.Starts.{alloca_starts, starts_from};
 ghost use Rattle.store.specs.Requirements.{unmet_in};
-ghost use Rattle.store.specs.Made.{HasGlobalCells};
+ghost use Rattle.store.specs.Named.{HasGlobalCells};
 ghost use Rattle.store.specs.Rows.{sizes_of};
 ghost use Rattle.store.specs.verifier.Accepted.{IsAccepted};
 ghost use Rattle.store.specs.verifier.Budgets.{budget_of};

@@ -5,7 +5,8 @@ use Rattle.std.proofs.lemmas.List.{map-append, reverse-reverse}
 use Rattle.semantics.specs.Frames.{Frame}
 use Rattle.semantics.specs.Events as running
 use Rattle.semantics.specs.Events.{Machine, event}
-use Rattle.semantics.specs.Replay.{NeverTraps, or_unchanged, replay, has_ended}
+use Rattle.semantics.specs.Replay.{or_unchanged, replay, has_ended}
+use Rattle.semantics.specs.Sound.{NeverTraps}
 use Rattle.semantics.specs.SerialMeaning.{Gave}
 use Rattle.semantics.specs.Cells.{Shared}
 use Rattle.semantics.proofs.Workers.{Manned}

@@ -1,9 +1,9 @@
 -- A worker's strand, and what the calls of a board do with it.
-use Rattle.std.specs.Prelude.{◌≡◌, ◌≢◌, ◌≤◌, ◌↔◌, ◌+◌, ⊤, ℕ, ℤ, ◌++◌, min, replicate, IsSome, Option, Some, None, Bool}
+use Rattle.std.specs.Prelude.{◌≡◌, ◌≤◌, ◌↔◌, ◌+◌, ⊤, ℕ, ℤ, min, replicate, IsSome, Option, Some, None, Bool}
 use Rattle.std.specs.Prelude.{true, false, List, reverse}
 use Rattle.program.specs.declared.function.Program.{Program}
 use Rattle.program.specs.declared.instruction.Terminator.TheVariants as terminator
-use Rattle.semantics.specs.Frames.{Item, Does, Ends}
+use Rattle.semantics.specs.Frames.{Item, Ends}
 use Rattle.frame.specs.declared.event.Event.TheVariants.{Step}
 use Rattle.schedule_core.specs.frame_engine.declared.activation.Places.{Places}
 use Rattle.schedule_core.specs.frame_engine.Flat.{cell_in}
@@ -40,11 +40,8 @@ pub record Apart : Type 0 where
 -- it holds a frame
 abbrev pub IsUp : Standing → Type 0
 IsUp Blank = ⊥
-IsUp Going = ⊤
-IsUp Border = ⊤
-IsUp Full = ⊤
-IsUp (Need at) = ⊤
 IsUp Spoilt = ⊥
+IsUp other = ⊤
 
 -- What is kept of the strand where it stands so: a border is what only the board can do; where it is full, or needs a
 -- cell, the next instruction is one of a cell for whose page there is no place, or of one that is not at hand
@@ -60,10 +57,8 @@ Holds prog places x Spoilt = ⊤
 
 -- a reattach stands there
 abbrev pub is_reattach : Option Item → Bool
-is_reattach None = false
-is_reattach (Some (Does instruction)) = false
 is_reattach (Some (Ends (terminator.Reattach region continuation))) = true
-is_reattach (Some (Ends other)) = false
+is_reattach other = false
 
 -- wherever the module's objects begin, the strand stands so
 abbrev pub StandsSo : Program → Apart → Type 0

@@ -10,8 +10,10 @@ use Rattle.std.proofs.lemmas.Option.{slice_get-map}
 use Rattle.lists.specs.declared.memory.OutOfMemory.{OutOfMemory}
 use Rattle.program.specs.declared.function.Global.{Global}
 use Rattle.program.specs.declared.function.Program.{Program}
-use Rattle.store.specs.Cells.{NamedCells, Sets, zeros, cell_in, cell_at}
-use Rattle.store.specs.Made.{HasGlobalCells, IsMadeFor}
+use Rattle.store.specs.Cells.{NamedCells, cell_in, cell_at}
+use Rattle.store.specs.Named.{Sets, zeros}
+use Rattle.store.specs.Made.{IsMadeFor}
+use Rattle.store.specs.Named.{HasGlobalCells}
 use Rattle.store.specs.Rows.{sizes_of}
 
 replicated : {A : Type 0} (n i : ℕ) (a : A) → i < n → IsSome (slice_get (replicate n a) i)

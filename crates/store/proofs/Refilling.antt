@@ -3,7 +3,7 @@ use Rattle.std.proofs.Common.{◌≡◌, ◌∙◌, ℕ, zero, suc, ◌+◌, ◌
 use Rattle.std.specs.Prelude.{min}
 use Rattle.std.proofs.lemmas.List.{take_min, drop_min, drop_more, drop_all}
 use Rattle.store.specs.Cells.{NamedCells}
-use Rattle.store.specs.Rows.{refilled}
+use Rattle.store.specs.Refilled.{refilled}
 
 append_assoc : (xs ys zs : List NamedCells) → (xs ++ ys) ++ zs ≡ xs ++ (ys ++ zs)
 append_assoc [] ys zs = refl

@@ -4,7 +4,8 @@ use Rattle.std.specs.Prelude.{◌≢◌, slice_get, slice_set, map, Bool, true, 
 use Rattle.std.specs.Bool.{OnFalse, OnTrue, Decides}
 use Rattle.std.proofs.lemmas.Bool.{OnTrue_at, OnFalse_at}
 use Rattle.std.proofs.lemmas.Option.{slice_get_past}
-use Rattle.store.specs.Cells.{NamedCells, Sets, cell_in, cell_at}
+use Rattle.store.specs.Cells.{NamedCells, cell_in, cell_at}
+use Rattle.store.specs.Named.{Sets}
 use Rattle.store.specs.Rows.{sizes_of}
 
 equal_or_not : (a b : ℕ) → (a ≡ b) ⊎ (a ≢ b)

@@ -4,7 +4,7 @@ use Rattle.std.specs.Prelude.{eqb, nat_lt, ℤ, pos, negsuc}
 use Rattle.std.specs.Prelude.{◌+ℤ◌, ◌*ℤ◌, int_le, slice_get}
 use Rattle.std.specs.Option.{option_map}
 use Rattle.semantics.specs.Frames.{and_then}
-use Rattle.linear.specs.Forms.{Combination}
+use Rattle.linear.specs.Terms.{Combination}
 use Rattle.linear.specs.declared.form.Term.{Term}
 use Rattle.program.specs.declared.annotation.Inequality.{Inequality}
 use Rattle.program.specs.declared.function.Function.{Function}
@@ -31,17 +31,15 @@ abbrev pub value_at : List ℤ → Combination → Option ℤ
 value_at arguments form = with_terms arguments form.constant form.terms
 
 abbrev pub at_most : Option ℤ → Option ℤ → Bool
-at_most None high = false
-at_most (Some a) None = false
 at_most (Some a) (Some b) = int_le a b
+at_most one other = false
 
 abbrev pub is_met : List ℤ → Inequality → Bool
 is_met arguments r = at_most (value_at arguments r.low) (value_at arguments r.high)
 
 abbrev pub unmet_of : List ℤ → Option Function → Option ℕ
 unmet_of arguments None = Some 0
-unmet_of arguments (Some main) =
-    cond (eqb (length main.parameters) (length arguments))
+unmet_of arguments (Some main) = cond (eqb (length main.parameters) (length arguments))
     (option_map (λ k. suc k) (position (λ r. not (is_met arguments r)) main.requirements)) (Some 0)
 
 -- 0 for a wrong number of arguments of main, else its first requirement that they do not meet, counted from 1

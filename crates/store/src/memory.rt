@@ -2,8 +2,10 @@ ghost use Rattle.std.specs.Prelude.{◌≡◌, ◌↔◌, ◌<◌, ℕ, [], None
 ghost use Rattle.std.specs.Bool.{OnFalse, OnTrue};
 ghost use Rattle.std.specs.Option.{option_map};
 ghost use Rattle.program.specs.declared.function.Program.{Program};
-ghost use Rattle.store.specs.Cells.{NamedCells, Sets, cell_at, cell_named, number_of, size_of, zeros};
-ghost use Rattle.store.specs.Made.{HasGlobalCells, IsMadeFor};
+ghost use Rattle.store.specs.Cells.{NamedCells, cell_at};
+ghost use Rattle.store.specs.Named.{Sets, cell_named, number_of, size_of, zeros};
+ghost use Rattle.store.specs.Made.{IsMadeFor};
+ghost use Rattle.store.specs.Named.{HasGlobalCells};
 ghost use Rattle.store.specs.Rows.{sizes_of};
 
 use lists::{Name, OutOfMemory};

@@ -1,5 +1,6 @@
 ghost use Rattle.std.specs.Prelude.{◌≡◌, ◌≤◌, IfOk, drop, length, sum, take};
-ghost use Rattle.store.specs.Rows.{refilled, row_of, sizes_of};
+ghost use Rattle.store.specs.Rows.{sizes_of};
+ghost use Rattle.store.specs.Refilled.{refilled, row_of};
 
 use crate::memory::{GlobalCells, Memory};
 use lists::OutOfMemory;

@@ -3,7 +3,8 @@ use Rattle.std.proofs.Common.{◌≡◌, ℕ, ◌≤◌, ◌<◌, List, refl, ap
 use Rattle.std.specs.Prelude.{IsSome}
 use Rattle.std.specs.Int.{w64, cast_signed}
 use Rattle.semantics.specs.Paths.{Path}
-use Rattle.semantics.specs.Cells.{Cell, or_zero, owns}
+use Rattle.semantics.specs.Cells.{Cell, owns}
+use Rattle.semantics.specs.Written.{or_zero}
 use Rattle.semantics.proofs.Actions.{same_path_itself}
 use Rattle.frame_engine.specs.Shows.{IsIn, Layout, address}
 use Rattle.serial_stack.specs.Layouts.{with_allocas}

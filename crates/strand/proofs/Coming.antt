@@ -1,6 +1,7 @@
 -- Frames that are still to come are none of the strand's, nor do they own a cell of its layout.
 use Rattle.std.proofs.Common.{◌≡◌, ℕ, suc, ◌≤◌, List, [], ◌∷◌, length, refl, ap, sym, ◌∙◌, subst, arith, Bool, true, false, inl, inr, ◌⊎◌}
-use Rattle.semantics.specs.Paths.{Path, Under, itself, deeper, same_path}
+use Rattle.semantics.specs.Paths.{Path, same_path}
+use Rattle.semantics.specs.Below.{Under, itself, deeper}
 use Rattle.semantics.specs.Cells.{Object, Local, Cell, owns}
 use Rattle.semantics.specs.Frames.{Role, Body, Child}
 use Rattle.semantics.proofs.Places.{same_path_is}

@@ -1,6 +1,7 @@
 -- The objects that live with a strand's frames are those of the machine and the allocas of the frames above the base.
 use Rattle.std.proofs.Common.{◌≡◌, ◌∙◌, ℕ, zero, suc, ◌<◌, ◌≤◌, List, [], ◌∷◌, map, Option, Some, None, Bool, true, false, cond, refl, sym, ap, arith, slice_get}
-use Rattle.semantics.specs.Paths.{Path, Under, itself, deeper, same_path}
+use Rattle.semantics.specs.Paths.{Path, same_path}
+use Rattle.semantics.specs.Below.{Under, itself, deeper}
 use Rattle.semantics.specs.Cells.{Object, Shared, Local, owns}
 use Rattle.semantics.specs.Frames as frames
 use Rattle.semantics.specs.Frames.{Frame, Role, Child, Body, cells_of}

@@ -3,7 +3,8 @@ use Rattle.std.proofs.Common.{◌≡◌, ℕ, suc, ◌+◌, ◌≤◌, List, [],
 use Rattle.std.specs.Prelude.{IsSome, sum}
 use Rattle.std.proofs.lemmas.Bool.{false_from_ne_true}
 use Rattle.linear.specs.declared.form.RegisterId.{RegisterId}
-use Rattle.semantics.specs.Paths.{Path, Under, itself}
+use Rattle.semantics.specs.Paths.{Path}
+use Rattle.semantics.specs.Below.{Under, itself}
 use Rattle.semantics.specs.Cells.{Cell, Object, Shared, Local, owns}
 use Rattle.semantics.specs.Frames as frames
 use Rattle.semantics.specs.Frames.{Body, Registers, Role, Value}

@@ -3,7 +3,8 @@ use Rattle.std.proofs.Common.{◌≡◌, ℕ, refl, ap, sym, ◌∙◌, subst, �
 use Rattle.std.specs.Prelude.{IsSome}
 use Rattle.std.specs.Option.{option_map}
 use Rattle.std.proofs.lemmas.Option.{same_Some}
-use Rattle.semantics.specs.Cells.{Cell, Memory, or_zero}
+use Rattle.semantics.specs.Cells.{Cell, Memory}
+use Rattle.semantics.specs.Written.{or_zero}
 use Rattle.laws_strands.specs.stacks.Footprint.{Footprint, put, seen}
 use Rattle.laws_strands.proofs.stacks.Keeping.{Agrees}
 use Rattle.frame_engine.specs.Shows.{Layout, IsIn, ShowsCells, address}

@@ -1,6 +1,7 @@
 -- Cells of frames to come, where the frame on top has the same path and as many children as before, or more.
 use Rattle.std.proofs.Common.{◌≡◌, ◌≤◌, List, [], ◌∷◌, ◌∙◌, subst, arith, true}
-use Rattle.semantics.specs.Paths.{Path, Under}
+use Rattle.semantics.specs.Paths.{Path}
+use Rattle.semantics.specs.Below.{Under}
 use Rattle.semantics.specs.Cells.{Cell, owns}
 use Rattle.laws_strands.specs.stacks.Strands.{Placed}
 use Rattle.laws_strands.specs.stacks.Footprint.{Footprint}

@@ -1,5 +1,6 @@
 -- What is told of a strand's frames, and what is written into its boxes, from which they are published.
-use Rattle.std.specs.Prelude.{◌≡◌, ◌<◌, ◌+◌, ◌-◌, ⊤, ℕ, suc, List, [], ◌∷◌, ◌++◌, drop, length, map, reverse, Option, Some}
+use Rattle.std.specs.Prelude.{◌≡◌, ◌<◌, ◌+◌, ◌-◌, ⊤, ℕ, suc, List, [], ◌∷◌, ◌++◌, drop, length, map, reverse}
+use Rattle.std.specs.Prelude.{Option, Some}
 use Rattle.std.specs.Prelude.{None, Bool, true, false, slice_get}
 use Rattle.std.specs.List.{between}
 use Rattle.semantics.specs.Frames.{Does, Ends, Item}

@@ -37,7 +37,7 @@ use Rattle.types.specs.declared.names.item.Item.TheVariants as item
 use Rattle.types.specs.declared.names.mention.Mentions.{Mentions}
 use Rattle.types.specs.names.Address.{Items}
 use Rattle.types.specs.Apart.{InstructionNames, IsBlockAt, IsInstructionAt, IsNamedBy, in_instruction, in_zone, in_pending, in_foot, Reaches, itself, through, NamesGlobal, parameters_at, CallsApart}
-use Rattle.program.specs.Calls.{parameters_in}
+use Rattle.program.specs.Heads.{parameters_in}
 use Rattle.types.specs.Block.{head_of, body_of, block_with, block_of, blocks_of}
 use Rattle.types.specs.Call.{Named, parameter_of, is_same_object, passes, is_passed_again, are_distinct}
 use Rattle.types.specs.Definitions.{DefinesFrom, KeepsParameters, IsParameterName, EachDefinesAnew}

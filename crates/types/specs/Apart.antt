@@ -1,7 +1,7 @@
 -- Which objects the functions of a program name, and which pointers its calls pass.
 use Rattle.std.specs.Prelude.{◌≡◌, ℕ, ◌<◌, ◌≤◌, List, Option, Some, slice_get}
 use Rattle.linear.specs.declared.form.RegisterId.{RegisterId}
-use Rattle.program.specs.Calls.{parameters_in}
+use Rattle.program.specs.Heads.{parameters_in}
 use Rattle.program.specs.declared.annotation.Pending.{Pending}
 use Rattle.program.specs.declared.annotation.Zone.{Zone}
 use Rattle.program.specs.declared.function.Block.{Block}
@@ -26,10 +26,6 @@ AddressNames (address.Element register) name = ⊥
 
 -- the instruction names the object, as its address, its base or an argument
 abbrev pub InstructionNames : Instruction → ObjectName → Type 0
-InstructionNames (instruction.Binary register operator width left right) name = ⊥
-InstructionNames (instruction.Compare register predicate width left right) name = ⊥
-InstructionNames (instruction.Convert register conversion value) name = ⊥
-InstructionNames (instruction.Alloca register alloca) name = ⊥
 InstructionNames (instruction.ElementPointer register base index) name = base ≡ name
 InstructionNames (instruction.Load register at) name = AddressNames at name
 InstructionNames (instruction.Store value at) name = AddressNames at name
@@ -37,7 +33,7 @@ InstructionNames (instruction.StoreZeros cells base) name = base ≡ name
 InstructionNames (instruction.AtomicAdd at value) name = AddressNames at name
 InstructionNames (instruction.Call register callee arguments) name = (i : ℕ) ×
     (slice_get arguments i ≡ Some (argument.Object name))
-InstructionNames (instruction.StartRegion register) name = ⊥
+InstructionNames other name = ⊥
 
 -- the block at this place of the function at that place
 pub record IsBlockAt (functions : List Function) (f b : ℕ) (block : Block) : Type 0 where

@@ -20,18 +20,14 @@ use Rattle.types.specs.Terminator.{ending_of}
 
 -- the annotations at a block's head
 abbrev pub head_of : Items → Scope → ℕ → BlockNotes → Result Head TypeFault
-head_of items scope block notes =
-    made_of (λ p. record { keeps = p.0.0; pending = p.0.1; left = p.1.0; foot = p.1.1 })
-    (both_of (both_of (inequalities_of scope (place.Start block) notes.keeps)
-    (all_pending_of items scope block notes.pending))
-    (both_of (left_of scope block notes.left) (zones_of items scope place.Body notes.foot)))
+head_of items scope block notes = made_of (λ p. record { keeps = p.0.0; pending = p.0.1; left = p.1.0; foot = p.1.1 })
+    (both_of (both_of (inequalities_of scope (place.Start block) notes.keeps) (all_pending_of items scope block
+    notes.pending)) (both_of (left_of scope block notes.left) (zones_of items scope place.Body notes.foot)))
 
--- what stands behind them
 abbrev pub body_of : Items → List FunctionText → Named → Scope → ℕ → ℕ → ResultType → BlockText → Result Body TypeFault
 body_of items functions named scope function block result text =
-    made_of (λ p. record { phis = p.0; steps = p.1.0; ending = p.1.1 })
-    (both_of (phis_of scope text.phis) (both_of (steps_of items functions named scope function block text.steps)
-    (ending_of scope result text.ending)))
+    made_of (λ p. record { phis = p.0; steps = p.1.0; ending = p.1.1 }) (both_of (phis_of scope text.phis)
+    (both_of (steps_of items functions named scope function block text.steps) (ending_of scope result text.ending)))
 
 abbrev pub block_with : ℕ → Head → Body → Block
 block_with line head body =
@@ -46,11 +42,9 @@ block_with line head body =
       ending = body.ending;
     }
 
--- the block at this place of the function at that place
 abbrev pub block_of : Items → List FunctionText → Named → Scope → ℕ → ResultType → ℕ → BlockText →
     Result Block TypeFault
-block_of items functions named scope function result block text =
-    made_of (λ p. block_with text.line p.0 p.1)
+block_of items functions named scope function result block text = made_of (λ p. block_with text.line p.0 p.1)
     (both_of (head_of items scope block text.notes) (body_of items functions named scope function block result text))
 
 abbrev pub blocks_of : Items → List FunctionText → Named → Scope → ℕ → ResultType → List BlockText →

@@ -40,7 +40,6 @@ abbrev pub fits_result : Bool → ResultType → Bool
 fits_result has_result Number = has_result
 fits_result has_result Void = not has_result
 
--- a parameter without its name
 abbrev pub parameter_of : ParameterText → Parameter
 parameter_of (parameter_text.Number name) = parameter.Number
 parameter_of (parameter_text.Pointer name cells) = parameter.Pointer cells
@@ -51,48 +50,36 @@ expected parameters place = option_map parameter_of (slice_get parameters place)
 
 -- a number where the callee has a number, if it has a parameter there
 abbrev pub takes_number : Option Parameter → Bool
-takes_number None = true
-takes_number (Some parameter.Number) = true
 takes_number (Some (parameter.Pointer cells)) = false
+takes_number other = true
 
 -- a pointer where the callee has one, if it has a parameter there
 abbrev pub takes_object : Option Parameter → Bool
-takes_object None = true
 takes_object (Some parameter.Number) = false
-takes_object (Some (parameter.Pointer cells)) = true
+takes_object other = true
 
--- as many cells as the parameter's extent, at least
 abbrev pub fits_extent : ℕ → Option Parameter → Bool
-fits_extent cells None = true
-fits_extent cells (Some parameter.Number) = true
 fits_extent cells (Some (parameter.Pointer extent)) = nat_le extent cells
+fits_extent cells other = true
 
 -- an argument for a parameter: 202 where they differ, 204 where the object is too short
 abbrev pub argument_of : Items → Scope → ℕ → Option Parameter → ArgumentText → Result Argument TypeFault
-argument_of items scope line parameter (text.Number value) =
-    and_then (operand_of scope line Bits64 value)
+argument_of items scope line parameter (text.Number value) = and_then (operand_of scope line Bits64 value)
     (λ v. made_of (λ _. argument.Number v) (unless_of (takes_number parameter) (breaks 202 line)))
 argument_of items scope line parameter (text.Pointer address) =
     and_then (both_of (object_of items scope line address) (unless_of (takes_object parameter) (breaks 202 line))) (λ p.
     made_of (λ _. argument.Object p.0.name) (unless_of (fits_extent p.0.cells parameter) (breaks 204 line)))
 
--- the arguments, each for the parameter of its place
 abbrev pub arguments_of : Items → Scope → ℕ → List ParameterText → List ArgumentText → Result (List Argument) TypeFault
 arguments_of items scope line parameters arguments =
     all_of (λ place. argument_of items scope line (expected parameters place)) arguments
 
 abbrev pub is_same_object : ObjectName → ObjectName → Bool
 is_same_object (object.Global a) (object.Global b) = nat_eq a.0 b.0
-is_same_object (object.Global a) (object.Alloca b) = false
-is_same_object (object.Global a) (object.Parameter b) = false
-is_same_object (object.Alloca a) (object.Global b) = false
 is_same_object (object.Alloca a) (object.Alloca b) = nat_eq a.0 b.0
-is_same_object (object.Alloca a) (object.Parameter b) = false
-is_same_object (object.Parameter a) (object.Global b) = false
-is_same_object (object.Parameter a) (object.Alloca b) = false
 is_same_object (object.Parameter a) (object.Parameter b) = nat_eq a.0 b.0
+is_same_object one other = false
 
--- the argument passes this object
 abbrev pub passes : ObjectName → Argument → Bool
 passes name (argument.Number value) = false
 passes name (argument.Object other) = is_same_object name other
@@ -101,17 +88,14 @@ abbrev pub is_passed_again : Argument → List Argument → Bool
 is_passed_again (argument.Number value) others = false
 is_passed_again (argument.Object name) others = list_any (passes name) others
 
--- the objects that are passed are pairwise different
 abbrev pub are_distinct : List Argument → Bool
 are_distinct [] = true
 are_distinct (first ∷ others) = not (is_passed_again first others) && are_distinct others
 
 -- the argument passes a global that is among the named ones
 abbrev pub is_named_below : List Bool → Argument → Bool
-is_named_below named (argument.Number value) = false
 is_named_below named (argument.Object (object.Global id)) = slice_index_or named id.0 false
-is_named_below named (argument.Object (object.Alloca id)) = false
-is_named_below named (argument.Object (object.Parameter id)) = false
+is_named_below named other = false
 
 -- a function each: the globals that it and those that it calls name
 abbrev pub Named : Type 0
@@ -124,21 +108,16 @@ is_any_named (Some named) arguments = list_any (is_named_below named) arguments
 -- the arguments of a call of a known function: 202 where the results differ, 203 where the counts do
 abbrev pub fitting_arguments : Items → Scope → ℕ → Bool → FunctionText → List ArgumentText →
     Result (List Argument) TypeFault
-fitting_arguments items scope line has_result callee arguments =
-    made_of (λ p. p.0)
-    (both_of (arguments_of items scope line callee.parameters arguments)
-    (both_of (unless_of (fits_result has_result callee.result_type) (breaks 202 line))
+fitting_arguments items scope line has_result callee arguments = made_of (λ p. p.0) (both_of (arguments_of items scope
+    line callee.parameters arguments) (both_of (unless_of (fits_result has_result callee.result_type) (breaks 202 line))
     (unless_of (nat_eq (length arguments) (length callee.parameters)) (breaks 203 line))))
 
--- which pointers may be passed: 204 where two are one object or a global is named below; 205 where the callee stands
--- below
+-- 204 where two pointers are one object or a global is named below; 205 where the callee stands below
 abbrev pub passed_call : Named → ℕ → ℕ → FunctionId → List Argument → Result ResolvedCall TypeFault
-passed_call named caller line id arguments =
-    and_then (unless_of (are_distinct arguments) (breaks 204 line)) (λ _.
-    and_then (unless_of (not (is_any_named (slice_get named id.0) arguments)) (breaks 204 line)) (λ _.
+passed_call named caller line id arguments = and_then (unless_of (are_distinct arguments) (breaks 204 line))
+    (λ _. and_then (unless_of (not (is_any_named (slice_get named id.0) arguments)) (breaks 204 line)) (λ _.
     made_of (λ _. record { callee = id; arguments = arguments }) (unless_of (nat_le id.0 caller) (breaks 205 line))))
 
--- a call of a known function
 abbrev pub known_call : Items → Named → Scope → ℕ → ℕ → Bool → FunctionId → FunctionText → List ArgumentText →
     Result ResolvedCall TypeFault
 known_call items named scope caller line has_result id callee arguments =
@@ -146,8 +125,7 @@ known_call items named scope caller line has_result id callee arguments =
 
 -- a call whose callee is none: its arguments are judged all the same
 abbrev pub refused_call : Items → Scope → ℕ → List ArgumentText → TypeFault → Result ResolvedCall TypeFault
-refused_call items scope line arguments fault =
-    let refused : Result (Unit {0}) TypeFault = Err fault in
+refused_call items scope line arguments fault = let refused : Result (Unit {0}) TypeFault = Err fault in
     and_then (both_of (arguments_of items scope line [] arguments) refused) (λ _. Err fault)
 
 abbrev pub found_call : Items → Named → Scope → ℕ → ℕ → Bool → FunctionId → Option FunctionText → List ArgumentText →
@@ -163,7 +141,6 @@ called items functions named scope caller line has_result (Err fault) arguments 
 called items functions named scope caller line has_result (Ok id) arguments =
     found_call items named scope caller line has_result id (slice_get functions id.0) arguments
 
--- a call from the function at this place
 abbrev pub call_of : Items → List FunctionText → Named → Scope → ℕ → ℕ → Bool → List ℕ → List ArgumentText →
     Result ResolvedCall TypeFault
 call_of items functions named scope caller line has_result callee arguments =

@@ -28,11 +28,9 @@ DefinesFrom n (instruction.Convert register conversion value) = n ≤ register.0
 DefinesFrom n (instruction.Alloca register alloca) = n ≤ register.0
 DefinesFrom n (instruction.ElementPointer register base index) = n ≤ register.0
 DefinesFrom n (instruction.Load register at) = n ≤ register.0
-DefinesFrom n (instruction.Store value at) = Unit {0}
-DefinesFrom n (instruction.StoreZeros cells base) = Unit {0}
-DefinesFrom n (instruction.AtomicAdd at value) = Unit {0}
 DefinesFrom n (instruction.Call register callee arguments) = IsFrom n register
 DefinesFrom n (instruction.StartRegion register) = n ≤ register.0
+DefinesFrom n other = Unit {0}
 
 -- no phi and no instruction of the program defines a parameter, which are the first registers of a function
 pub record KeepsParameters (functions : List Function) : Type 0 where
@@ -61,11 +59,9 @@ defined_name (text.Convert register conversion value) = Some register
 defined_name (text.Alloca register size) = Some register
 defined_name (text.ElementPointer register base index) = Some register
 defined_name (text.Load register address) = Some register
-defined_name (text.Store value address) = None
-defined_name (text.StoreZeros cells address) = None
-defined_name (text.AtomicAdd address value) = None
 defined_name (text.Call register callee arguments) = register
 defined_name (text.StartRegion register) = Some register
+defined_name other = None
 
 -- no phi and no instruction of the function defines the name of a parameter again
 pub record DefinesAnew (function : FunctionText) : Type 0 where

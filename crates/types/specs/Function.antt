@@ -30,27 +30,20 @@ result_register Void registers = None
 
 -- `reads`, then `writes`, then `adds`
 abbrev pub head_zones_of : Items → Scope → FunctionNotes → Result (List Zone) TypeFault
-head_zones_of items scope notes =
-    more_zones items scope place.Head
+head_zones_of items scope notes = more_zones items scope place.Head
     (more_zones items scope place.Head (zones_of items scope place.Head notes.reads) notes.writes) notes.adds
 
 -- the annotations at a function's head but its budget
 abbrev pub head_of : Items → Layout → ResultType → FunctionNotes → Result Head TypeFault
 head_of items layout result notes =
     made_of (λ p. record { requirements = p.0.0; guarantees = p.0.1; zones = p.1.0; measure = p.1.1 })
-    (both_of
-    (both_of (inequalities_of layout.scope place.Head notes.requirements)
-    (inequalities_of layout.scope (place.Guarantee (result_register result (length layout.registers)))
-    notes.guarantees))
+    (both_of (both_of (inequalities_of layout.scope place.Head notes.requirements) (inequalities_of layout.scope
+    (place.Guarantee (result_register result (length layout.registers))) notes.guarantees))
     (both_of (head_zones_of items layout.scope notes) (measure_of layout.scope notes.measure)))
 
 abbrev pub resolved_budget : BudgetText → Budget
-resolved_budget budget = record {
-  line = budget.line;
-  self_calls = budget.self_calls;
-  instructions =
-      budget.instructions;
-}
+resolved_budget budget =
+    record { line = budget.line; self_calls = budget.self_calls; instructions = budget.instructions }
 
 abbrev pub function_with : FunctionText → Layout → Head → List Block → Function
 function_with text layout head blocks = record {
@@ -68,10 +61,8 @@ function_with text layout head blocks = record {
   blocks = blocks;
 }
 
--- the function at this place of the module
 abbrev pub function_of : Items → List FunctionText → Named → ℕ → FunctionText → Result Function TypeFault
-function_of items functions named place text =
-    made_of (λ p. function_with text (layout_of text) p.0 p.1)
+function_of items functions named place text = made_of (λ p. function_with text (layout_of text) p.0 p.1)
     (both_of (head_of items (layout_of text) text.result_type text.notes)
     (blocks_of items functions named (layout_of text).scope place text.result_type text.blocks))
 

@@ -35,22 +35,19 @@ use Rattle.types.specs.names.Form.{inequalities_of}
 use Rattle.types.specs.names.Operand.{label_of, operand_of, register_of}
 use Rattle.types.specs.names.Scope.{Scope}
 
--- the register that an instruction defines
 abbrev pub defined_of : Scope → ℕ → List ℕ → Result RegisterId TypeFault
 defined_of scope line name = made_of (λ register. register.id) (register_of scope line name)
 
 -- `[ V, %l ]`
 abbrev pub entry_of : Scope → ℕ → Width → PhiEntryText → Result PhiEntry TypeFault
-entry_of scope line width entry =
-    made_of (λ p. record { value = p.0; predecessor = p.1 })
+entry_of scope line width entry = made_of (λ p. record { value = p.0; predecessor = p.1 })
     (both_of (operand_of scope line width entry.value) (label_of scope line entry.predecessor))
 
 abbrev pub entries_of : Scope → ℕ → Width → List PhiEntryText → Result (List PhiEntry) TypeFault
 entries_of scope line width entries = all_of (λ _. entry_of scope line width) entries
 
 abbrev pub phi_of : Scope → PhiText → Result Phi TypeFault
-phi_of scope phi =
-    made_of (λ p. record { line = phi.line; register = p.0; width = phi.width; entries = p.1 })
+phi_of scope phi = made_of (λ p. record { line = phi.line; register = p.0; width = phi.width; entries = p.1 })
     (both_of (defined_of scope phi.line phi.register) (entries_of scope phi.line phi.width phi.entries))
 
 abbrev pub phis_of : Scope → List PhiText → Result (List Phi) TypeFault
@@ -59,69 +56,53 @@ phis_of scope phis = all_of (λ _. phi_of scope) phis
 abbrev pub binary_of : Scope → ℕ → List ℕ → BinaryOperator → Width → OperandText → OperandText →
     Result Instruction TypeFault
 binary_of scope line register operator width left right =
-    made_of (λ p. instruction.Binary p.0 operator width p.1.0 p.1.1)
-    (both_of (defined_of scope line register) (both_of (operand_of scope line width left)
-    (operand_of scope line width right)))
+    made_of (λ p. instruction.Binary p.0 operator width p.1.0 p.1.1) (both_of (defined_of scope line register)
+    (both_of (operand_of scope line width left) (operand_of scope line width right)))
 
 abbrev pub compare_of : Scope → ℕ → List ℕ → Predicate → Width → OperandText → OperandText →
     Result Instruction TypeFault
 compare_of scope line register predicate width left right =
-    made_of (λ p. instruction.Compare p.0 predicate width p.1.0 p.1.1)
-    (both_of (defined_of scope line register) (both_of (operand_of scope line width left)
-    (operand_of scope line width right)))
+    made_of (λ p. instruction.Compare p.0 predicate width p.1.0 p.1.1) (both_of (defined_of scope line register)
+    (both_of (operand_of scope line width left) (operand_of scope line width right)))
 
 abbrev pub convert_of : Scope → ℕ → List ℕ → Conversion → OperandText → Result Instruction TypeFault
-convert_of scope line register conversion value =
-    made_of (λ p. instruction.Convert p.0 conversion p.1)
+convert_of scope line register conversion value = made_of (λ p. instruction.Convert p.0 conversion p.1)
     (both_of (defined_of scope line register) (operand_of scope line (source_width conversion) value))
 
 abbrev pub as_alloca : ℕ → Holding → Result AllocaId TypeFault
 as_alloca line (holding.Object (object.Alloca id) cells) = Ok id
-as_alloca line (holding.Object (object.Global id) cells) = Err (breaks 202 line)
-as_alloca line (holding.Object (object.Parameter id) cells) = Err (breaks 202 line)
-as_alloca line (holding.Number width) = Err (breaks 202 line)
-as_alloca line holding.Truth = Err (breaks 202 line)
-as_alloca line holding.Element = Err (breaks 202 line)
-as_alloca line holding.Region = Err (breaks 202 line)
+as_alloca line other = Err (breaks 202 line)
 
--- the number of the `alloca` that defines a register
 abbrev pub alloca_id_of : Scope → ℕ → List ℕ → Result AllocaId TypeFault
 alloca_id_of scope line name = and_then (register_of scope line name) (λ register. as_alloca line register.holding)
 
 -- an `alloca` stands in the entry block, else 204
 abbrev pub alloca_of : Scope → ℕ → ℕ → List ℕ → Result Instruction TypeFault
-alloca_of scope block line register =
-    and_then (both_of (defined_of scope line register) (alloca_id_of scope line register)) (λ p.
-    made_of (λ _. instruction.Alloca p.0 p.1) (unless_of (nat_eq block 0) (breaks 204 line)))
+alloca_of scope block line register = and_then (both_of (defined_of scope line register) (alloca_id_of scope line
+    register)) (λ p. made_of (λ _. instruction.Alloca p.0 p.1) (unless_of (nat_eq block 0) (breaks 204 line)))
 
 abbrev pub element_pointer_of : Items → Scope → ℕ → List ℕ → AddressText → OperandText → Result Instruction TypeFault
 element_pointer_of items scope line register base index =
-    made_of (λ p. instruction.ElementPointer p.0 p.1.0.name p.1.1)
-    (both_of (defined_of scope line register) (both_of (object_of items scope line base)
-    (operand_of scope line Bits64 index)))
+    made_of (λ p. instruction.ElementPointer p.0 p.1.0.name p.1.1) (both_of (defined_of scope line register)
+    (both_of (object_of items scope line base) (operand_of scope line Bits64 index)))
 
 abbrev pub load_of : Items → Scope → ℕ → ℕ → List ℕ → AddressText → Result Instruction TypeFault
-load_of items scope block line register address =
-    made_of (λ p. instruction.Load p.0 p.1)
+load_of items scope block line register address = made_of (λ p. instruction.Load p.0 p.1)
     (both_of (defined_of scope line register) (address_of items scope block line address))
 
 abbrev pub store_of : Items → Scope → ℕ → ℕ → OperandText → AddressText → Result Instruction TypeFault
-store_of items scope block line value address =
-    made_of (λ p. instruction.Store p.0 p.1)
+store_of items scope block line value address = made_of (λ p. instruction.Store p.0 p.1)
     (both_of (operand_of scope line Bits64 value) (address_of items scope block line address))
 
 -- an array store clears just as many cells as its pointer's extent, else 204
 abbrev pub store_zeros_of : Items → Scope → ℕ → ℕ → AddressText → Result Instruction TypeFault
-store_zeros_of items scope line cells address =
-    and_then (object_of items scope line address) (λ found.
+store_zeros_of items scope line cells address = and_then (object_of items scope line address) (λ found.
     made_of (λ _. instruction.StoreZeros cells found.name) (unless_of (nat_eq found.cells cells) (breaks 204 line)))
 
 abbrev pub atomic_add_of : Items → Scope → ℕ → ℕ → AddressText → OperandText → Result Instruction TypeFault
-atomic_add_of items scope block line address value =
-    made_of (λ p. instruction.AtomicAdd p.0 p.1)
+atomic_add_of items scope block line address value = made_of (λ p. instruction.AtomicAdd p.0 p.1)
     (both_of (address_of items scope block line address) (operand_of scope line Bits64 value))
 
--- the register of a call that has one
 abbrev pub call_register_of : Scope → ℕ → Option (List ℕ) → Result (Option RegisterId) TypeFault
 call_register_of scope line None = Ok None
 call_register_of scope line (Some name) = made_of Some (defined_of scope line name)
@@ -129,14 +110,12 @@ call_register_of scope line (Some name) = made_of Some (defined_of scope line na
 abbrev pub call_step_of : Items → List FunctionText → Named → Scope → ℕ → ℕ → Option (List ℕ) → List ℕ →
     List ArgumentText → Result Instruction TypeFault
 call_step_of items functions named scope caller line register callee arguments =
-    made_of (λ p. instruction.Call p.0 p.1.callee p.1.arguments)
-    (both_of (call_register_of scope line register) (call_of items functions named scope caller line
-    (is_some register) callee arguments))
+    made_of (λ p. instruction.Call p.0 p.1.callee p.1.arguments) (both_of (call_register_of scope line register)
+    (call_of items functions named scope caller line (is_some register) callee arguments))
 
 abbrev pub region_start_of : Scope → ℕ → List ℕ → Result Instruction TypeFault
 region_start_of scope line register = made_of instruction.StartRegion (defined_of scope line register)
 
--- an instruction of the function and the block at these places
 abbrev pub instruction_of : Items → List FunctionText → Named → Scope → Spot → InstructionText →
     Result Instruction TypeFault
 instruction_of items functions named scope spot (text.Binary register operator width left right) =
@@ -161,7 +140,6 @@ instruction_of items functions named scope spot (text.Call register callee argum
     call_step_of items functions named scope spot.function spot.line register callee arguments
 instruction_of items functions named scope spot (text.StartRegion register) = region_start_of scope spot.line register
 
--- an instruction with its `shows` lines
 abbrev pub step_of : Items → List FunctionText → Named → Scope → ℕ → ℕ → StepText → Result Step TypeFault
 step_of items functions named scope function block step =
     let spot : Spot = record { function = function; block = block; line = step.line } in

@@ -40,9 +40,8 @@ as_main id (Some function) =
 
 -- 201 at line 1 where no function is called `@main`
 abbrev pub found_main : List FunctionText → Option Item → Result FunctionId TypeFault
-found_main functions None = Err (breaks 201 1)
-found_main functions (Some (item.Global id cells)) = Err (breaks 201 1)
 found_main functions (Some (item.Function id)) = as_main id (slice_get functions id.0)
+found_main functions other = Err (breaks 201 1)
 
 abbrev pub main_of : Items → List FunctionText → Result FunctionId TypeFault
 main_of items functions = found_main functions (look_up items (codes "main"))
@@ -53,13 +52,10 @@ global_of global = record { line = global.line; name = global.name; cells = glob
 abbrev pub program_with : Module → FunctionId → List Function → Program
 program_with whole main functions = record { globals = map global_of whole.globals; functions = functions; main = main }
 
--- the program that a module means by these tables of names, else its earliest fault
 abbrev pub program_from : Items → Named → Module → Result Program TypeFault
-program_from items named whole =
-    made_of (λ p. program_with whole p.0 p.1)
+program_from items named whole = made_of (λ p. program_with whole p.0 p.1)
     (both_of (main_of items whole.functions) (functions_of items whole.functions named))
 
--- for each function of the module just the globals that it names, itself or by those that it calls
 abbrev pub IsNamedIn : Module → Named → Type 0
 IsNamedIn whole named = IsNamedTable (map (mentions_of (items_of whole)) whole.functions) (length whole.globals) named
 

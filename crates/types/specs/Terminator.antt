@@ -22,8 +22,7 @@ use Rattle.types.specs.names.Scope.{Scope}
 
 -- a case: its number is one of the switch's width, else 202
 abbrev pub case_of : Scope → ℕ → Width → CaseText → Result Case TypeFault
-case_of scope line width text =
-    made_of (λ p. record { number = text.number; target = p.0 })
+case_of scope line width text = made_of (λ p. record { number = text.number; target = p.0 })
     (both_of (label_of scope line text.target) (unless_of (fits_width width text.number) (breaks 202 line)))
 
 abbrev pub cases_of : Scope → ℕ → Width → List CaseText → Result (List Case) TypeFault
@@ -41,25 +40,19 @@ abbrev pub jump_of : Scope → ℕ → List ℕ → Result Terminator TypeFault
 jump_of scope line target = made_of terminator.Jump (label_of scope line target)
 
 abbrev pub branch_of : Scope → ℕ → List ℕ → List ℕ → List ℕ → Result Terminator TypeFault
-branch_of scope line condition when_true when_false =
-    made_of (λ p. terminator.Branch p.0 p.1.0 p.1.1)
-    (both_of (condition_of scope line condition) (both_of (label_of scope line when_true)
-    (label_of scope line when_false)))
+branch_of scope line condition when_true when_false = made_of (λ p. terminator.Branch p.0 p.1.0 p.1.1) (both_of
+    (condition_of scope line condition) (both_of (label_of scope line when_true) (label_of scope line when_false)))
 
 abbrev pub switch_of : Scope → ℕ → Width → OperandText → List ℕ → List CaseText → Result Terminator TypeFault
-switch_of scope line width value default cases =
-    made_of (λ p. terminator.Switch width p.0 p.1.0 p.1.1)
-    (both_of (operand_of scope line width value) (both_of (label_of scope line default)
-    (cases_of scope line width cases)))
+switch_of scope line width value default cases = made_of (λ p. terminator.Switch width p.0 p.1.0 p.1.1) (both_of
+    (operand_of scope line width value) (both_of (label_of scope line default) (cases_of scope line width cases)))
 
 abbrev pub detach_of : Scope → ℕ → List ℕ → List ℕ → List ℕ → Result Terminator TypeFault
-detach_of scope line region body continuation =
-    made_of (λ p. terminator.Detach p.0 p.1.0 p.1.1)
+detach_of scope line region body continuation = made_of (λ p. terminator.Detach p.0 p.1.0 p.1.1)
     (both_of (region_of scope line region) (both_of (label_of scope line body) (label_of scope line continuation)))
 
 abbrev pub reattach_of : Scope → ℕ → List ℕ → List ℕ → Result Terminator TypeFault
-reattach_of scope line region continuation =
-    made_of (λ p. terminator.Reattach p.0 p.1)
+reattach_of scope line region continuation = made_of (λ p. terminator.Reattach p.0 p.1)
     (both_of (region_of scope line region) (label_of scope line continuation))
 
 abbrev pub sync_of : Scope → ℕ → List ℕ → List ℕ → Result Terminator TypeFault
@@ -76,13 +69,10 @@ terminator_of scope line result (text.Detach region body continuation) = detach_
 terminator_of scope line result (text.Reattach region continuation) = reattach_of scope line region continuation
 terminator_of scope line result (text.Sync region target) = sync_of scope line region target
 
--- a terminator with its `shows` lines
 abbrev pub known_ending_of : Scope → ResultType → EndingText → Result Ending TypeFault
-known_ending_of scope result ending =
-    made_of (λ p. record { line = ending.line; shows = p.0; terminator = p.1 })
+known_ending_of scope result ending = made_of (λ p. record { line = ending.line; shows = p.0; terminator = p.1 })
     (both_of (inequalities_of scope Body ending.shows) (terminator_of scope ending.line result ending.terminator))
 
--- the terminator of a block that has one
 abbrev pub ending_of : Scope → ResultType → Option EndingText → Result (Option Ending) TypeFault
 ending_of scope result None = Ok None
 ending_of scope result (Some ending) = made_of Some (known_ending_of scope result ending)

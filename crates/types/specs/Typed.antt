@@ -8,7 +8,6 @@ use Rattle.refusal.specs.Refusals.{IfBroken}
 use Rattle.types.specs.declared.typed.Typed.{Typed}
 use Rattle.types.specs.Meaning.{Means}
 
--- the program that a module means, else its earliest fault
 abbrev pub MeansTyped : Module → Result Typed Broken → Type 0
 MeansTyped whole (Ok typed) = Means whole (Ok typed.program)
 MeansTyped whole (Err broken) = Means whole (Err broken)

@@ -4,7 +4,8 @@ use Rattle.std.specs.Prelude.{IsErrAnd}
 use Rattle.refusal.specs.declared.refused.Refused.{Refused}
 use Rattle.refusal.specs.declared.refused.Refused.TheVariants.{Fault, Memory}
 use Rattle.refusal.specs.declared.broken.Broken.{Broken}
-use Rattle.refusal.specs.Earliest.{IsFirst, NamesEarliest}
+use Rattle.refusal.specs.Earliest.{IsFirst}
+use Rattle.refusal.specs.Named.{NamesEarliest}
 use Rattle.refusal.specs.Refusals.{IfBroken}
 use Rattle.footprints.specs.ranges.declared.unverified.Unverified.{Unverified}
 use Rattle.footprints.specs.ranges.declared.unverified.Unverified.TheVariants as unverified

@@ -20,7 +20,6 @@ use Rattle.footprints.specs.ranges.declared.unverified.Unverified.TheVariants as
 use Rattle.footprints.specs.Rules.{IsZoneBroken, AreZonesRightBy}
 use Rattle.cost_table.specs.Rules.{IsCostBroken, AreCostsRight}
 
--- no rule on uses is broken
 abbrev pub IsDefined : Program → Type 0
 IsDefined program = (b : Broken) → IsDefinednessBroken program b → ⊥
 
@@ -48,29 +47,20 @@ pub record IsRight (program : Program) : Type 0 where
 
 -- the text is read as a module, the module means this program, and the program keeps the rules
 abbrev pub IsProgramOf : List ℕ → Program → Type 0
-IsProgramOf text program =
-    (whole : Module) × Answers text (Ok whole) × (typed : Typed) × MeansTyped whole (Ok typed) ×
+IsProgramOf text program = (whole : Module) × Answers text (Ok whole) × (typed : Typed) × MeansTyped whole (Ok typed) ×
     (typed.program ≡ program) × IsRight program
 
 -- of the first phase after the types whose rules the program breaks this is the earliest broken one
 abbrev pub IsFaulty : Program → Broken → Type 0
-IsFaulty program broken =
-    IsFirst (IsGraphBroken program) broken
-    ⊎ (IsGraphRight program
-    × (IsFirst (IsTaskBroken program) broken
-    ⊎ (AreRegionsRight program
-    × (IsFirst (IsDefinednessBroken program) broken
-    ⊎ (IsDefined program
-    × (IsFirst (IsRangeBroken program) broken
-    ⊎ (AreRangesRight program
-    × (IsFirstOfZones program broken ⊎ (AreZonesRight program × IsFirst (IsCostBroken program) broken)))))))))
+IsFaulty program broken = IsFirst (IsGraphBroken program) broken ⊎ (IsGraphRight program ×
+    (IsFirst (IsTaskBroken program) broken ⊎ (AreRegionsRight program × (IsFirst (IsDefinednessBroken program) broken ⊎
+    (IsDefined program × (IsFirst (IsRangeBroken program) broken ⊎ (AreRangesRight program ×
+    (IsFirstOfZones program broken ⊎ (AreZonesRight program × IsFirst (IsCostBroken program) broken)))))))))
 
 -- the text breaks this rule at this line, by the first phase with a fault
 abbrev pub IsRefused : List ℕ → Broken → Type 0
-IsRefused text broken =
-    Answers text (Err (broken.number, broken.line))
-    ⊎ ((whole : Module) × Answers text (Ok whole)
-    × (MeansTyped whole (Err broken) ⊎ ((typed : Typed) × MeansTyped whole (Ok typed) × IsFaulty typed.program broken)))
+IsRefused text broken = Answers text (Err (broken.number, broken.line)) ⊎ ((whole : Module) × Answers text (Ok whole) ×
+    (MeansTyped whole (Err broken) ⊎ ((typed : Typed) × MeansTyped whole (Ok typed) × IsFaulty typed.program broken)))
 
 -- if a fault, then the text is refused for it; or there is no verdict, and the effort is named that was granted, if
 -- that is bounded

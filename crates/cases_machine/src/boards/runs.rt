@@ -1,6 +1,7 @@
 //! Runs from the start to the end.
 ghost use Rattle.std.specs.Prelude.{◌≡◌, ◌<◌, vec_len, IfOk};
-ghost use Rattle.shared_run.specs.store.Made.{HasGlobalCells, IsMadeFor};
+ghost use Rattle.shared_run.specs.store.Made.{IsMadeFor};
+ghost use Rattle.shared_run.specs.store.Named.{HasGlobalCells};
 
 use crate::boards::calls::{Player, players_of};
 use crate::endings::{Ending, is_so, leads_to};

@@ -1,7 +1,8 @@
 //! Data that comes from files into globals before a run, and goes to files after it.
 
 ghost use Rattle.program.specs.declared.function.Program.{Program};
-ghost use Rattle.serial_machine.specs.store.Made.{HasGlobalCells, IsMadeFor};
+ghost use Rattle.serial_machine.specs.store.Made.{IsMadeFor};
+ghost use Rattle.serial_machine.specs.store.Named.{HasGlobalCells};
 
 use crate::runs::halt::Halt;
 use crate::runs::job::Job;

@@ -2,7 +2,8 @@
 
 ghost use Rattle.program.specs.declared.function.Program.{Program};
 ghost use Rattle.std.specs.Prelude.{IfOk};
-ghost use Rattle.serial_machine.specs.store.Made.{HasGlobalCells, IsMadeFor};
+ghost use Rattle.serial_machine.specs.store.Made.{IsMadeFor};
+ghost use Rattle.serial_machine.specs.store.Named.{HasGlobalCells};
 
 use crate::runs::data::{has_data, keep_dumps, load_all, print_rows};
 use crate::runs::halt::Halt;

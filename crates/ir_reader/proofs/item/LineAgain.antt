@@ -9,7 +9,7 @@ use Rattle.ir_lex.specs.declared.token.Kind.TheVariants as kinds
 use Rattle.ir_lex.specs.declared.token.Token.{Token}
 use Rattle.ir_lex.specs.Spelling.{is_space, is_mark, is_run_byte, is_note_mark}
 use Rattle.ir_lex.specs.Tokens.{tokens_from, tokens_of}
-use Rattle.ir_lex.specs.Lexemes.{text_at}
+use Rattle.ir_lex.specs.Texts.{text_at}
 use Rattle.ir_lex.proofs.Printed.{no_note, IsLexeme, Run, Sign}
 use Rattle.ir_reader.specs.declared.item.item.Item.{Item}
 use Rattle.ir_reader.specs.declared.item.line.Line.{Line}

@@ -8,7 +8,7 @@ use Rattle.ir_lex.specs.declared.token.Kind.TheVariants as kinds
 use Rattle.ir_lex.specs.declared.token.Token.{Token}
 use Rattle.ir_lex.specs.Spelling.{is_space, is_note_mark}
 use Rattle.ir_lex.specs.Tokens.{tokens_from, tokens_of}
-use Rattle.ir_lex.specs.Lexemes.{text_at}
+use Rattle.ir_lex.specs.Texts.{text_at}
 use Rattle.ir_lex.specs.Words.{words_text, are_words}
 use Rattle.ir_lex.proofs.PrintedWords.{words_cut}
 use Rattle.ir_reader.specs.item.Lines.{annotation_line, meaning_if_any, line_of}

@@ -7,7 +7,8 @@ use Rattle.ir_lex.specs.declared.token.Kind.{Kind}
 use Rattle.ir_lex.specs.declared.token.Kind.TheVariants as kinds
 use Rattle.ir_lex.specs.declared.token.Token.{Token}
 use Rattle.ir_lex.specs.Tokens.{tokens_of}
-use Rattle.ir_lex.specs.Lexemes.{IsTokenOf, text_at}
+use Rattle.ir_lex.specs.Lexemes.{IsTokenOf}
+use Rattle.ir_lex.specs.Texts.{text_at}
 use Rattle.ir_lex.proofs.Hold.{all_hold}
 use Rattle.ir_lex.proofs.PlainWords.{IsPlainToken, ArePlain, plain_words}
 use Rattle.ir_annotation.specs.declared.meaning.AnnotationLine.{AnnotationLine}

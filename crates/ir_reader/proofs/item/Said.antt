@@ -7,7 +7,8 @@ use Rattle.ir_lex.specs.declared.token.Token.{Token}
 use Rattle.ir_lex.specs.Faults.{IsLexFault, IsFaultOfTokens}
 use Rattle.ir_lex.specs.Faults as lexed
 use Rattle.ir_lex.specs.Tokens.{tokens_of}
-use Rattle.ir_reader.specs.item.Lines.{meaning_of, meaning_if_any, IsLineFault, NotUtf8, NotSaid, IsFaultOfLine, IsMeaningFault}
+use Rattle.ir_reader.specs.item.Lines.{meaning_of, meaning_if_any, IsLineFault, NotUtf8, NotSaid}
+use Rattle.ir_reader.specs.item.Answers.{IsFaultOfLine, IsMeaningFault}
 
 of_lexing : (at : ℕ) (line : List ℕ) (number : ℕ) → IsLexFault line number → IsLineFault at line number
 of_lexing at line _ (lexed.NotUtf8 h) = NotUtf8 h

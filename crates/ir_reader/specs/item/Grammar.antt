@@ -1,8 +1,7 @@
 -- The kinds of items: which one a line is, and what it says.
-use Rattle.std.specs.Prelude.{ℕ, ◌==◌, List, [], ◌∷◌, codes, Option, None, Result, Ok, Err, if◌then◌else◌, option_map}
+use Rattle.std.specs.Prelude.{ℕ, ◌==◌, List, [], ◌∷◌, codes, Option, None, if◌then◌else◌, option_map}
 use Rattle.std.specs.Str.{bytes_eq}
 use Rattle.syntax.specs.declared.instruction.Instruction.{Instruction}
-use Rattle.ir_instruction.specs.declared.fault.LineFault.{LineFault}
 use Rattle.ir_instruction.specs.declared.symbol.Symbol.{Symbol}
 use Rattle.ir_instruction.specs.declared.symbol.Symbol.TheVariants.{Register, Global, Word, Mark}
 use Rattle.ir_instruction.specs.Outcome.{◌>>=◌}
@@ -20,18 +19,10 @@ global_from at name g = item.Global (record { line = at; name = name; cells = g.
 abbrev pub define_from : Gaps define_shape → Item
 define_from g = item.Define g.1.0 g.0 g.1.1.0
 
--- what was read of an instruction, as the item of its line
-abbrev pub as_item : Result Instruction LineFault → Result Item LineFault
-as_item (Ok instruction) = Ok (item.Instruction instruction)
-as_item (Err fault) = Err fault
-
--- Which kind a line is
-
 -- behind '%d =' and a word
 abbrev pub worded_definition : ℕ → List ℕ → List ℕ → List Symbol → Option Item
-worded_definition at d text rest =
-    if bytes_eq text (codes "phi") then option_map (λ g. item.Phi (phi_from at d g)) (gaps_of phi_shape rest)
-    else if bytes_eq text (codes "call") then option_map item.Instruction (call d rest)
+worded_definition at d text rest = if bytes_eq text (codes "phi") then option_map (λ g. item.Phi (phi_from at d g))
+    (gaps_of phi_shape rest) else if bytes_eq text (codes "call") then option_map item.Instruction (call d rest)
     else option_map item.Instruction (fixed d text rest)
 
 -- behind '%d ='
@@ -41,14 +32,11 @@ definition at d _ = None
 
 -- behind a first word that is no label
 unfoldable pub worded : List ℕ → List Symbol → Option Item
-worded text rest =
-    if bytes_eq text (codes "define") then option_map define_from (gaps_of define_shape rest)
+worded text rest = if bytes_eq text (codes "define") then option_map define_from (gaps_of define_shape rest)
     else if bytes_eq text (codes "store") then option_map item.Instruction (store rest)
-    else if bytes_eq text (codes "atomicrmw") then option_map (λ g. item.Instruction (atomic_from g))
-    (gaps_of atomic_shape rest)
-    else if bytes_eq text (codes "call") then option_map (λ g. item.Instruction (call_void_from g))
-    (gaps_of call_void_shape rest)
-    else option_map item.Terminator (terminator_in text rest)
+    else if bytes_eq text (codes "atomicrmw") then option_map (λ g. item.Instruction (atomic_from g)) (gaps_of
+    atomic_shape rest) else if bytes_eq text (codes "call") then option_map (λ g. item.Instruction (call_void_from g))
+    (gaps_of call_void_shape rest) else option_map item.Terminator (terminator_in text rest)
 
 -- The item of a line that has tokens and is no annotation; at is the line's number. A word before a colon is a label,
 -- however it is spelled.

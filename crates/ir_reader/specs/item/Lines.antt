@@ -3,13 +3,11 @@ use Rattle.std.specs.Prelude.{◌≡◌, ℕ, List, [], ◌∷◌, map, Option, 
 use Rattle.std.specs.List.{list_all}
 use Rattle.ir_annotation.specs.declared.meaning.AnnotationLine.{AnnotationLine}
 use Rattle.ir_annotation.specs.Lines.{annotation_of}
-use Rattle.refusal.specs.declared.refused.Refused.{Refused}
-use Rattle.refusal.specs.Refusals.{IfBroken}
 use Rattle.ir_lex.specs.declared.token.Kind.{Kind}
 use Rattle.ir_lex.specs.declared.token.Kind.TheVariants as kinds
 use Rattle.ir_lex.specs.declared.token.Token.{Token}
 use Rattle.ir_lex.specs.Tokens.{tokens_of}
-use Rattle.ir_lex.specs.Lexemes.{text_at}
+use Rattle.ir_lex.specs.Texts.{text_at}
 use Rattle.ir_reader.specs.declared.item.item.Item.{Item}
 use Rattle.ir_reader.specs.declared.item.item.Item.TheVariants.{Annotation}
 use Rattle.ir_reader.specs.declared.item.line.Line.{Line}
@@ -47,11 +45,3 @@ line_of at line = meaning_if_any at line (tokens_of line)
 pub data IsLineFault (at : ℕ) (line : List ℕ) : ℕ → Type 0 where
   NotUtf8 : (IsUtf8 line → ⊥) → IsLineFault at line 101
   NotSaid : (number : ℕ) → IsUtf8 line → line_of at line ≡ Err number → IsLineFault at line number
-
--- if a fault, then that of the line
-abbrev pub IsFaultOfLine : ℕ → List ℕ → Refused → Type 0
-IsFaultOfLine at line fault = IfBroken (λ broken. (broken.line ≡ at) × IsLineFault at line broken.number) fault
-
--- if a fault, then the one that the reading of tokens meets
-abbrev pub IsMeaningFault : ℕ → Result (Option Line) ℕ → Refused → Type 0
-IsMeaningFault at meaning fault = IfBroken (λ broken. (broken.line ≡ at) × (meaning ≡ Err broken.number)) fault

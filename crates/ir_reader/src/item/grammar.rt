@@ -2,11 +2,14 @@
 
 ghost use Rattle.std.specs.Prelude.{◌≡◌, [], ◌∷◌, codes, option_map, IsTrue};
 ghost use Rattle.ir_reader.specs.declared.item.item.Item.TheVariants as item;
-ghost use Rattle.ir_instruction.specs.Outcome.{Gives, ◌>>=◌ as ◌▷◌};
+ghost use Rattle.ir_instruction.specs.Outcome.{◌>>=◌ as ◌▷◌};
+ghost use Rattle.ir_instruction.specs.Answers.{Gives};
 ghost use Rattle.ir_instruction.specs.Fronts.{behind, mark_at};
 ghost use Rattle.ir_instruction.specs.Shape.{gaps_of, gap, word, mark, space, parameters};
 ghost use Rattle.ir_instruction.specs.Grammar.{global_shape, define_shape, phi_shape, phi_from, terminator_in};
-ghost use Rattle.ir_reader.specs.item.Grammar.{as_item, global_from, define_from, worded_definition, definition, worded, item_in};
+ghost use Rattle.ir_reader.specs.item.Grammar.{global_from, define_from, worded_definition, definition, worded};
+ghost use Rattle.ir_reader.specs.item.Grammar.{item_in};
+ghost use Rattle.ir_reader.specs.item.Answers.{as_item};
 
 use crate::item::item::Item;
 use ir_instruction::{

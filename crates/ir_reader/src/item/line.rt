@@ -3,10 +3,12 @@
 ghost use Rattle.std.specs.Prelude.{◌≡◌, ◌∷◌, [], All, IfOk, IfErr, IsUtf8, Ok, Some, map, length, ◌<◌};
 ghost use Rattle.std.specs.List.{list_all};
 ghost use Rattle.ir_annotation.specs.Lines.{annotation_of};
-ghost use Rattle.ir_lex.specs.Lexemes.{IsTokenOf, text_at};
+ghost use Rattle.ir_lex.specs.Lexemes.{IsTokenOf};
+ghost use Rattle.ir_lex.specs.Texts.{text_at};
 ghost use Rattle.ir_instruction.specs.Symbols.{symbol_at, is_within_limits};
 ghost use Rattle.ir_reader.specs.item.Grammar.{item_in};
-ghost use Rattle.ir_reader.specs.item.Lines.{annotation_line, item_line, meaning_of, line_of, IsFaultOfLine, IsMeaningFault};
+ghost use Rattle.ir_reader.specs.item.Lines.{annotation_line, item_line, meaning_of, line_of};
+ghost use Rattle.ir_reader.specs.item.Answers.{IsFaultOfLine, IsMeaningFault};
 
 use crate::item::grammar::item_of;
 use crate::item::item::Item;

@@ -7,14 +7,16 @@ use Rattle.std.proofs.Math.Nat.{add-mul, zero-mul, one-mul}
 use Rattle.std.proofs.lemmas.Bool.Decides.{eqb_tells}
 use Rattle.std.proofs.lemmas.List.Elements.{All-head, All-tail, All-weaker}
 use Rattle.semantics.specs.Paths.{Path}
-use Rattle.semantics.specs.Cells.{Memory, or_zero}
+use Rattle.semantics.specs.Cells.{Memory}
+use Rattle.semantics.specs.Written.{or_zero}
 use Rattle.semantics.specs.Frames.{Value, Word, Registers, Frame, Does, item_of, item_at, block_at, phis_at, word_of, set_register, and_then}
 use Rattle.semantics.specs.Effect.{Effect, Plain, Detach, Sync, Call, phi_value, with_phis, registers_along, action_of}
 use Rattle.semantics.specs.State.{went, detached, continued, synced, called, waiting, resumed, with_result}
 use Rattle.laws_conditions.specs.theorem.SerialConditions.{Says, Finds, KeptSerially, Below, RunsOn, by_function, by_measure, by_left, by_steps}
 use Rattle.laws_conditions.specs.theorem.InProofs.{And}
 use Rattle.laws_conditions.specs.theorem.Budgets.{Pays, SpendsBudget}
-use Rattle.linear.specs.Forms.{Combination, value}
+use Rattle.linear.specs.Forms.{value}
+use Rattle.linear.specs.Terms.{Combination}
 use Rattle.linear.specs.declared.form.Term.{Term}
 use Rattle.linear.specs.declared.form.RegisterId.{RegisterId}
 use Rattle.linear.proofs.Values.{value_same}

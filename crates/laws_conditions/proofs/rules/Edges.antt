@@ -1,9 +1,11 @@
 -- Forms on the far side of an edge or call have the value of the forms put in on the near side.
 use Rattle.std.proofs.Common.{◌≡◌, ℕ, zero, suc, List, [], ◌∷◌, Option, Some, None, cond, eqb, Bool, true, false, refl, sym, ap, ◌∙◌, slice_get, ℤ, pos}
 use Rattle.semantics.specs.Frames.{Value, Word, Pointer, Registers, Frame, word_of, word_at, object_at, set_register, and_then, phis_at}
-use Rattle.semantics.specs.Cells.{Object, or_zero}
+use Rattle.semantics.specs.Cells.{Object}
+use Rattle.semantics.specs.Written.{or_zero}
 use Rattle.semantics.specs.Effect.{entry_for, phi_value, with_phis, registers_along, argument_value, argument_values}
-use Rattle.linear.specs.Forms.{Combination, register_form, value, put}
+use Rattle.linear.specs.Forms.{register_form, value, put}
+use Rattle.linear.specs.Terms.{Combination}
 use Rattle.linear.proofs.Values.{value_constant, value_register, value_put}
 use Rattle.program.specs.declared.function.Program.{Program}
 use Rattle.program.specs.declared.instruction.Argument.{Argument}

@@ -8,7 +8,8 @@ use Rattle.semantics.specs.Cells.{Memory}
 use Rattle.semantics.specs.Frames.{Value, Registers, Frame, Does, Ends, item_at}
 use Rattle.semantics.specs.Effect.{Effect, Plain, Detach, Reattach, Sync, Return, registers_along, action_of}
 use Rattle.semantics.specs.State.{went, detached, continued, synced, called}
-use Rattle.linear.specs.Forms.{Combination, constant_form, plus, minus, put, value}
+use Rattle.linear.specs.Forms.{plus, minus, put, value}
+use Rattle.linear.specs.Terms.{Combination, constant_form}
 use Rattle.linear_shown.specs.Shown.{IsShown, AllHold}
 use Rattle.linear.specs.declared.form.Fact.{Fact}
 use Rattle.linear.specs.declared.form.RegisterId.{RegisterId}

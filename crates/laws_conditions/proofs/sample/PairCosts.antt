@@ -12,7 +12,8 @@ use Rattle.semantics.proofs.Steps.{some_same}
 use Rattle.laws_conditions.specs.sample.Pair.{pair, register, block}
 use Rattle.laws_conditions.proofs.sample.PairSample.{At}
 use Rattle.laws_conditions.proofs.sample.PairSerial.{Serial, Found, entry_start, pair_serially}
-use Rattle.linear.specs.Forms.{constant_form, minus}
+use Rattle.linear.specs.Forms.{minus}
+use Rattle.linear.specs.Terms.{constant_form}
 use Rattle.linear_shown.specs.Shown.{IsShown, AllHold}
 use Rattle.linear.specs.declared.form.Fact.{Fact}
 use Rattle.linear.specs.declared.form.RegisterId.{RegisterId}

@@ -1,7 +1,8 @@
 -- Frames that keep to their zones do not touch one another's cells.
 use Rattle.std.proofs.Common.{◌≡◌, ℕ, ◌<◌, ◌∷◌, Option, Some, None, ◌≢◌, Bool, true, false, cond, not, inl, inr, refl, sym, ap, ◌∙◌, subst, arith, eqb, eq-eqb, is_some, is_none, ℤ}
 use Rattle.std.proofs.lemmas.Bool.{false_from_ne_true}
-use Rattle.semantics.specs.Paths.{Path, Under, itself, deeper}
+use Rattle.semantics.specs.Paths.{Path}
+use Rattle.semantics.specs.Below.{Under, itself, deeper}
 use Rattle.semantics.specs.Cells.{Object, Shared, Local, Cell, owns}
 use Rattle.semantics.specs.Frames.{Wait, OnRegion, OnCall, Halted, Role, Child, Body, Frame}
 use Rattle.semantics.specs.Effect.{no_cells, no_writes, no_adds}

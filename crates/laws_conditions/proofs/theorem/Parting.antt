@@ -1,6 +1,7 @@
 -- Two paths: one lies below the other, or they part at a frame above both.
 use Rattle.std.proofs.Common.{◌≡◌, ℕ, [], ◌∷◌, ◌≢◌, ◌⊎◌, inl, inr, refl, sym, subst}
-use Rattle.semantics.specs.Paths.{Path, Under, itself, deeper}
+use Rattle.semantics.specs.Paths.{Path}
+use Rattle.semantics.specs.Below.{Under, itself, deeper}
 use Rattle.std.proofs.lemmas.Bool.{cases_eq}
 
 pub data Split (p q : Path) : Type 0 where

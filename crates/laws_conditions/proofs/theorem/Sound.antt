@@ -2,7 +2,8 @@
 use Rattle.std.proofs.Common.{◌≡◌, ℕ, zero, suc, ◌+◌, ◌≤◌, max, List, [], ◌∷◌, length, Option, Some, None, ◌≢◌, true, inl, inr, refl, sym, ap, ◌∙◌, subst, arith}
 use Rattle.semantics.specs.Paths.{Path, same_path}
 use Rattle.semantics.specs.Frames.{Halted, Frame}
-use Rattle.semantics.specs.State.{State, Change, apply, applied, may_go, change_of, core_step}
+use Rattle.semantics.specs.State.{State, Change, apply, may_go, change_of}
+use Rattle.semantics.specs.CoreSteps.{applied, core_step}
 use Rattle.semantics.specs.Tree.{Tree}
 use Rattle.laws_conditions.specs.theorem.Conditions.{Zone, StaysInZone, PassesZonesOn}
 use Rattle.semantics.proofs.Confluence.{Stepper, Run, Over, Kept, Commutes, Tells, ends_alike, after_run, within_run, Within, kept_by_run}

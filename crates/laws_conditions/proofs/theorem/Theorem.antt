@@ -5,7 +5,9 @@ use Rattle.semantics.specs.Paths.{Path}
 use Rattle.semantics.specs.Arithmetic.{Trap}
 use Rattle.semantics.specs.Frames.{Halted, Frame}
 use Rattle.semantics.specs.Effect.{Action, Plain, Detach, Reattach, Sync, Call, Return, action_of}
-use Rattle.semantics.specs.State.{State, Change, apply, act, return_from, return_change, reattach_change, went, childless, change_of, core_step}
+use Rattle.semantics.specs.State.{State, Change, apply, act, return_from, return_change, reattach_change, went}
+use Rattle.semantics.specs.State.{childless, change_of}
+use Rattle.semantics.specs.CoreSteps.{core_step}
 use Rattle.semantics.specs.Tree.{Tree}
 use Rattle.laws_conditions.specs.theorem.Conditions.{Zone, Going, StaysInZone, PassesZonesOn, ClosesRegions}
 use Rattle.semantics.specs.SerialMeaning.{Gave, Outcome}

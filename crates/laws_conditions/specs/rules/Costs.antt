@@ -3,11 +3,13 @@
 use Rattle.std.specs.Prelude.{◌≡◌, ◌≢◌, ℕ, zero, suc, ◌+◌, ◌*◌, List, [], ◌∷◌, Option, Some, None, cond, eqb, slice_get}
 use Rattle.std.specs.Prelude.{All, ℤ, pos, negsuc}
 use Rattle.std.specs.Prelude.{◌-ℤ◌, ◌≤ℤ◌}
-use Rattle.semantics.specs.Cells.{or_zero}
+use Rattle.semantics.specs.Written.{or_zero}
 use Rattle.semantics.specs.Frames.{Registers, Frame, block_at, word_of}
-use Rattle.linear.specs.Forms.{Combination, constant_form, value}
-use Rattle.program.specs.Blocks.{left_calls, left_instructions}
-use Rattle.program.specs.Calls.{callee_of, parameters_in}
+use Rattle.linear.specs.Forms.{value}
+use Rattle.linear.specs.Terms.{Combination, constant_form}
+use Rattle.program.specs.Left.{left_calls, left_instructions}
+use Rattle.program.specs.Calls.{callee_of}
+use Rattle.program.specs.Heads.{parameters_in}
 use Rattle.program.specs.declared.function.Block.{Block}
 use Rattle.program.specs.declared.function.Function.{Function}
 use Rattle.program.specs.declared.function.Program.{Program}

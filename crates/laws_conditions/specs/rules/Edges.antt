@@ -3,7 +3,8 @@
 use Rattle.std.specs.Prelude.{ℕ, zero, suc, List, [], ◌∷◌, Option, Some, None, cond, eqb, pos}
 use Rattle.semantics.specs.Frames.{phis_at}
 use Rattle.semantics.specs.Effect.{entry_for}
-use Rattle.linear.specs.Forms.{Combination, constant_form, register_form}
+use Rattle.linear.specs.Forms.{register_form}
+use Rattle.linear.specs.Terms.{Combination, constant_form}
 use Rattle.program.specs.declared.function.Program.{Program}
 use Rattle.program.specs.declared.instruction.Argument.{Argument}
 use Rattle.program.specs.declared.instruction.Argument.TheVariants as argument

@@ -25,11 +25,9 @@ dest_of (instruction.Convert d by a) = Some d.0
 dest_of (instruction.Alloca d a) = Some d.0
 dest_of (instruction.ElementPointer d name i) = Some d.0
 dest_of (instruction.Load d address) = Some d.0
-dest_of (instruction.Store a address) = None
-dest_of (instruction.StoreZeros cells name) = None
-dest_of (instruction.AtomicAdd address a) = None
 dest_of (instruction.Call d callee arguments) = number_of d
 dest_of (instruction.StartRegion d) = Some d.0
+dest_of other = None
 
 -- on to the next instruction of the block: the register that is defined has a value, and all others stay
 pub record GoesOn (f : Frame) (dest : Option ℕ) (e : Effect) : Type 0 where
@@ -48,20 +46,12 @@ abbrev pub JumpsTo : Terminator → ℕ → Type 0
 JumpsTo (terminator.Jump target) b = target.0 ≡ b
 JumpsTo (terminator.Branch test x y) b = (x.0 ≡ b) ⊎ (y.0 ≡ b)
 JumpsTo (terminator.Switch w a default cases) b = (default.0 ≡ b) ⊎ ((c : Case) × Contains cases c × (c.target.0 ≡ b))
-JumpsTo (terminator.Return value) b = ⊥
-JumpsTo (terminator.Detach region body continuation) b = ⊥
-JumpsTo (terminator.Reattach region continuation) b = ⊥
-JumpsTo (terminator.Sync region target) b = ⊥
+JumpsTo other b = ⊥
 
 -- and of a sync of a region
 abbrev pub SyncsTo : Terminator → ℕ → ℕ → Type 0
-SyncsTo (terminator.Jump target) r b = ⊥
-SyncsTo (terminator.Branch test x y) r b = ⊥
-SyncsTo (terminator.Switch w a default cases) r b = ⊥
-SyncsTo (terminator.Return value) r b = ⊥
-SyncsTo (terminator.Detach region body continuation) r b = ⊥
-SyncsTo (terminator.Reattach region continuation) r b = ⊥
 SyncsTo (terminator.Sync region target) r b = (region.0 ≡ r) × (target.0 ≡ b)
+SyncsTo other r b = ⊥
 
 -- the call at the frame's place
 pub record Calls (prog : Program) (f : Frame) (d : Option RegisterId) (callee : ℕ) (values : List Value) : Type 0 where
@@ -83,10 +73,6 @@ pub record Forks (prog : Program) (f : Frame) (r b k : ℕ) : Type 0 where
 
 -- a terminator with which a frame ends
 abbrev pub EndsFrame : Terminator → Type 0
-EndsFrame (terminator.Jump target) = ⊥
-EndsFrame (terminator.Branch test x y) = ⊥
-EndsFrame (terminator.Switch w a default cases) = ⊥
 EndsFrame (terminator.Return value) = Unit {0}
-EndsFrame (terminator.Detach region body continuation) = ⊥
 EndsFrame (terminator.Reattach region continuation) = Unit {0}
-EndsFrame (terminator.Sync region target) = ⊥
+EndsFrame other = ⊥

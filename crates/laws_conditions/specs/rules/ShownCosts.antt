@@ -4,7 +4,8 @@ use Rattle.semantics.specs.Paths.{Path}
 use Rattle.semantics.specs.Cells.{Memory}
 use Rattle.semantics.specs.Frames.{Registers, Frame, Does, Ends, item_at, block_at, phis_at}
 use Rattle.semantics.specs.Effect.{Effect, Plain, Detach, Sync, action_of}
-use Rattle.linear.specs.Forms.{Combination, constant_form, plus, minus, put}
+use Rattle.linear.specs.Forms.{plus, minus, put}
+use Rattle.linear.specs.Terms.{Combination, constant_form}
 use Rattle.linear_shown.specs.Shown.{IsShown, AllHold}
 use Rattle.linear.specs.declared.form.Fact.{Fact}
 use Rattle.linear.specs.declared.form.RegisterId.{RegisterId}

@@ -1,7 +1,8 @@
 -- Local conditions: what a checked program keeps, each about one frame at one place. They suffice for every schedule.
 -- Z names zones of cells, and zone says which cells; what is shown of a frame is a relation to the name of its zone.
 use Rattle.std.specs.Prelude.{◌≡◌, ◌≢◌, ℕ, ◌∷◌, List, Option, None, Bool, true, false, ◌⊎◌, is_some, ℤ}
-use Rattle.semantics.specs.Paths.{Path, Under}
+use Rattle.semantics.specs.Paths.{Path}
+use Rattle.semantics.specs.Below.{Under}
 use Rattle.semantics.specs.Cells.{Object, Shared, Local, Cell, Memory}
 use Rattle.semantics.specs.Frames.{Value, Registers, OnCall, Frame}
 use Rattle.semantics.specs.Effect.{Effect, Plain, Detach, Reattach, Sync, Call, Return, action_of}

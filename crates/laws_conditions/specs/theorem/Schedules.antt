@@ -129,7 +129,5 @@ pub record HoldsAtRoot (prog : Program) (t : Tests) (arguments : List ℤ) (memo
   pub may_reach : t.may_reach (root_frame prog arguments) ≤ depth
 
 abbrev pub EverySchedule : Type 0
-EverySchedule =
-    (prog : Program) (t : Tests) → MeetsConditions prog t → (arguments : List ℤ) (memory : Memory) (budget depth : ℕ) →
-    HoldsAtRoot prog t arguments memory budget depth →
-    RunsAsSerial prog arguments memory budget depth
+EverySchedule = (prog : Program) (t : Tests) → MeetsConditions prog t → (arguments : List ℤ) (memory : Memory) (budget
+    depth : ℕ) → HoldsAtRoot prog t arguments memory budget depth → RunsAsSerial prog arguments memory budget depth

@@ -7,7 +7,8 @@ use Rattle.std.proofs.lemmas.Bool.Decides.{eqb_tells}
 use Rattle.std.proofs.lemmas.List.Elements.{All-head, All-tail}
 use Rattle.semantics.specs.Effect.{entry_for}
 use Rattle.linear.specs.declared.form.RegisterId.{RegisterId}
-use Rattle.linear.specs.Forms.{Combination, register_form, value}
+use Rattle.linear.specs.Forms.{register_form, value}
+use Rattle.linear.specs.Terms.{Combination}
 use Rattle.linear.proofs.Values.{value_constant, value_register}
 use Rattle.program.specs.declared.instruction.Argument.{Argument}
 use Rattle.program.specs.declared.instruction.Operand.{Operand}

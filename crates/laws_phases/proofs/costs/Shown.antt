@@ -7,7 +7,8 @@ use Rattle.semantics.specs.Frames.{Does, Ends, and_then, block_at, item_at, phis
 use Rattle.linear.specs.declared.form.Fact.{Fact}
 use Rattle.linear.specs.declared.form.Term.{Term}
 use Rattle.linear.specs.declared.form.RegisterId.{RegisterId}
-use Rattle.linear.specs.Forms.{Combination, constant_form, minus, put}
+use Rattle.linear.specs.Forms.{minus, put}
+use Rattle.linear.specs.Terms.{Combination, constant_form}
 use Rattle.linear_shown.specs.Shown.{IsShown}
 use Rattle.program.specs.declared.function.Block.{Block}
 use Rattle.program.specs.declared.function.Function.{Function}
@@ -27,11 +28,12 @@ use Rattle.ranges.specs.declared.table.EdgeFacts.{EdgeFacts}
 use Rattle.ranges.specs.Sums.{facts_of, shows}
 use Rattle.ranges.specs.ranges_owed.Inequalities.{argument_moves}
 use Rattle.ranges.specs.Edges.{edges_out, edge_facts, all_edge_facts}
-use Rattle.program.specs.Blocks.{block_phis, left_calls, left_instructions}
+use Rattle.program.specs.Blocks.{block_phis}
+use Rattle.program.specs.Left.{left_calls, left_instructions}
 use Rattle.ranges.specs.Places.{stated, start_facts, facts_at_step, facts_at_end, edges_known}
 use Rattle.laws_conditions.specs.rules.Moves.{dest_of, EndsFrame}
 use Rattle.laws_conditions.specs.rules.Costs.{parameters_of, measure_in, measure_of, bound_in, bound_of, self_calls_in, self_calls_of, instructions_in, instructions_of, calls_left, instructions_left, instructions_for, self_calls_for, spent_by, spent_in, Lacks}
-use Rattle.program.specs.Calls.{parameters_in}
+use Rattle.program.specs.Heads.{parameters_in}
 use Rattle.laws_conditions.specs.rules.Edges.{edge_forms, argument_forms}
 use Rattle.laws_conditions.specs.rules.ShownCosts.{calls_spent_at, instructions_spent_at, IsAtLeast, EdgeShown, ForkShown, EndShown, CostsShown}
 use Rattle.definedness.specs.RegisterActs.{form_needs, register_needs}

@@ -7,7 +7,8 @@ use Rattle.std.proofs.lemmas.List.Elements.{Contains-get_or, Contains-append_lef
 use Rattle.std.proofs.Math.IntN.{*ℤ-zero}
 use Rattle.linear.specs.declared.form.Fact.{Fact}
 use Rattle.linear.specs.declared.form.Term.{Term}
-use Rattle.linear.specs.Forms.{Combination, constant_form, plus, minus, put, coefficient_of, Same, value_of, value}
+use Rattle.linear.specs.Forms.{plus, minus, put, Same, value_of, value}
+use Rattle.linear.specs.Terms.{Combination, constant_form, coefficient_of}
 use Rattle.linear_shown.specs.Shown.{IsShown, SameFacts}
 use Rattle.linear.proofs.Making.{same_of}
 use Rattle.linear_shown.proofs.Respects.{shown_same}

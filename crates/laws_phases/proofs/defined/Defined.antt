@@ -6,7 +6,7 @@ use Rattle.std.proofs.lemmas.List.Elements.{Contains-append_cases, filter_map-ap
 use Rattle.std.proofs.lemmas.Option.{slice_get-map}
 use Rattle.linear.specs.declared.form.RegisterId.{RegisterId}
 use Rattle.linear.specs.declared.form.Term.{Term}
-use Rattle.linear.specs.Forms.{Combination}
+use Rattle.linear.specs.Terms.{Combination}
 use Rattle.program.specs.declared.annotation.Inequality.{Inequality}
 use Rattle.program.specs.declared.annotation.Pending.{Pending}
 use Rattle.program.specs.declared.annotation.Zone.{Zone}
@@ -37,7 +37,8 @@ use Rattle.definedness.specs.Acts.{given}
 use Rattle.definedness.specs.Missing.{defined_along}
 use Rattle.definedness.specs.Needs.{gives, given_of, numbers_of, numbers_at}
 use Rattle.definedness.specs.RegisterActs.{register_needs, operand_needs, form_needs, inequality_needs, alloca_needs, object_needs, zone_needs, pending_needs, left_needs, address_needs, argument_needs, instruction_needs, definition_of, definition_gives, step_acts, result_needs, terminator_needs, ending_needs, entry_needs, phi_needs, value_needs, phi_gives, note_needs, start_gives, body_acts, register_acts}
-use Rattle.definedness.specs.Definedness.{registers_from, register_table, AreRegistersDefined}
+use Rattle.definedness.specs.Definedness.{registers_from, register_table}
+use Rattle.definedness.specs.Defined.{AreRegistersDefined}
 use Rattle.laws_conditions.specs.rules.Moves.{number_of, dest_of}
 use Rattle.laws_phases.specs.defined.Defined.{listed, steps_define, defined_before}
 use Rattle.laws_phases.proofs.defined.Lists.{none_within, within_cases}

@@ -9,7 +9,7 @@ use Rattle.semantics.specs.Frames.{Does, item_at}
 use Rattle.linear.specs.declared.form.RegisterId.{RegisterId}
 use Rattle.linear.specs.declared.form.Term.{Term}
 use Rattle.linear.specs.declared.form.Fact.{Fact}
-use Rattle.linear.specs.Forms.{Combination, constant_form}
+use Rattle.linear.specs.Terms.{Combination, constant_form}
 use Rattle.linear.specs.Made.{is_below, is_bounded, with_term, with_terms, with_constant, placed, placed_at, coefficient_at}
 use Rattle.syntax.specs.declared.operator.BinaryOperator.{BinaryOperator}
 use Rattle.syntax.specs.declared.operator.BinaryOperator.TheVariants.{Add, Subtract, Multiply, AddNoWrap, SubtractNoWrap, MultiplyNoWrap, SignedDivide, UnsignedDivide, SignedRemainder, UnsignedRemainder, ShiftLeft, LogicalShiftRight, ArithmeticShiftRight, And, Or, ExclusiveOr}

@@ -25,8 +25,8 @@ use Rattle.ranges.specs.ranges_owed.Inequalities.{operand_for, difference_of, ar
 use Rattle.ranges.specs.Learned.{call_sums}
 use Rattle.ranges.specs.ranges_owed.Owed.{owed, call_owed, inequalities_owed}
 use Rattle.laws_conditions.specs.rules.Costs.{numbers, parameters_of}
-use Rattle.semantics.specs.Cells.{or_zero}
-use Rattle.program.specs.Calls.{parameters_in}
+use Rattle.semantics.specs.Written.{or_zero}
+use Rattle.program.specs.Heads.{parameters_in}
 use Rattle.laws_conditions.specs.rules.Edges.{operand_form, argument_form, argument_forms}
 use Rattle.laws_conditions.specs.rules.Moves.{number_of, Calls}
 use Rattle.laws_conditions.specs.rules.Registers.{returns_number}

@@ -5,7 +5,8 @@ use Rattle.std.proofs.lemmas.Bool.{ne_eqb, eq-eqb}
 use Rattle.std.proofs.lemmas.Bool.Decides.{eqb_tells}
 use Rattle.std.proofs.lemmas.List.Elements.{All-head, All-tail, All-contains}
 use Rattle.semantics.specs.Paths.{Path}
-use Rattle.semantics.specs.Cells.{Memory, or_zero}
+use Rattle.semantics.specs.Cells.{Memory}
+use Rattle.semantics.specs.Written.{or_zero}
 use Rattle.semantics.specs.Frames.{Value, Word, Registers, Frame, Item, Does, Ends, Role, Child, Body, item_at, phis_at, and_then, word_of, word_at, set_register}
 use Rattle.semantics.specs.Arithmetic.{Undefined, Unmatched}
 use Rattle.semantics.specs.Effect.{stops, returns, returns_value, Effect, Plain, Sync, Return, registers_along, phi_value, with_phis, terminator_action, item_action, action_of}
@@ -32,7 +33,7 @@ use Rattle.ranges.specs.Edges.{edges_out}
 use Rattle.ranges.specs.ranges_owed.Owed.{owed_at_end, inequalities_owed}
 use Rattle.ranges.specs.Sums.{is_met}
 use Rattle.laws_conditions.specs.rules.Costs.{numbers, parameters_of}
-use Rattle.program.specs.Calls.{parameters_in}
+use Rattle.program.specs.Heads.{parameters_in}
 use Rattle.laws_conditions.specs.rules.Moves.{dest_of, Calls, Forks}
 use Rattle.laws_conditions.specs.rules.InProofs.{Moves, is_next, is_along}
 use Rattle.laws_conditions.specs.rules.Registers.{returns_number}

@@ -5,7 +5,8 @@ use Rattle.std.proofs.lemmas.Bool.{cases_eq}
 use Rattle.std.proofs.lemmas.List.Elements.{All-append}
 use Rattle.semantics.specs.Arithmetic.{compares}
 use Rattle.semantics.specs.Frames.{Truth, Registers, Frame, Does, item_at, word_of}
-use Rattle.linear.specs.Forms.{Combination, Holds, value}
+use Rattle.linear.specs.Forms.{Holds, value}
+use Rattle.linear.specs.Terms.{Combination}
 use Rattle.linear_shown.specs.Shown.{AllHold}
 use Rattle.linear.specs.declared.form.Fact.{Fact}
 use Rattle.linear.proofs.Values.{value_same}
@@ -20,7 +21,7 @@ use Rattle.ranges.specs.Learned.{learned}
 use Rattle.ranges.specs.Places.{with_shows}
 use Rattle.ranges.proofs.Truth.{facts_true}
 use Rattle.laws_conditions.specs.rules.Costs.{numbers, Lacks}
-use Rattle.semantics.specs.Cells.{or_zero}
+use Rattle.semantics.specs.Written.{or_zero}
 use Rattle.laws_conditions.specs.rules.Moves.{dest_of}
 use Rattle.laws_phases.specs.facts.Known.{known_at_place, HoldsTest, KnownHold}
 use Rattle.laws_phases.specs.facts.Owing.{IsOther, IsUntouched, LeavesKnown, AreFactsStable}

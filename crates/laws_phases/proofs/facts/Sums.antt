@@ -19,7 +19,7 @@ use Rattle.ranges.specs.Truth.{operand_value, parts_value, sum_value, IsTrueAt}
 use Rattle.ranges.specs.Places.{stated}
 use Rattle.ranges.proofs.Truth.{facts_true}
 use Rattle.laws_conditions.specs.rules.Costs.{numbers}
-use Rattle.semantics.specs.Cells.{or_zero}
+use Rattle.semantics.specs.Written.{or_zero}
 use Rattle.laws_phases.specs.facts.Known.{IsMet}
 
 -- a number that is there

@@ -42,7 +42,8 @@ use Rattle.ranges.specs.Sums.{is_met}
 use Rattle.ranges.specs.Truth.{operand_value, IsTrueAt}
 use Rattle.ranges.specs.ranges_owed.Scales.{scale_of}
 use Rattle.ranges.specs.ranges_owed.Owed.{must, half, last_bit, is_not_zero, is_not_least_by_minus_one, product_owed, binary_owed, index_owed, owed, greatest as greatest_owed, is_amount as amount_owed}
-use Rattle.program.specs.Cells.{object_cells as cells_owed, global_cells, alloca_cells, parameter_cells}
+use Rattle.program.specs.Cells.{global_cells, alloca_cells, parameter_cells}
+use Rattle.program.specs.Objects.{object_cells as cells_owed}
 use Rattle.ranges.proofs.Truth.{met_true}
 use Rattle.laws_conditions.specs.rules.Costs.{numbers}
 use Rattle.laws_phases.specs.facts.Known.{known_at_place}

@@ -7,9 +7,11 @@ use Rattle.std.proofs.lemmas.Bool.Decides.{eqb_tells}
 use Rattle.std.proofs.lemmas.List.Elements.{All-contains, All-head, All-tail}
 use Rattle.linear.specs.declared.form.RegisterId.{RegisterId}
 use Rattle.linear.specs.declared.form.Term.{Term}
-use Rattle.linear.specs.Forms.{Combination, value_of, value}
+use Rattle.linear.specs.Forms.{value_of, value}
+use Rattle.linear.specs.Terms.{Combination}
 use Rattle.semantics.specs.Paths.{Path}
-use Rattle.semantics.specs.Cells.{Object, Cell, or_zero}
+use Rattle.semantics.specs.Cells.{Object, Cell}
+use Rattle.semantics.specs.Written.{or_zero}
 use Rattle.semantics.specs.Frames.{Value, Word, Pointer, Frame, and_then, cell_of, word_of, word_at, object_at, first_cell}
 use Rattle.semantics.specs.Effect.{argument_value, argument_values}
 use Rattle.semantics.specs.State.{called}

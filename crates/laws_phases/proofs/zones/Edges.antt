@@ -7,7 +7,8 @@ use Rattle.std.proofs.lemmas.List.Folds.{Any-from_list_any}
 use Rattle.linear.specs.declared.form.RegisterId.{RegisterId}
 use Rattle.linear.specs.declared.form.Term.{Term}
 use Rattle.linear.specs.declared.form.Fact.{Fact}
-use Rattle.linear.specs.Forms.{Combination, value_of, value}
+use Rattle.linear.specs.Forms.{value_of, value}
+use Rattle.linear.specs.Terms.{Combination}
 use Rattle.linear_shown.specs.Shown.{AllHold}
 use Rattle.semantics.specs.Cells.{Cell}
 use Rattle.semantics.specs.Frames.{Frame, object_at}

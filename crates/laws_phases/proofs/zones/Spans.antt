@@ -5,7 +5,8 @@ use Rattle.std.proofs.lemmas.Bool.{false≢true, not-true, or_cases}
 use Rattle.std.proofs.lemmas.Int.{ints}
 use Rattle.linear.specs.declared.form.Term.{Term}
 use Rattle.linear.specs.declared.form.Fact.{Fact}
-use Rattle.linear.specs.Forms.{Combination, value_of, value}
+use Rattle.linear.specs.Forms.{value_of, value}
+use Rattle.linear.specs.Terms.{Combination}
 use Rattle.linear_shown.specs.Shown.{AllHold}
 use Rattle.semantics.specs.Cells.{Cell}
 use Rattle.semantics.specs.Frames.{Frame, object_at}

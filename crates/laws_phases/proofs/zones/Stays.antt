@@ -3,8 +3,10 @@ use Rattle.std.proofs.Common.{◌≡◌, ◌∙◌, ℕ, pos, ◌+ℤ◌, ◌*�
 use Rattle.std.specs.Prelude.{All}
 use Rattle.std.proofs.lemmas.List.Elements.{All-head, All-tail}
 use Rattle.linear.specs.declared.form.Term.{Term}
-use Rattle.linear.specs.Forms.{Combination, value_of, value}
-use Rattle.semantics.specs.Cells.{Cell, or_zero}
+use Rattle.linear.specs.Forms.{value_of, value}
+use Rattle.linear.specs.Terms.{Combination}
+use Rattle.semantics.specs.Cells.{Cell}
+use Rattle.semantics.specs.Written.{or_zero}
 use Rattle.semantics.specs.Frames.{Value, Registers, Frame, and_then, cell_of, word_of, object_at}
 use Rattle.semantics.specs.Effect.{Effect}
 use Rattle.semantics.specs.State.{went}

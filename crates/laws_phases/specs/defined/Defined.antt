@@ -16,7 +16,8 @@ use Rattle.definedness.specs.Needs.{gives, given_of}
 use Rattle.definedness.specs.declared.act.Act.TheVariants.{Needs}
 use Rattle.definedness.specs.RegisterActs.{phi_gives, start_gives, instruction_needs}
 use Rattle.region_match.specs.Matched.{AreRegionsRight}
-use Rattle.definedness.specs.Definedness.{register_table, AreRegistersDefined}
+use Rattle.definedness.specs.Definedness.{register_table}
+use Rattle.definedness.specs.Defined.{AreRegistersDefined}
 use Rattle.laws_conditions.specs.rules.Moves.{dest_of}
 use Rattle.laws_conditions.specs.rules.Registers.{Registered, GivesNumber}
 use Rattle.laws_phases.specs.defined.Leads.{IsBlock}

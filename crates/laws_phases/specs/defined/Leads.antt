@@ -10,22 +10,12 @@ use Rattle.cfg.specs.declared.structure.Way.TheVariants as way
 use Rattle.laws_conditions.specs.rules.Moves.{JumpsTo, SyncsTo}
 
 abbrev pub DetachesTo : Terminator → ℕ → Type 0
-DetachesTo (terminator.Jump target) b = ⊥
-DetachesTo (terminator.Branch test x y) b = ⊥
-DetachesTo (terminator.Switch w a default cases) b = ⊥
-DetachesTo (terminator.Return value) b = ⊥
 DetachesTo (terminator.Detach region body continuation) b = body.0 ≡ b
-DetachesTo (terminator.Reattach region continuation) b = ⊥
-DetachesTo (terminator.Sync region target) b = ⊥
+DetachesTo other b = ⊥
 
 abbrev pub ContinuesTo : Terminator → ℕ → Type 0
-ContinuesTo (terminator.Jump target) b = ⊥
-ContinuesTo (terminator.Branch test x y) b = ⊥
-ContinuesTo (terminator.Switch w a default cases) b = ⊥
-ContinuesTo (terminator.Return value) b = ⊥
 ContinuesTo (terminator.Detach region body continuation) b = continuation.0 ≡ b
-ContinuesTo (terminator.Reattach region continuation) b = ⊥
-ContinuesTo (terminator.Sync region target) b = ⊥
+ContinuesTo other b = ⊥
 
 -- the terminator leads to the block this way; a reattach leads nowhere in its frame
 abbrev pub LeadsTo : Terminator → Way → ℕ → Type 0

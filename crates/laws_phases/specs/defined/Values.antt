@@ -42,17 +42,9 @@ use Rattle.laws_phases.specs.defined.Placed.{Placed}
 
 -- the cell that the instruction reads
 abbrev pub Reads : Instruction → Address → Type 0
-Reads (instruction.Binary d op w a b) x = ⊥
-Reads (instruction.Compare d by w a b) x = ⊥
-Reads (instruction.Convert d by a) x = ⊥
-Reads (instruction.Alloca d a) x = ⊥
-Reads (instruction.ElementPointer d name i) x = ⊥
 Reads (instruction.Load d a) x = a ≡ x
-Reads (instruction.Store v a) x = ⊥
-Reads (instruction.StoreZeros n name) x = ⊥
 Reads (instruction.AtomicAdd a v) x = a ≡ x
-Reads (instruction.Call d g arguments) x = ⊥
-Reads (instruction.StartRegion d) x = ⊥
+Reads other x = ⊥
 
 -- a step of the block before this one points to an element of the object
 pub record IsElement (prog : Program) (f b i : ℕ) (r : RegisterId) : Type 0 where

@@ -35,10 +35,8 @@ outs_along known steps (terminator.Branch condition when_true when_false) =
     outs_of known (edges_out steps (terminator.Branch condition when_true when_false))
 outs_along known steps (terminator.Switch width value default cases) =
     outs_of known (edges_out steps (terminator.Switch width value default cases))
-outs_along known steps (terminator.Return value) = []
-outs_along known steps (terminator.Detach region body continuation) = []
-outs_along known steps (terminator.Reattach region continuation) = []
 outs_along known steps (terminator.Sync region target) = outs_of known (edges_out steps (terminator.Sync region target))
+outs_along known steps other = []
 
 abbrev pub outs_behind : List Fact → List Step → Option Ending → List Out
 outs_behind known steps None = []

@@ -2,7 +2,8 @@
 use Rattle.std.specs.Prelude.{◌≡◌, ℕ, Option, Some, None, Bool, true, is_some, All, slice_get, length, ℤ, if◌then◌else◌}
 use Rattle.std.specs.Prelude.{◌==◌}
 use Rattle.semantics.specs.Paths.{Path}
-use Rattle.semantics.specs.Cells.{Memory, or_zero}
+use Rattle.semantics.specs.Cells.{Memory}
+use Rattle.semantics.specs.Written.{or_zero}
 use Rattle.semantics.specs.Frames.{Registers, Frame}
 use Rattle.semantics.specs.SerialMeaning.{Gave}
 use Rattle.laws_conditions.specs.theorem.SerialConditions.{Says, Finds, KeptSerially}

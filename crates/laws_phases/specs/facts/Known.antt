@@ -47,18 +47,9 @@ IsMet v q = value v q.low ≤ℤ value v q.high
 
 -- a compare's register holds what the compare says of its operands as they are
 abbrev pub HoldsTest : Registers → Instruction → Type 0
-HoldsTest r (instruction.Binary d operator width x y) = Unit {0}
 HoldsTest r (instruction.Compare d predicate width x y) =
     r d.0 ≡ Some (Truth (compares predicate width (operand_value (numbers r) x) (operand_value (numbers r) y)))
-HoldsTest r (instruction.Convert d conversion x) = Unit {0}
-HoldsTest r (instruction.Alloca d alloca) = Unit {0}
-HoldsTest r (instruction.ElementPointer d object index) = Unit {0}
-HoldsTest r (instruction.Load d address) = Unit {0}
-HoldsTest r (instruction.Store x address) = Unit {0}
-HoldsTest r (instruction.StoreZeros cells object) = Unit {0}
-HoldsTest r (instruction.AtomicAdd address x) = Unit {0}
-HoldsTest r (instruction.Call d callee arguments) = Unit {0}
-HoldsTest r (instruction.StartRegion d) = Unit {0}
+HoldsTest r other = Unit {0}
 
 -- the facts of the frame's place are true of its registers, and so are the compares that it has done in its block
 pub record KnownHold (prog : Program) (f : Frame) : Type 0 where

@@ -79,14 +79,11 @@ abbrev pub Avoids : ℕ → Instruction → Type 0
 Avoids d (instruction.Binary e operator width x y) = IsOther d x × IsOther d y
 Avoids d (instruction.Compare e predicate width x y) = IsOther d x × IsOther d y
 Avoids d (instruction.Convert e conversion x) = IsOther d x
-Avoids d (instruction.Alloca e alloca) = Unit {0}
 Avoids d (instruction.ElementPointer e object index) = IsOther d index
-Avoids d (instruction.Load e address) = Unit {0}
 Avoids d (instruction.Store x address) = IsOther d x
-Avoids d (instruction.StoreZeros cells object) = Unit {0}
 Avoids d (instruction.AtomicAdd address x) = IsOther d x
 Avoids d (instruction.Call e callee arguments) = All (IsOtherArgument d) arguments
-Avoids d (instruction.StartRegion e) = Unit {0}
+Avoids d other = Unit {0}
 
 -- an instruction that stands before it in its block defines another register, and reads others
 pub record IsUntouched (d : ℕ) (i : Instruction) : Type 0 where
@@ -134,16 +131,8 @@ FitsConversion r ZeroExtend x = FitsAt r Bits32 x
 -- that it extends
 abbrev pub FitsWidths : Registers → Instruction → Type 0
 FitsWidths r (instruction.Binary d operator width x y) = FitsText width y
-FitsWidths r (instruction.Compare d predicate width x y) = Unit {0}
 FitsWidths r (instruction.Convert d conversion x) = FitsConversion r conversion x
-FitsWidths r (instruction.Alloca d alloca) = Unit {0}
-FitsWidths r (instruction.ElementPointer d object index) = Unit {0}
-FitsWidths r (instruction.Load d address) = Unit {0}
-FitsWidths r (instruction.Store x address) = Unit {0}
-FitsWidths r (instruction.StoreZeros cells object) = Unit {0}
-FitsWidths r (instruction.AtomicAdd address x) = Unit {0}
-FitsWidths r (instruction.Call d callee arguments) = Unit {0}
-FitsWidths r (instruction.StartRegion d) = Unit {0}
+FitsWidths r other = Unit {0}
 
 abbrev pub HasWidths : Program → Frame → Type 0
 HasWidths prog f = (i : Instruction) → item_at prog f.function f.block f.index ≡ Some (Does i) →

@@ -70,17 +70,10 @@ NamesApart prog f =
 
 -- the instruction loads from, stores at or adds at the address
 abbrev pub IsAt : Instruction → Address → Type 0
-IsAt (instruction.Binary d op w a b) address = ⊥
-IsAt (instruction.Compare d by w a b) address = ⊥
-IsAt (instruction.Convert d by a) address = ⊥
-IsAt (instruction.Alloca d a) address = ⊥
-IsAt (instruction.ElementPointer d name i) address = ⊥
 IsAt (instruction.Load d at) address = at ≡ address
 IsAt (instruction.Store a at) address = at ≡ address
-IsAt (instruction.StoreZeros cells name) address = ⊥
 IsAt (instruction.AtomicAdd at a) address = at ≡ address
-IsAt (instruction.Call d callee arguments) address = ⊥
-IsAt (instruction.StartRegion d) address = ⊥
+IsAt other address = ⊥
 
 -- at a use of an element its register holds the cell that the `getelementptr` of the block names, as the registers are
 abbrev pub ElementsHold : Frame → Block → Type 0

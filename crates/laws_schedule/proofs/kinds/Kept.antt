@@ -11,7 +11,7 @@ use Rattle.linear.specs.declared.form.RegisterId.{RegisterId}
 use Rattle.program.specs.declared.function.Function.{Function}
 use Rattle.program.specs.declared.function.Program.{Program}
 use Rattle.program.specs.declared.instruction.Instruction.TheVariants as instruction
-use Rattle.program.specs.Calls.{parameters_in}
+use Rattle.program.specs.Heads.{parameters_in}
 use Rattle.laws_conditions.specs.rules.InProofs.{Moves, is_next, is_along}
 use Rattle.laws_conditions.specs.rules.Moves.{Calls}
 use Rattle.laws_conditions.proofs.rules.Moves.{moves, syncs_along, calls_here}

@@ -8,7 +8,11 @@ use Rattle.semantics.specs.Paths.{Path}
 use Rattle.semantics.specs.Cells.{Cell, Memory}
 use Rattle.semantics.specs.Frames.{Value, Word, Pointer, Registers, Wait, Free, OnRegion, OnCall, Frame}
 use Rattle.semantics.specs.Effect.{Effect, Action, Plain, Sync, Call, action_of}
-use Rattle.semantics.specs.State.{State, Change, plain_change, detach_change, reattach_change, sync_change, call_change, return_change, end_change, apply, override, applied, change_of, went, wait_after, detached, continued, synced, called, waiting, with_result, resumed, only, both, root_frame, start_state}
+use Rattle.semantics.specs.State.{State, Change, plain_change, detach_change, reattach_change, sync_change, call_change}
+use Rattle.semantics.specs.State.{return_change, end_change, apply, override, change_of, went, wait_after, detached}
+use Rattle.semantics.specs.State.{continued, synced, called, waiting, with_result, resumed, only, both, root_frame}
+use Rattle.semantics.specs.State.{start_state}
+use Rattle.semantics.specs.CoreSteps.{applied}
 use Rattle.semantics.proofs.Places.{only_at, both_at}
 use Rattle.semantics.proofs.Starting.{at_start}
 use Rattle.semantics.proofs.Steps.{Does as Does_step, plain, detach, reattach, sync, call, ret, end, does}

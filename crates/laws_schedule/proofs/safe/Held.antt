@@ -8,7 +8,8 @@ use Rattle.semantics.specs.Effect.{Action, Plain, Detach, Reattach, Sync, Call, 
 use Rattle.semantics.specs.State.{State, Change, apply, may_go, childless, start_state}
 use Rattle.semantics.specs.Tree.{Tree}
 use Rattle.semantics.specs.Events.{Machine, Event, start}
-use Rattle.semantics.specs.Replay.{replay, NeverTraps}
+use Rattle.semantics.specs.Replay.{replay}
+use Rattle.semantics.specs.Sound.{NeverTraps}
 use Rattle.semantics.proofs.Diamond.{same_frame}
 use Rattle.semantics.proofs.Starting.{start_tree}
 use Rattle.semantics.proofs.Steps.{Does as DoesStep, plain, detach, reattach, sync, call, ret, end}

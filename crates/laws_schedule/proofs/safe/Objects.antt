@@ -2,7 +2,8 @@
 use Rattle.std.proofs.Common.{◌≡◌, ◌≢◌, ◌∙◌, inl, inr, ℕ, zero, suc, map, ◌<◌, ◌≤◌, List, [], ◌∷◌, Option, Some, None, refl, sym, ap, subst, arith, slice_get, ℤ}
 use Rattle.std.proofs.lemmas.Bool.Decides.{eqb_tells}
 use Rattle.linear.specs.declared.form.RegisterId.{RegisterId}
-use Rattle.semantics.specs.Paths.{Path, Under, itself, deeper}
+use Rattle.semantics.specs.Paths.{Path}
+use Rattle.semantics.specs.Below.{Under, itself, deeper}
 use Rattle.semantics.specs.Cells.{Object, Shared, Local, Cell, Memory}
 use Rattle.semantics.specs.Frames.{Value, Word, Registers, OnRegion, OnCall, Frame, Does, and_then, item_at, global_cells, cells_of, cell_of, object_at, word_at}
 use Rattle.semantics.specs.Effect.{Effect, Plain, Sync, given, points, instruction_action, item_action, action_of}

@@ -1,6 +1,7 @@
 -- Frames above a living frame live, and stay frames of their functions; so a frame may use what it might before.
 use Rattle.std.proofs.Common.{◌≡◌, ◌∙◌, inl, inr, ℕ, ◌≤◌, ◌∷◌, Option, Some, None, sym, refl, ap, subst, arith}
-use Rattle.semantics.specs.Paths.{Path, Under, itself, deeper}
+use Rattle.semantics.specs.Paths.{Path}
+use Rattle.semantics.specs.Below.{Under, itself, deeper}
 use Rattle.semantics.specs.Cells.{Object, Shared, Local}
 use Rattle.semantics.specs.Frames.{Frame, cells_of}
 use Rattle.semantics.specs.State.{State, Change, apply}

@@ -6,7 +6,8 @@ use Rattle.semantics.specs.Frames.{Frame}
 use Rattle.semantics.specs.Effect.{action_of}
 use Rattle.semantics.specs.State.{State, Change, apply, change_of, trap_change}
 use Rattle.semantics.specs.Events.{Machine, Event, Step, Steal, Status, Ready, Running, Stalled, if_ready, stolen, status_of, event, by_change, stepped, next_hand}
-use Rattle.semantics.specs.Replay.{or_unchanged, replay, NeverTraps}
+use Rattle.semantics.specs.Replay.{or_unchanged, replay}
+use Rattle.semantics.specs.Sound.{NeverTraps}
 use Rattle.semantics.proofs.Steps.{Does, does}
 use Rattle.program.specs.declared.function.Program.{Program}
 use Rattle.laws_conditions.proofs.theorem.Theorem.{not_trapped}

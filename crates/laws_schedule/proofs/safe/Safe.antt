@@ -7,7 +7,8 @@ use Rattle.semantics.specs.Effect.{Return, action_of}
 use Rattle.semantics.specs.Frames.{Frame, Ends, item_at}
 use Rattle.semantics.specs.State.{State}
 use Rattle.semantics.specs.Events.{Machine, Event, Step, start}
-use Rattle.semantics.specs.Replay.{or_unchanged, replay, NeverTraps}
+use Rattle.semantics.specs.Replay.{or_unchanged, replay}
+use Rattle.semantics.specs.Sound.{NeverTraps}
 use Rattle.laws_conditions.specs.theorem.Schedules.{KeepsSchedule}
 use Rattle.program.specs.declared.function.Program.{Program}
 use Rattle.program.specs.declared.instruction.Terminator.{Terminator}

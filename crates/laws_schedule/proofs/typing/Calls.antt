@@ -24,7 +24,7 @@ use Rattle.types.specs.Call.{fits_result, argument_of, expected, parameter_of}
 use Rattle.types.specs.Instruction.{defined_of, call_register_of}
 use Rattle.types.specs.Meaning.{Means}
 use Rattle.laws_conditions.specs.rules.Costs.{parameters_of}
-use Rattle.program.specs.Calls.{parameters_in}
+use Rattle.program.specs.Heads.{parameters_in}
 use Rattle.laws_conditions.specs.rules.Registers.{is_number, gives_number, returns_number}
 use Rattle.laws_phases.specs.defined.Leads.{IsBlock}
 use Rattle.laws_phases.proofs.defined.Items.{stands, step_there}

@@ -7,7 +7,7 @@ use Rattle.std.proofs.lemmas.List.Elements.{All-nil, All-cons, All-head, All-tai
 use Rattle.linear.specs.declared.form.Form.{Form}
 use Rattle.linear.specs.declared.form.RegisterId.{RegisterId}
 use Rattle.linear.specs.declared.form.Term.{Term}
-use Rattle.linear.specs.Forms.{constant_form}
+use Rattle.linear.specs.Terms.{constant_form}
 use Rattle.linear.specs.Made.{is_below, coefficient_at, placed_at, placed, with_terms, with_term}
 use Rattle.std.specs.List.{prefix_len}
 use Rattle.program.specs.declared.annotation.Inequality.{Inequality}

@@ -26,7 +26,7 @@ use Rattle.types.specs.Apart.{AddressNames, InstructionNames}
 use Rattle.types.specs.Call.{Named, argument_of, expected, parameter_of}
 use Rattle.types.specs.Meaning.{Means}
 use Rattle.laws_conditions.specs.rules.Costs.{parameters_of}
-use Rattle.program.specs.Calls.{parameters_in}
+use Rattle.program.specs.Heads.{parameters_in}
 use Rattle.laws_phases.specs.defined.Values.{Reads}
 use Rattle.laws_schedule.proofs.typing.Parts.{FunctionFrom, function_to}
 use Rattle.laws_schedule.proofs.typing.Instructions.{ObjectOf, AddressOf, CallOf, Uses}

@@ -23,7 +23,7 @@ use Rattle.types.specs.Call.{parameter_of}
 use Rattle.types.specs.Function.{result_register}
 use Rattle.types.specs.Meaning.{Means}
 use Rattle.laws_conditions.specs.rules.Costs.{parameters_of, measure_in, measure_of}
-use Rattle.program.specs.Calls.{parameters_in}
+use Rattle.program.specs.Heads.{parameters_in}
 use Rattle.laws_conditions.specs.rules.Registers.{is_number, gives_number, returns_number}
 use Rattle.laws_phases.specs.defined.Names.{NamesOnly}
 use Rattle.laws_phases.specs.defined.Known.{IsPut, NamesParameters}

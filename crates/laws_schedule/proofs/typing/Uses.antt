@@ -7,7 +7,9 @@ use Rattle.program.specs.declared.function.Function.{Function}
 use Rattle.program.specs.declared.function.Program.{Program}
 use Rattle.refusal.specs.declared.broken.Broken.{Broken}
 use Rattle.laws_phases.specs.definedness.declared.act.Act.TheVariants.{Needs}
-use Rattle.laws_phases.specs.definedness.Definedness.{register_table, AreRegistersDefined, IsUndefined, IsFunctionBroken, IsDefinednessBroken}
+use Rattle.laws_phases.specs.definedness.Definedness.{register_table, IsUndefined, IsFunctionBroken}
+use Rattle.laws_phases.specs.definedness.Definedness.{IsDefinednessBroken}
+use Rattle.laws_phases.specs.definedness.Defined.{AreRegistersDefined}
 use Rattle.laws_phases.specs.definedness.Missing.{defined_along}
 use Rattle.laws_phases.specs.definedness.Needs.{gives, given_of}
 use Rattle.laws_phases.specs.defined.Defined.{AreUsesDefined}

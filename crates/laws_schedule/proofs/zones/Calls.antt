@@ -3,7 +3,8 @@ use Rattle.std.proofs.Common.{◌≡◌, ◌≢◌, ◌∙◌, inl, inr, ℕ, �
 use Rattle.std.specs.List.{Contains}
 use Rattle.std.proofs.lemmas.Bool.{cases_eq, ne_eqb}
 use Rattle.linear.specs.declared.form.RegisterId.{RegisterId}
-use Rattle.semantics.specs.Paths.{Path, itself}
+use Rattle.semantics.specs.Paths.{Path}
+use Rattle.semantics.specs.Below.{itself}
 use Rattle.semantics.specs.Cells.{Cell, Memory}
 use Rattle.semantics.specs.Frames.{Value, Word, OnCall, Frame, Does, item_at, set_register}
 use Rattle.semantics.specs.Effect.{Call, action_of}
@@ -27,7 +28,7 @@ use Rattle.types.specs.Definitions.{IsFrom}
 use Rattle.laws_phases.specs.region_match.declared.tables.Regions.{Regions}
 use Rattle.laws_phases.specs.region_match.Tasks.{innermost}
 use Rattle.laws_phases.specs.footprints.Rules.{covering_of}
-use Rattle.program.specs.Calls.{parameters_in}
+use Rattle.program.specs.Heads.{parameters_in}
 use Rattle.laws_conditions.specs.rules.Moves.{number_of, Calls}
 use Rattle.laws_conditions.proofs.rules.Moves.{calls_here}
 use Rattle.laws_phases.specs.defined.Placed.{IsPlaced}

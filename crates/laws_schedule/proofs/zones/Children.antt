@@ -4,7 +4,8 @@ use Rattle.std.specs.List.{Contains}
 use Rattle.std.proofs.lemmas.Bool.{false≢true}
 use Rattle.syntax.specs.declared.operator.Mode.{Mode}
 use Rattle.syntax.specs.declared.operator.Mode.TheVariants.{Reads, Adds}
-use Rattle.semantics.specs.Paths.{Path, deeper}
+use Rattle.semantics.specs.Paths.{Path}
+use Rattle.semantics.specs.Below.{deeper}
 use Rattle.semantics.specs.Cells.{Cell, Memory}
 use Rattle.semantics.specs.Frames.{Child, Body, Frame, block_at, block_phis, phis_at, and_then}
 use Rattle.semantics.specs.Effect.{Detach, action_of}

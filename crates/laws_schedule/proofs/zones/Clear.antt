@@ -6,7 +6,8 @@ use Rattle.std.proofs.lemmas.List.Elements.{All-contains}
 use Rattle.syntax.specs.declared.operator.Mode.{Mode}
 use Rattle.syntax.specs.declared.operator.Mode.TheVariants.{Reads, Writes, Adds}
 use Rattle.linear.specs.declared.form.RegisterId.{RegisterId}
-use Rattle.semantics.specs.Paths.{Path, Under, itself}
+use Rattle.semantics.specs.Paths.{Path}
+use Rattle.semantics.specs.Below.{Under, itself}
 use Rattle.semantics.specs.Cells.{Local, Cell}
 use Rattle.semantics.specs.Frames.{Frame, and_then, block_at}
 use Rattle.semantics.specs.Effect.{Effect}

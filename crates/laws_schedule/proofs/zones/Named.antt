@@ -30,7 +30,7 @@ use Rattle.types.specs.Call.{parameter_of}
 use Rattle.types.specs.Function.{function_with, head_zones_of, function_of, functions_of}
 use Rattle.types.specs.Meaning.{Means}
 use Rattle.laws_conditions.specs.rules.Costs.{parameters_of}
-use Rattle.program.specs.Calls.{parameters_in as parameters_there, parameters_in}
+use Rattle.program.specs.Heads.{parameters_in as parameters_there, parameters_in}
 use Rattle.laws_phases.proofs.defined.Items.{block_is, item_there}
 use Rattle.laws_phases.proofs.defined.Lists.{none_within, at_within}
 use Rattle.laws_schedule.proofs.typing.Parts.{FunctionFrom, function_from}

@@ -1,7 +1,8 @@
 -- Objects below a frame: what a frame names is no alloca of a child of it, and two children own different ones.
 use Rattle.std.proofs.Common.{◌≡◌, ◌∙◌, ℕ, suc, ◌<◌, ◌≤◌, List, [], ◌∷◌, length, Some, cond, eqb, refl, sym, subst, arith}
 use Rattle.std.proofs.lemmas.Bool.{eq-eqb, ne_eqb}
-use Rattle.semantics.specs.Paths.{Path, Under, itself, deeper}
+use Rattle.semantics.specs.Paths.{Path}
+use Rattle.semantics.specs.Below.{Under, itself, deeper}
 use Rattle.semantics.specs.Cells.{Object, Shared, Local, Cell}
 use Rattle.semantics.specs.Frames.{Pointer, Frame, object_at}
 use Rattle.laws_conditions.specs.theorem.Conditions.{OwnedBelow}

@@ -1,7 +1,8 @@
 -- The first frame keeps to the zones of its function.
 use Rattle.std.proofs.Common.{◌≡◌, ◌∙◌, inr, List, [], Some, true, ℤ, refl, sym, ap, subst, arith, slice_get}
 use Rattle.std.specs.List.{Contains}
-use Rattle.semantics.specs.Paths.{Path, itself}
+use Rattle.semantics.specs.Paths.{Path}
+use Rattle.semantics.specs.Below.{itself}
 use Rattle.semantics.specs.Frames.{Frame}
 use Rattle.semantics.specs.State.{root_frame}
 use Rattle.program.specs.declared.function.Block.{Block}

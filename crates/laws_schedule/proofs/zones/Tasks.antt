@@ -13,7 +13,7 @@ use Rattle.program.specs.declared.function.Program.{Program}
 use Rattle.program.specs.declared.instruction.Terminator.{Terminator}
 use Rattle.program.specs.declared.instruction.Terminator.TheVariants as terminator
 use Rattle.types.specs.Apart.{IsNamedBy, in_zone, in_foot, parameters_at}
-use Rattle.program.specs.Calls.{parameters_in}
+use Rattle.program.specs.Heads.{parameters_in}
 use Rattle.laws_phases.specs.cfg.Edges.{graph_of, graphs_of}
 use Rattle.laws_phases.proofs.cfg.EdgeLists.{length-edges_from}
 use Rattle.laws_phases.specs.definedness.declared.act.Act.TheVariants.{Needs}

@@ -4,9 +4,11 @@ use Rattle.std.specs.List.{All, Contains}
 use Rattle.std.proofs.lemmas.List.Elements.{All-weaker, All-contains_itself, Contains-append_left, Contains-append_right}
 use Rattle.linear.specs.declared.form.RegisterId.{RegisterId}
 use Rattle.linear.specs.declared.form.Term.{Term}
-use Rattle.linear.specs.Forms.{Combination, value}
+use Rattle.linear.specs.Forms.{value}
+use Rattle.linear.specs.Terms.{Combination}
 use Rattle.linear.proofs.Values.{value_same}
-use Rattle.semantics.specs.Cells.{Cell, or_zero}
+use Rattle.semantics.specs.Cells.{Cell}
+use Rattle.semantics.specs.Written.{or_zero}
 use Rattle.semantics.specs.Frames.{Frame, and_then, cell_of, word_of, object_at}
 use Rattle.program.specs.declared.annotation.Zone.{Zone}
 use Rattle.program.specs.declared.function.Alloca.{Alloca as AllocaOf}

@@ -4,7 +4,7 @@ use Rattle.std.specs.Prelude.{ℤ}
 use Rattle.semantics.specs.Paths.{Path}
 use Rattle.semantics.specs.Cells.{Memory}
 use Rattle.semantics.specs.Arithmetic.{fits}
-use Rattle.semantics.specs.Frames.{Value, Word, Truth, Pointer, Region, Registers, Wait, Free, OnRegion, OnCall, Halted}
+use Rattle.semantics.specs.Frames.{Value, Word, Truth, Pointer, Region, Registers, Wait, OnCall}
 use Rattle.semantics.specs.Frames.{Frame}
 use Rattle.linear.specs.declared.form.RegisterId.{RegisterId}
 use Rattle.syntax.specs.declared.operator.Width.{Width}
@@ -66,10 +66,8 @@ is_result kinds None = true
 is_result kinds (Some d) = is_wide_number (slice_get kinds d.0)
 
 abbrev pub awaits_number : List RegisterKind → Wait → Bool
-awaits_number kinds Free = true
-awaits_number kinds (OnRegion region) = true
 awaits_number kinds (OnCall k d) = is_result kinds d
-awaits_number kinds Halted = true
+awaits_number kinds other = true
 
 abbrev pub is_kinded_in : Option Function → Frame → Bool
 is_kinded_in None f = true

@@ -3,7 +3,8 @@ use Rattle.std.specs.Prelude.{◌≡◌, ℕ, ◌<◌, List, Some, Ok, ℤ}
 use Rattle.semantics.specs.Paths.{Path}
 use Rattle.semantics.specs.Cells.{Object, Memory}
 use Rattle.semantics.specs.Frames.{Frame, object_at}
-use Rattle.semantics.specs.State.{State, core_step, start_state}
+use Rattle.semantics.specs.State.{State, start_state}
+use Rattle.semantics.specs.CoreSteps.{core_step}
 use Rattle.program.specs.declared.function.Function.{Function}
 use Rattle.program.specs.declared.function.Program.{Program}
 use Rattle.program.specs.declared.identifier.ObjectName.{ObjectName}

@@ -5,7 +5,8 @@ use Rattle.semantics.specs.Cells.{Memory}
 use Rattle.semantics.specs.Frames.{Frame}
 use Rattle.semantics.specs.State.{State}
 use Rattle.semantics.specs.Events.{Machine, Event, start}
-use Rattle.semantics.specs.Replay.{NeverTraps, replay}
+use Rattle.semantics.specs.Replay.{replay}
+use Rattle.semantics.specs.Sound.{NeverTraps}
 use Rattle.program.specs.declared.function.Program.{Program}
 use Rattle.laws_schedule.specs.zones.ByPhases.{IsKeptBySteps}
 

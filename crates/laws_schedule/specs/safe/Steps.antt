@@ -3,10 +3,11 @@ use Rattle.std.specs.Prelude.{◌≡◌, ℕ, ◌<◌, List, [], ◌∷◌, Opti
 use Rattle.semantics.specs.Paths.{Path}
 use Rattle.semantics.specs.Cells.{Shared, Memory}
 use Rattle.semantics.specs.Frames.{OnCall, Child, Body, Frame}
-use Rattle.semantics.specs.Effect.{Action, Plain, Detach, Reattach, Sync, Call, Return, action_of}
+use Rattle.semantics.specs.Effect.{Action, Plain, Reattach, Return, action_of}
 use Rattle.semantics.specs.State.{State, may_go, childless}
 use Rattle.semantics.specs.Events.{Event, start}
-use Rattle.semantics.specs.Replay.{replay, NeverTraps}
+use Rattle.semantics.specs.Replay.{replay}
+use Rattle.semantics.specs.Sound.{NeverTraps}
 use Rattle.linear.specs.declared.form.RegisterId.{RegisterId}
 use Rattle.program.specs.declared.function.Program.{Program}
 use Rattle.laws_phases.specs.facts.Traps.{IsReady}
@@ -45,11 +46,9 @@ pub record Returns (s : State) (p : Path) (f : Frame) : Type 0 where
 -- what the step is about to do: no trap, and no end with a child left
 abbrev pub Does : State → Path → Frame → Action → Type 0
 Does s p f (Plain e) = e.trap ≡ None
-Does s p f (Detach region body continuation) = Unit {0}
 Does s p f (Reattach region) = Joins s p f region
-Does s p f (Sync region block registers) = Unit {0}
-Does s p f (Call d callee values) = Unit {0}
 Does s p f (Return result) = Returns s p f
+Does s p f other = Unit {0}
 
 -- it may go on, all that its instruction or terminator reads is there, and it does what that says
 pub record IsSteady (prog : Program) (s : State) (p : Path) (f : Frame) : Type 0 where

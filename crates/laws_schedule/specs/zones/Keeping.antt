@@ -3,7 +3,8 @@ use Rattle.std.specs.Prelude.{◌≡◌, ◌⊎◌, ℕ, suc, ◌<◌, List, ◌
 use Rattle.syntax.specs.declared.operator.Mode.{Mode}
 use Rattle.syntax.specs.declared.operator.Mode.TheVariants.{Reads, Writes, Adds}
 use Rattle.linear.specs.declared.form.RegisterId.{RegisterId}
-use Rattle.semantics.specs.Paths.{Path, Under}
+use Rattle.semantics.specs.Paths.{Path}
+use Rattle.semantics.specs.Below.{Under}
 use Rattle.semantics.specs.Cells.{Object, Cell}
 use Rattle.semantics.specs.Frames.{OnCall, Body, Frame, Does, block_at, item_at, cell_of, object_at}
 use Rattle.semantics.specs.State.{resumed}

@@ -2,7 +2,8 @@
 use Rattle.std.proofs.Common.{◌≡◌, ℕ, zero, suc, ◌+◌, ◌-◌, ◌<◌, ◌≤◌, List, [], ◌∷◌, length, Some, None, Bool, true, false, cond, refl, sym, ap, ◌∙◌, subst, arith}
 use Rattle.semantics.specs.Paths.{Path}
 use Rattle.semantics.specs.Frames.{Role}
-use Rattle.semantics.specs.State.{State, outside, outside_role, children_within}
+use Rattle.semantics.specs.State.{State, outside, outside_role}
+use Rattle.semantics.specs.CoreSteps.{children_within}
 use Rattle.semantics.specs.Counts.{count_of}
 use Rattle.semantics.specs.Events.{Machine}
 use Rattle.semantics.proofs.Actions.{same_path_itself}

@@ -9,7 +9,7 @@ use Rattle.semantics.specs.State.{none_within, clears, continued, detached, wait
 use Rattle.semantics.specs.Effect.{Effect, Plain}
 use Rattle.semantics.specs.State.{change_of}
 use Rattle.semantics.specs.Events.{by_change, Machine, Step, event, with_hand}
-use Rattle.semantics.specs.Replay.{NeverTraps}
+use Rattle.semantics.specs.Sound.{NeverTraps}
 use Rattle.semantics.proofs.Places.{same_path_is}
 use Rattle.laws_strands.specs.Law.{steps_by, Happen}
 use Rattle.laws_strands.proofs.Happening.{steps_more, happen_more, never_later, sound_next}

@@ -1,7 +1,8 @@
 -- A strand over a whole memory.
 use Rattle.std.proofs.Common.{◌≡◌, Option, Some, None, true, refl, sym, ap, ◌∙◌, subst, is_none, is_some, ℤ}
 use Rattle.semantics.specs.Paths.{Path}
-use Rattle.semantics.specs.Cells.{Cell, Memory, or_zero}
+use Rattle.semantics.specs.Cells.{Cell, Memory}
+use Rattle.semantics.specs.Written.{or_zero}
 use Rattle.semantics.specs.Frames.{Frame}
 use Rattle.semantics.specs.Effect.{Action, Plain, Detach, Reattach, Sync, Call, Return, action_of}
 use Rattle.semantics.proofs.Actions.{reads_of, adds_of, action_kept}

@@ -2,13 +2,14 @@
 use Rattle.std.proofs.Common.{◌≡◌, ℕ, suc, ◌+◌, max, List, [], ◌∷◌, Option, Some, None, Bool, true, false, cond, inl, inr, refl, sym, ap, ◌∙◌, subst, arith, eqb, eq-eqb, is_none, is_some, ℤ}
 use Rattle.std.proofs.lemmas.Bool.Decides.{eqb_tells}
 use Rattle.semantics.specs.Paths.{Path}
-use Rattle.semantics.specs.Cells.{Cell, or_zero}
+use Rattle.semantics.specs.Cells.{Cell}
+use Rattle.semantics.specs.Written.{or_zero}
 use Rattle.semantics.specs.Arithmetic.{Undefined, Unmatched}
 use Rattle.semantics.specs.Frames.{Value, Registers, Free, OnCall, Frame}
 use Rattle.semantics.specs.Effect.{Effect, Action, Plain, Detach, Reattach, Sync, Call, Return, action_of}
 use Rattle.semantics.specs.State.{State, Change, override_result, apply, none_within, may_go, detached, continued, called, waiting, plain_change, change_of}
 use Rattle.semantics.specs.Events.{Machine, Step, event, unless_trapped, by_hand, by_frame, by_change, stepped, next_hand, with_hand, takes_parent, unless_held, may_be_taken, after_reattach, caller_of}
-use Rattle.semantics.specs.Replay.{NeverTraps}
+use Rattle.semantics.specs.Sound.{NeverTraps}
 use Rattle.semantics.proofs.Actions.{reads_of, adds_of, action_kept, same_path_itself}
 use Rattle.semantics.proofs.Steps.{plain, change_is}
 use Rattle.semantics.proofs.Workers.{Unheld}

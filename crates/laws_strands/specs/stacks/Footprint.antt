@@ -1,6 +1,7 @@
 -- What a strand knows of memory: what it read of each cell, and what it keeps for those that it wrote.
 use Rattle.std.specs.Prelude.{Option, Some, None, cond, ℤ}
-use Rattle.semantics.specs.Cells.{Cell, Memory, same_cell, or_zero}
+use Rattle.semantics.specs.Cells.{Cell, Memory, same_cell}
+use Rattle.semantics.specs.Written.{or_zero}
 use Rattle.semantics.specs.Arithmetic.{cell_sum}
 use Rattle.semantics.specs.State.{sum_in}
 

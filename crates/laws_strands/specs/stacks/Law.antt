@@ -10,7 +10,8 @@ use Rattle.semantics.specs.State.{State, Change, apply, none_within, outside_rol
 use Rattle.semantics.specs.Tree.{Tree}
 use Rattle.semantics.specs.Events.{Machine, Event, Step, event, with_hand, Running, Ready, top_status, start}
 use Rattle.semantics.specs.Counts.{Counts, count_of}
-use Rattle.semantics.specs.Replay.{NeverTraps, replay}
+use Rattle.semantics.specs.Replay.{replay}
+use Rattle.semantics.specs.Sound.{NeverTraps}
 use Rattle.laws_strands.specs.Law.{steps_by, Happen}
 use Rattle.laws_strands.specs.stacks.Footprint.{Delta, put}
 use Rattle.laws_strands.specs.stacks.Strands.{Placed, Strand, next_action, IsStrand}

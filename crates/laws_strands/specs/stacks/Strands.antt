@@ -136,11 +136,7 @@ pub data IsStrand (prog : Program) : Strand → Type 0 where
 -- a plain instruction does not trap, and what it reads is held
 abbrev pub IsActionHeld : Footprint → Action → Type 0
 IsActionHeld f (Plain e) = (e.trap ≡ None) × Holds f e
-IsActionHeld f (Detach region body continuation) = ⊤
-IsActionHeld f (Reattach region) = ⊤
-IsActionHeld f (Sync region block registers) = ⊤
-IsActionHeld f (Call register callee values) = ⊤
-IsActionHeld f (Return result) = ⊤
+IsActionHeld f other = ⊤
 
 -- what the top frame does with any memory that holds what was read, and into which what was written is put, is the
 -- strand's next action

@@ -8,7 +8,7 @@ use Rattle.std.proofs.lemmas.List.Sums.{sum_by-cons}
 use Rattle.linear.specs.declared.form.Form.{Form}
 use Rattle.linear.specs.declared.form.RegisterId.{RegisterId}
 use Rattle.linear.specs.declared.form.Term.{Term}
-use Rattle.linear.specs.Forms.{constant_form}
+use Rattle.linear.specs.Terms.{constant_form}
 use Rattle.linear.specs.Made.{is_below, is_bounded, coefficient_at, placed_at, placed, with_terms, with_term}
 use Rattle.syntax.specs.declared.annotation.Form.{Form as FormText}
 use Rattle.syntax.specs.declared.annotation.Term.{Term as TermText}

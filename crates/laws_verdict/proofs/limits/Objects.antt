@@ -3,7 +3,8 @@ use Rattle.std.proofs.Common.{◌≡◌, ◌∙◌, ℕ, ◌+◌, ◌*◌, ◌�
 use Rattle.std.specs.Prelude.{slice_get}
 use Rattle.std.specs.List.{All}
 use Rattle.std.proofs.lemmas.List.Elements.{All-append, All-cons, All-contains, All-head, All-nil, All-tail}
-use Rattle.program.specs.Cells.{object_cells, global_cells, alloca_cells, parameter_cells}
+use Rattle.program.specs.Cells.{global_cells, alloca_cells, parameter_cells}
+use Rattle.program.specs.Objects.{object_cells}
 use Rattle.program.specs.declared.function.Alloca.{Alloca}
 use Rattle.program.specs.declared.function.Function.{Function}
 use Rattle.program.specs.declared.function.Global.{Global}

@@ -3,7 +3,8 @@ use Rattle.std.proofs.Common.{◌≡◌, ◌≢◌, ◌∙◌, ◌+◌, ◌-◌,
 use Rattle.std.specs.Prelude.{⊤, slice_get, sum}
 use Rattle.std.proofs.lemmas.Int.{ints}
 use Rattle.std.proofs.lemmas.List.{reverse-append, reverse-reverse}
-use Rattle.semantics.specs.Paths.{Path, Under}
+use Rattle.semantics.specs.Paths.{Path}
+use Rattle.semantics.specs.Below.{Under}
 use Rattle.semantics.specs.Cells.{Object, Shared, Local}
 use Rattle.semantics.specs.Frames.{Frame as Shown, Role, Body, Child}
 use Rattle.semantics.specs.State.{State}

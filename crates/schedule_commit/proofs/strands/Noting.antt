@@ -3,7 +3,7 @@ use Rattle.std.proofs.Common.{◌≡◌, ◌≢◌, ◌∙◌, ℕ, suc, List, [
 use Rattle.semantics.specs.Paths.{Path}
 use Rattle.semantics.specs.Frames.{Frame}
 use Rattle.semantics.specs.Events.{Machine}
-use Rattle.semantics.specs.Replay.{NeverTraps}
+use Rattle.semantics.specs.Sound.{NeverTraps}
 use Rattle.program.specs.declared.function.Program.{Program}
 use Rattle.laws_strands.specs.Law.{steps_by}
 use Rattle.schedule_workers.specs.Stalls.{Blocks, last_blocks}

@@ -9,7 +9,7 @@ use Rattle.semantics.specs.Frames.{OnCall}
 use Rattle.semantics.specs.Counts.{count_in}
 use Rattle.semantics.specs.State.{State, may_go, none_within}
 use Rattle.semantics.specs.Events.{Machine}
-use Rattle.semantics.specs.Replay.{NeverTraps}
+use Rattle.semantics.specs.Sound.{NeverTraps}
 use Rattle.semantics.proofs.ChildCounts.{counted_none}
 use Rattle.program.specs.declared.function.Program.{Program}
 use Rattle.cactus.specs.declared.node.Node.{Node}

@@ -1,9 +1,11 @@
 -- What a strand leaves of the frames that are not its own.
 use Rattle.std.proofs.Common.{◌≡◌, ◌≢◌, ◌∙◌, ◌-◌, ℕ, zero, suc, List, [], ◌∷◌, Option, Some, None, inl, inr, refl, sym, ap, subst}
-use Rattle.semantics.specs.Paths.{Path, Under}
+use Rattle.semantics.specs.Paths.{Path}
+use Rattle.semantics.specs.Below.{Under}
 use Rattle.semantics.specs.Tree.{Tree}
 use Rattle.semantics.specs.Frames.{Frame}
-use Rattle.semantics.specs.State.{State, children_within, outside, outside_role}
+use Rattle.semantics.specs.State.{State, outside, outside_role}
+use Rattle.semantics.specs.CoreSteps.{children_within}
 use Rattle.semantics.specs.Counts.{count_of}
 use Rattle.semantics.proofs.ChildCounts.{count_at}
 use Rattle.semantics.proofs.Places.{same_path_tells}

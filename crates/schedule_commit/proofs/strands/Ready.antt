@@ -3,7 +3,8 @@ use Rattle.std.proofs.Common.{◌≡◌, ◌≢◌, ◌∙◌, ◌+◌, ◌<◌,
 use Rattle.std.specs.Prelude.{IsTrue, slice_get}
 use Rattle.std.proofs.lemmas.List.{length-reverse}
 use Rattle.semantics.specs.Paths.{Path}
-use Rattle.semantics.specs.State.{State, children_within, outside}
+use Rattle.semantics.specs.State.{State, outside}
+use Rattle.semantics.specs.CoreSteps.{children_within}
 use Rattle.semantics.specs.Counts.{count_of}
 use Rattle.semantics.specs.Events.{Machine}
 use Rattle.semantics.proofs.ChildCounts.{count_at}

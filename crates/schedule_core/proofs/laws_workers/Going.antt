@@ -8,7 +8,8 @@ use Rattle.semantics.specs.Frames.{Frame, item_at}
 use Rattle.semantics.specs.Effect.{Action, Plain, Detach, Reattach, Sync, Call, Return, action_of}
 use Rattle.semantics.specs.State.{State, Change, change_of}
 use Rattle.semantics.specs.Events.{Machine, Event, start}
-use Rattle.semantics.specs.Replay.{NeverTraps, replay}
+use Rattle.semantics.specs.Replay.{replay}
+use Rattle.semantics.specs.Sound.{NeverTraps}
 use Rattle.semantics.proofs.Steps.{change_is}
 use Rattle.program.specs.declared.function.Program.{Program}
 use Rattle.program.specs.declared.instruction.Instruction.TheVariants as instruction

@@ -6,7 +6,8 @@ use Rattle.semantics.specs.Frames.{Frame}
 use Rattle.semantics.specs.State.{State, Change, apply, override, only}
 use Rattle.semantics.specs.Tree.{Tree}
 use Rattle.semantics.specs.Events.{Event, start}
-use Rattle.semantics.specs.Replay.{NeverTraps, replay}
+use Rattle.semantics.specs.Replay.{replay}
+use Rattle.semantics.specs.Sound.{NeverTraps}
 use Rattle.semantics.proofs.Diamond.{Spot, is_moved, is_gone, is_fresh, is_above, spot}
 use Rattle.semantics.proofs.Starting.{start_tree}
 use Rattle.semantics.proofs.Steps.{Does, plain, detach, reattach, sync, call, ret, end}

@@ -1,7 +1,8 @@
 -- The stack of a serial run as a state of the tree of frames: each step over the stack is a step of the frame on top.
 use Rattle.std.proofs.Common.{◌≡◌, ℕ, suc, ◌<◌, ◌≤◌, List, ◌∷◌, length, Option, Some, None, Bool, true, false, cond, refl, ap, sym, ◌∙◌, subst, arith, ℤ}
 use Rattle.linear.specs.declared.form.RegisterId.{RegisterId}
-use Rattle.semantics.specs.Paths.{Path, Under, itself, deeper, same_path}
+use Rattle.semantics.specs.Paths.{Path, same_path}
+use Rattle.semantics.specs.Below.{Under, itself, deeper}
 use Rattle.semantics.specs.Cells.{Memory}
 use Rattle.semantics.specs.Frames.{Value, Registers, Free, OnCall}
 use Rattle.semantics.specs.Effect.{Effect, Action, Plain, Detach, Reattach, Sync, Call, Return, action_of}

@@ -32,7 +32,7 @@ use Rattle.program.specs.declared.instruction.Step.{Step}
 use Rattle.program.specs.declared.instruction.Terminator.{Terminator}
 use Rattle.program.specs.declared.instruction.Terminator.TheVariants as terminator
 use Rattle.laws_schedule.specs.types.Apart.{InstructionNames}
-use Rattle.program.specs.Calls.{parameters_in}
+use Rattle.program.specs.Heads.{parameters_in}
 use Rattle.laws_schedule.specs.laws_phases.cfg.Rules.{IsFunctionRight}
 use Rattle.laws_schedule.specs.laws_phases.cfg.declared.structure.Way.{Way}
 use Rattle.laws_schedule.specs.laws_phases.cfg.declared.structure.Way.TheVariants as way

@@ -3,7 +3,8 @@ use Rattle.std.proofs.Common.{◌≡◌, ◌↔◌, ℕ, ◌+◌, ◌<◌, ◌�
 use Rattle.std.specs.List.{Contains}
 use Rattle.std.proofs.lemmas.Bool.{cases_eq, true≢false}
 use Rattle.std.proofs.lemmas.List.{get_or_push, get_or_append_left, length_push}
-use Rattle.reachability.specs.Ways.{IsWay, IsReached}
+use Rattle.reachability.specs.Ways.{IsWay}
+use Rattle.reachability.specs.Reached.{IsReached}
 use Rattle.types.specs.declared.names.mention.Mentions.{Mentions}
 use Rattle.types.specs.names.Marks.{SetsMarks}
 use Rattle.types.specs.names.Mention.{callees_at, globals_at, IsNamedTable, NamesExactly}

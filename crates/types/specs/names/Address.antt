@@ -31,9 +31,7 @@ as_global line (Some (item.Function id)) = Err (breaks 202 line)
 abbrev pub as_object : ℕ → Holding → Result WholeObject TypeFault
 as_object line (holding.Object name cells) = Ok (record { name = name; cells = cells })
 as_object line holding.Element = Err (breaks 204 line)
-as_object line (holding.Number width) = Err (breaks 202 line)
-as_object line holding.Truth = Err (breaks 202 line)
-as_object line holding.Region = Err (breaks 202 line)
+as_object line other = Err (breaks 202 line)
 
 -- a pointer that has to name a whole object
 abbrev pub object_of : Items → Scope → ℕ → AddressText → Result WholeObject TypeFault
@@ -46,9 +44,7 @@ abbrev pub as_address : ℕ → ℕ → Register → Holding → Result Address 
 as_address block line register (holding.Object name cells) = Ok (address.First name)
 as_address block line register holding.Element =
     made_of (λ _. address.Element register.id) (unless_of (is_step_of block register.origin) (breaks 204 line))
-as_address block line register (holding.Number width) = Err (breaks 202 line)
-as_address block line register holding.Truth = Err (breaks 202 line)
-as_address block line register holding.Region = Err (breaks 202 line)
+as_address block line register other = Err (breaks 202 line)
 
 -- the address of a load, a store or an atomic add in a block
 abbrev pub address_of : Items → Scope → ℕ → ℕ → AddressText → Result Address TypeFault

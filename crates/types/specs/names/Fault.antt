@@ -1,9 +1,8 @@
 -- Parts that are judged together: each rule stands alone, and of all faults the earliest is named.
 use Rattle.std.specs.Prelude.{ℕ, ◌+◌, Bool, if◌then◌else◌, List, [], ◌∷◌, ◌++◌, Result, Ok, Err}
 use Rattle.refusal.specs.declared.broken.Broken.{Broken as TypeFault}
-use Rattle.refusal.specs.Earliest.{earlier_of}
+use Rattle.refusal.specs.Before.{earlier_of}
 
--- this rule, broken at this line
 abbrev pub breaks : ℕ → ℕ → TypeFault
 breaks number line = record { line = line; number = number }
 
@@ -14,12 +13,10 @@ both_of (Ok a) (Err fault) = Err fault
 both_of (Err fault) (Ok b) = Err fault
 both_of (Err fault) (Err other) = Err (earlier_of fault other)
 
--- what follows from a part, where it is good
 abbrev pub and_then : {A B : Type 0} → Result A TypeFault → (A → Result B TypeFault) → Result B TypeFault
 and_then (Ok a) f = f a
 and_then (Err fault) f = Err fault
 
--- what is made of a part, where it is good
 abbrev pub made_of : {A B : Type 0} → (A → B) → Result A TypeFault → Result B TypeFault
 made_of f (Ok a) = Ok (f a)
 made_of f (Err fault) = Err fault
@@ -28,7 +25,6 @@ made_of f (Err fault) = Err fault
 abbrev pub unless_of : Bool → TypeFault → Result (Unit {0}) TypeFault
 unless_of holds fault = if holds then Ok tt else Err fault
 
--- the list with one more part at its end
 abbrev pub joined_of : {A : Type 0} → Result (List A) TypeFault → Result A TypeFault → Result (List A) TypeFault
 joined_of list part = made_of (λ p. p.0 ++ p.1 ∷ []) (both_of list part)
 

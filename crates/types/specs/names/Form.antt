@@ -7,7 +7,7 @@ use Rattle.std.specs.Str.{bytes_eq}
 use Rattle.linear.specs.declared.form.Form.{Form}
 use Rattle.linear.specs.declared.form.RegisterId.{RegisterId}
 use Rattle.linear.specs.declared.form.Term.{Term}
-use Rattle.linear.specs.Forms.{constant_form}
+use Rattle.linear.specs.Terms.{constant_form}
 use Rattle.linear.specs.Made.{with_term}
 use Rattle.program.specs.declared.annotation.Inequality.{Inequality}
 use Rattle.syntax.specs.declared.annotation.Form.{Form as FormText}
@@ -29,10 +29,9 @@ use Rattle.types.specs.names.Table.{look_up}
 
 -- the parameter: 201 where no parameter has the name
 abbrev pub as_parameter : ℕ → Option Named → Result Register TypeFault
-as_parameter line None = Err (breaks 201 line)
-as_parameter line (Some (named.Label block)) = Err (breaks 201 line)
 as_parameter line (Some (named.Register register)) =
     made_of (λ _. register) (unless_of (is_parameter register.origin) (breaks 201 line))
+as_parameter line other = Err (breaks 201 line)
 
 abbrev pub parameter_of : Scope → ℕ → List ℕ → Result Register TypeFault
 parameter_of scope line name = as_parameter line (look_up scope name)
@@ -52,15 +51,13 @@ guarantee_term_of scope line outcome name =
 
 -- a register that holds a number of either width, else 202
 abbrev pub number_of : Scope → ℕ → List ℕ → Result Register TypeFault
-number_of scope line name =
-    and_then (register_of scope line name)
+number_of scope line name = and_then (register_of scope line name)
     (λ register. made_of (λ _. register) (unless_of (is_number register.holding) (breaks 202 line)))
 
 -- 206: an instruction of the block itself defines the register
 abbrev pub made_before : ℕ → ℕ → Register → Result (Unit {0}) TypeFault
 made_before line block register = unless_of (not (is_step_of block register.origin)) (breaks 206 line)
 
--- the register of a form's term
 abbrev pub term_register_of : Scope → AnnotationPlace → ℕ → List ℕ → Result RegisterId TypeFault
 term_register_of scope place.Head line name = parameter_term_of scope line name
 term_register_of scope (place.Guarantee outcome) line name = guarantee_term_of scope line outcome name
@@ -73,12 +70,10 @@ is_small_coefficient coefficient = int_le (negsuc 999999) coefficient && int_le 
 
 -- a term: 206 beside the faults of its register
 abbrev pub term_of : Scope → AnnotationPlace → ℕ → TermText → Result Term TypeFault
-term_of scope place line term =
-    made_of (λ p. record { register = p.0; coefficient = term.coefficient })
-    (both_of (term_register_of scope place line term.register) (unless_of (is_small_coefficient term.coefficient)
-    (breaks 206 line)))
+term_of scope place line term = made_of (λ p. record { register = p.0; coefficient = term.coefficient })
+    (both_of (term_register_of scope place line term.register)
+    (unless_of (is_small_coefficient term.coefficient) (breaks 206 line)))
 
--- the number of registers and the constant of a form keep their limits
 abbrev pub keeps_limits : FormText → Bool
 keeps_limits form = nat_le (length form.terms) 4 && int_le (negsuc 9223372036854775806) form.constant
 
@@ -91,7 +86,6 @@ within_bounds line (Some form) = Ok form
 abbrev pub with_one : ℕ → Form → Term → Result Form TypeFault
 with_one line form term = within_bounds line (with_term form term.register term.coefficient)
 
--- a form with more terms
 abbrev pub with_all : ℕ → Form → List Term → Result Form TypeFault
 with_all line form [] = Ok form
 with_all line form (term ∷ terms) = and_then (with_one line form term) (λ more. with_all line more terms)
@@ -102,12 +96,9 @@ ordered_form line terms constant = with_all line (constant_form constant) terms
 
 -- `F`
 abbrev pub form_in_scope : Scope → AnnotationPlace → ℕ → FormText → Result Form TypeFault
-form_in_scope scope place line form =
-    and_then (both_of (all_of (λ _. term_of scope place line) form.terms)
-    (unless_of (keeps_limits form) (breaks 206 line)))
-    (λ p. ordered_form line p.0 form.constant)
+form_in_scope scope place line form = and_then (both_of (all_of (λ _. term_of scope place line) form.terms)
+    (unless_of (keeps_limits form) (breaks 206 line))) (λ p. ordered_form line p.0 form.constant)
 
--- what a register is multiplied by
 abbrev pub coefficient_in : List Term → RegisterId → ℤ
 coefficient_in [] register = pos 0
 coefficient_in (term ∷ terms) register =
@@ -125,13 +116,10 @@ is_new others term = not (differs (coefficient_in others term.register) (pos 0))
 abbrev pub is_close : ℤ → ℤ → Bool
 is_close a b = int_le (negsuc 999999) (a -ℤ b) && int_le (a -ℤ b) (pos 1000000)
 
--- the terms of the difference of two forms keep their limits
 abbrev pub are_terms_within : List Term → List Term → Bool
-are_terms_within left right =
-    nat_le (count_by (is_changed right) left + count_by (is_new left) right) 4
-    && list_all (λ term. is_close term.coefficient (coefficient_in right term.register)) left
+are_terms_within left right = nat_le (count_by (is_changed right) left + count_by (is_new left) right) 4 &&
+    list_all (λ term. is_close term.coefficient (coefficient_in right term.register)) left
 
--- so does its constant
 abbrev pub is_within_numbers : ℤ → ℤ → Bool
 is_within_numbers a b = int_le (negsuc 9223372036854775806) (a -ℤ b) && int_le (a -ℤ b) (pos 9223372036854775807)
 
@@ -146,16 +134,13 @@ inequality_between line AtLeast left right = record { line = line; low = right; 
 
 -- 206 where the difference of both sides passes a limit
 abbrev pub limited_inequality : InequalityText → Form → Form → Result Inequality TypeFault
-limited_inequality text left right =
-    made_of (λ _. inequality_between text.line text.relation left right)
-    (unless_of (is_difference_within left.terms text.left.constant right.terms text.right.constant)
-    (breaks 206 text.line))
+limited_inequality text left right = made_of (λ _. inequality_between text.line text.relation left right) (unless_of
+    (is_difference_within left.terms text.left.constant right.terms text.right.constant) (breaks 206 text.line))
 
 -- `F R F`
 abbrev pub inequality_of : Scope → AnnotationPlace → InequalityText → Result Inequality TypeFault
-inequality_of scope place text =
-    and_then (both_of (form_in_scope scope place text.line text.left) (form_in_scope scope place text.line text.right))
-    (λ p. limited_inequality text p.0 p.1)
+inequality_of scope place text = and_then (both_of (form_in_scope scope place text.line text.left)
+    (form_in_scope scope place text.line text.right)) (λ p. limited_inequality text p.0 p.1)
 
 abbrev pub inequalities_of : Scope → AnnotationPlace → List InequalityText → Result (List Inequality) TypeFault
 inequalities_of scope place texts = all_of (λ _. inequality_of scope place) texts

@@ -13,7 +13,7 @@ use Rattle.syntax.specs.declared.module.Function.{Function as FunctionText}
 use Rattle.syntax.specs.declared.module.Parameter.{Parameter as ParameterText}
 use Rattle.syntax.specs.declared.module.Parameter.TheVariants as parameter
 use Rattle.syntax.specs.declared.operator.Conversion.{Conversion}
-use Rattle.syntax.specs.declared.operator.Conversion.TheVariants.{Truncate, SignExtend, ZeroExtend}
+use Rattle.syntax.specs.declared.operator.Conversion.TheVariants.{Truncate}
 use Rattle.syntax.specs.declared.operator.Width.{Width}
 use Rattle.syntax.specs.declared.operator.Width.TheVariants.{Bits64, Bits32}
 use Rattle.types.specs.declared.names.layout.Layout.{Layout}
@@ -31,19 +31,15 @@ kind_of (holding.Object name cells) = kind.Object
 kind_of holding.Element = kind.Element
 kind_of holding.Region = kind.Region
 
--- the width of what a conversion gives
 abbrev pub target_width : Conversion → Width
 target_width Truncate = Bits32
-target_width SignExtend = Bits64
-target_width ZeroExtend = Bits64
+target_width other = Bits64
 
--- with the next register
 abbrev pub with_register : Layout → List ℕ → Holding → Origin → Layout
 with_register layout name held from = record {
   scope = with_name layout.scope name (named.Register (record {
     id = record { 0 = length layout.registers };
-    holding =
-        held;
+    holding = held;
     origin = from;
   }));
   registers = layout.registers ++ kind_of held ∷ [];
@@ -52,14 +48,12 @@ with_register layout name held from = record {
 
 abbrev pub with_parameter : Layout → ParameterText → Layout
 with_parameter layout (parameter.Number name) = with_register layout name (holding.Number Bits64) origin.Parameter
-with_parameter layout (parameter.Pointer name cells) =
-    with_register layout name (holding.Object (object.Parameter (record { 0 = length layout.registers })) cells)
-    origin.Parameter
+with_parameter layout (parameter.Pointer name cells) = with_register layout name
+    (holding.Object (object.Parameter (record { 0 = length layout.registers })) cells) origin.Parameter
 
 abbrev pub with_phi : Layout → PhiText → Layout
 with_phi layout phi = with_register layout phi.register (holding.Number phi.width) origin.Phi
 
--- the next alloca, with its register
 abbrev pub with_alloca : Layout → ℕ → List ℕ → ℕ → Origin → Layout
 with_alloca layout line name cells from =
     let made : Layout = with_register layout name
@@ -76,7 +70,6 @@ abbrev pub with_call : Layout → Option (List ℕ) → Origin → Layout
 with_call layout None from = layout
 with_call layout (Some name) from = with_register layout name (holding.Number Bits64) from
 
--- what an instruction of this block on this line defines
 abbrev pub with_instruction : Layout → ℕ → Origin → InstructionText → Layout
 with_instruction layout line from (text.Binary register operator width left right) =
     with_register layout register (holding.Number width) from
@@ -89,11 +82,9 @@ with_instruction layout line from (text.ElementPointer register base index) =
     with_register layout register holding.Element from
 with_instruction layout line from (text.Load register address) =
     with_register layout register (holding.Number Bits64) from
-with_instruction layout line from (text.Store value address) = layout
-with_instruction layout line from (text.StoreZeros cells address) = layout
-with_instruction layout line from (text.AtomicAdd address value) = layout
 with_instruction layout line from (text.Call register callee arguments) = with_call layout register from
 with_instruction layout line from (text.StartRegion register) = with_register layout register holding.Region from
+with_instruction layout line from other = layout
 
 abbrev pub with_step : ℕ → Layout → StepText → Layout
 with_step block layout step = with_instruction layout step.line (origin.Step block) step.instruction

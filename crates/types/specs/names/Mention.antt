@@ -22,11 +22,9 @@ use Rattle.types.specs.names.Table.{look_up}
 
 -- with what a name behind `@` stands for, where no call names it
 abbrev pub with_object : Mentions → Option Item → Mentions
-with_object found None = found
 with_object found (Some (item.Global id cells)) = record found { globals = found.globals ++ id.0 ∷ [] }
-with_object found (Some (item.Function id)) = found
+with_object found other = found
 
--- with what a call names
 abbrev pub with_callee : Mentions → Option Item → Mentions
 with_callee found None = found
 with_callee found (Some (item.Global id cells)) = record found { globals = found.globals ++ id.0 ∷ [] }
@@ -45,10 +43,6 @@ with_arguments items found [] = found
 with_arguments items found (argument ∷ arguments) = with_arguments items (with_argument items found argument) arguments
 
 abbrev pub with_instruction : Items → Mentions → InstructionText → Mentions
-with_instruction items found (text.Binary register operator width left right) = found
-with_instruction items found (text.Compare register predicate width left right) = found
-with_instruction items found (text.Convert register conversion value) = found
-with_instruction items found (text.Alloca register size) = found
 with_instruction items found (text.ElementPointer register base index) = with_address items found base
 with_instruction items found (text.Load register address) = with_address items found address
 with_instruction items found (text.Store value address) = with_address items found address
@@ -56,7 +50,7 @@ with_instruction items found (text.StoreZeros cells address) = with_address item
 with_instruction items found (text.AtomicAdd address value) = with_address items found address
 with_instruction items found (text.Call register callee arguments) =
     with_arguments items (with_callee found (look_up items callee)) arguments
-with_instruction items found (text.StartRegion register) = found
+with_instruction items found other = found
 
 abbrev pub with_steps : Items → Mentions → List StepText → Mentions
 with_steps items found [] = found
@@ -89,11 +83,9 @@ no_mentions = record { globals = []; callees = [] }
 abbrev pub mentions_of : Items → FunctionText → Mentions
 mentions_of items function = with_blocks items (with_notes items no_mentions function.notes) function.blocks
 
--- the functions that the function at this place calls
 abbrev pub callees_at : List Mentions → ℕ → List ℕ
 callees_at mentions place = nexts_at (λ m. m.callees) mentions place
 
--- the globals that the function at this place names
 abbrev pub globals_at : List Mentions → ℕ → List ℕ
 globals_at mentions place = nexts_at (λ m. m.globals) mentions place
 

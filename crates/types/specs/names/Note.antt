@@ -1,5 +1,5 @@
 -- Zones, what is pending, and what is left.
-use Rattle.std.specs.Prelude.{ℕ, List, [], Option, Some, None, Result, Ok, Err}
+use Rattle.std.specs.Prelude.{ℕ, List, [], Option, Some, Result, Ok, Err}
 use Rattle.linear.specs.declared.form.RegisterId.{RegisterId}
 use Rattle.program.specs.declared.annotation.Left.{Left}
 use Rattle.program.specs.declared.annotation.Measure.{Measure}
@@ -28,9 +28,8 @@ use Rattle.types.specs.names.Table.{look_up}
 
 -- a global; a function's name is an unknown one here (201)
 abbrev pub noted_global : ℕ → Option Item → Result ObjectName TypeFault
-noted_global line None = Err (breaks 201 line)
 noted_global line (Some (item.Global id cells)) = Ok (object.Global id)
-noted_global line (Some (item.Function id)) = Err (breaks 201 line)
+noted_global line other = Err (breaks 201 line)
 
 -- the object that a register holds: a `getelementptr` result is 204, what is no pointer 202
 abbrev pub noted_holding : ℕ → Register → Result ObjectName TypeFault
@@ -44,8 +43,7 @@ noted_register scope line name = and_then (register_of scope line name) (noted_h
 
 -- 206 too where an instruction of the block itself makes the object
 abbrev pub noted_before : Scope → ℕ → ℕ → List ℕ → Result ObjectName TypeFault
-noted_before scope block line name =
-    and_then (register_of scope line name) (λ register.
+noted_before scope block line name = and_then (register_of scope line name) (λ register.
     and_then (noted_holding line register) (λ found. made_of (λ _. found) (made_before line block register)))
 
 -- `O` of an annotation
@@ -73,29 +71,24 @@ zones_of items scope place zones = more_zones items scope place (Ok []) zones
 
 -- the region of a `pending` line: 206 where an instruction of the block itself starts it
 abbrev pub pending_region_of : Scope → ℕ → ℕ → List ℕ → Result RegisterId TypeFault
-pending_region_of scope block line name =
-    and_then (region_of scope line name) (λ region.
+pending_region_of scope block line name = and_then (region_of scope line name) (λ region.
     and_then (register_of scope line name) (λ register. made_of (λ _. region) (made_before line block register)))
 
 -- `pending %s MODE O F F`
 abbrev pub pending_of : Items → Scope → ℕ → PendingText → Result Pending TypeFault
-pending_of items scope block pending =
-    made_of (λ p. record { region = p.0; zone = p.1 })
-    (both_of (pending_region_of scope block pending.zone.line pending.region)
-    (zone_of items scope (place.Start block) pending.zone))
+pending_of items scope block pending = made_of (λ p. record { region = p.0; zone = p.1 }) (both_of (pending_region_of
+    scope block pending.zone.line pending.region) (zone_of items scope (place.Start block) pending.zone))
 
 abbrev pub all_pending_of : Items → Scope → ℕ → List PendingText → Result (List Pending) TypeFault
 all_pending_of items scope block lines = all_of (λ _. pending_of items scope block) lines
 
 -- `left F F`
 abbrev pub left_of : Scope → ℕ → LeftText → Result Left TypeFault
-left_of scope block left =
-    made_of (λ p. record { line = left.line; self_calls = p.0; instructions = p.1 })
+left_of scope block left = made_of (λ p. record { line = left.line; self_calls = p.0; instructions = p.1 })
     (both_of (form_in_scope scope (place.Start block) left.line left.self_calls)
     (form_in_scope scope (place.Start block) left.line left.instructions))
 
 -- `measure F max N`
 abbrev pub measure_of : Scope → MeasureText → Result Measure TypeFault
-measure_of scope measure =
-    made_of (λ form. record { line = measure.line; form = form; bound = measure.bound })
+measure_of scope measure = made_of (λ form. record { line = measure.line; form = form; bound = measure.bound })
     (form_in_scope scope place.Head measure.line measure.form)

@@ -46,7 +46,6 @@ register_passing test scope line name = and_then (register_of scope line name) (
 abbrev pub condition_of : Scope → ℕ → List ℕ → Result RegisterId TypeFault
 condition_of scope line name = register_passing is_truth scope line name
 
--- `%s` holds a region
 abbrev pub region_of : Scope → ℕ → List ℕ → Result RegisterId TypeFault
 region_of scope line name = register_passing is_region scope line name
 

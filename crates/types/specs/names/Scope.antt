@@ -12,42 +12,27 @@ use Rattle.types.specs.declared.names.scope.Origin.TheVariants as origin
 abbrev pub Scope : Type 0
 Scope = List (List ℕ × Named)
 
--- it is a number of this width
 abbrev pub is_number_of : Width → Holding → Bool
 is_number_of width (holding.Number other) = is_same_width other width
-is_number_of width holding.Truth = false
-is_number_of width (holding.Object name cells) = false
-is_number_of width holding.Element = false
-is_number_of width holding.Region = false
+is_number_of width other = false
 
 abbrev pub is_number : Holding → Bool
 is_number (holding.Number other) = true
-is_number holding.Truth = false
-is_number (holding.Object name cells) = false
-is_number holding.Element = false
-is_number holding.Region = false
+is_number other = false
 
 abbrev pub is_truth : Holding → Bool
-is_truth (holding.Number other) = false
 is_truth holding.Truth = true
-is_truth (holding.Object name cells) = false
-is_truth holding.Element = false
-is_truth holding.Region = false
+is_truth other = false
 
 abbrev pub is_region : Holding → Bool
-is_region (holding.Number other) = false
-is_region holding.Truth = false
-is_region (holding.Object name cells) = false
-is_region holding.Element = false
 is_region holding.Region = true
+is_region other = false
 
 abbrev pub is_parameter : Origin → Bool
 is_parameter origin.Parameter = true
-is_parameter origin.Phi = false
-is_parameter (origin.Step block) = false
+is_parameter other = false
 
 -- an instruction of this block that is no phi defines the register
 abbrev pub is_step_of : ℕ → Origin → Bool
-is_step_of block origin.Parameter = false
-is_step_of block origin.Phi = false
 is_step_of block (origin.Step other) = nat_eq other block
+is_step_of block other = false

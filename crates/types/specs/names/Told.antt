@@ -3,7 +3,7 @@ use Rattle.std.specs.Prelude.{◌≡◌, List, [], ◌∷◌, ◌++◌, Result, 
 use Rattle.refusal.specs.declared.broken.Broken.{Broken as TypeFault}
 use Rattle.refusal.specs.declared.refused.Refused.{Refused}
 use Rattle.refusal.specs.declared.refused.Refused.TheVariants.{Fault, Memory}
-use Rattle.refusal.specs.Earliest.{earlier_of}
+use Rattle.refusal.specs.Before.{earlier_of}
 use Rattle.refusal.specs.Refusals.{IfBroken}
 
 -- a meaning as an answer

@@ -1,7 +1,7 @@
 use Rattle.refusal.proofs.Elements.{earliest_both}
 use Rattle.refusal.specs.declared.broken.Broken.{Broken}
 use Rattle.std.proofs.Common.{◌⊎◌}
-use Rattle.ranges.specs.Places.{facts_in_table, edges_in_table}
+use Rattle.ranges.specs.Tables.{facts_in_table, edges_in_table}
 use Rattle.cost_table.specs.Rules.{IsOverdrawn, IsEndingUncovered, AreStepsNotFalling}
 use Rattle.cost_table.proofs.check.block_fault.Goals as goal
 

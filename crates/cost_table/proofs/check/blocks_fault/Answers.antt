@@ -3,7 +3,7 @@ use Rattle.linear.specs.declared.form.Fact.{Fact}
 use Rattle.program.specs.declared.function.Block.{Block}
 use Rattle.refusal.specs.Earliest.{IsEarliest}
 use Rattle.refusal.proofs.Places.{Within, below_next, below_all, read_in}
-use Rattle.ranges.specs.Places.{facts_in_table, edges_in_table}
+use Rattle.ranges.specs.Tables.{facts_in_table, edges_in_table}
 use Rattle.cost_table.specs.Rules.{IsBlockBrokenBy, IsBlockBroken}
 use Rattle.cost_table.proofs.ByTables.{block_by_table}
 use Rattle.cost_table.proofs.check.blocks_fault.Goals as goal

@@ -1,7 +1,7 @@
 use Rattle.std.proofs.Common.{◌<◌, ℕ, List, length, sym, ap, subst, arith}
 use Rattle.program.specs.declared.function.Function.{Function}
 use Rattle.refusal.specs.Earliest.{IsEarliest}
-use Rattle.ranges.specs.Places.{IsFunctionTable}
+use Rattle.ranges.specs.Tables.{IsFunctionTable}
 use Rattle.refusal.proofs.Places.{Within, below_next, below_all, read_in}
 use Rattle.cost_table.specs.Rules.{IsFunctionBroken}
 use Rattle.cost_table.proofs.check.program_fault.Goals as goal

@@ -2,7 +2,7 @@ use Rattle.std.proofs.Common.{◌≡◌}
 use Rattle.program.specs.declared.instruction.Step.{Step}
 use Rattle.refusal.specs.Earliest.{IsEarliest}
 use Rattle.refusal.proofs.Places.{Below}
-use Rattle.ranges.specs.Places.{facts_in_table}
+use Rattle.ranges.specs.Tables.{facts_in_table}
 use Rattle.cost_table.specs.Rules.{IsCallNotFalling}
 use Rattle.cost_table.proofs.check.steps_fault.Given as goal
 

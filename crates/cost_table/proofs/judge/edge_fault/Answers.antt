@@ -4,7 +4,7 @@ use Rattle.program.specs.declared.function.Block.{Block}
 use Rattle.cost_table.specs.Cost.{calls_done, instructions_done}
 use Rattle.ranges.specs.Sums.{shows}
 use Rattle.cost_table.specs.Rules.{left_behind, less_form}
-use Rattle.program.specs.Blocks.{left_calls, left_instructions}
+use Rattle.program.specs.Left.{left_calls, left_instructions}
 use Rattle.cost_table.proofs.Judging.{pair_named, shown_next}
 use Rattle.cost_table.proofs.judge.edge_fault.Goals as goal
 

@@ -2,7 +2,7 @@ use Rattle.std.proofs.Common.{◌∙◌, ap}
 use Rattle.refusal.specs.declared.broken.Broken.{Broken}
 use Rattle.refusal.proofs.Elements.{earliest_none, earliest_next, earliest_all}
 use Rattle.ranges.specs.declared.table.EdgeFacts.{EdgeFacts}
-use Rattle.ranges.specs.Edges.{with_known}
+use Rattle.ranges.specs.Tables.{with_known}
 use Rattle.ranges.proofs.Edges.{earliest_known}
 use Rattle.cost_table.specs.Rules.{IsEdgeUncovered}
 use Rattle.cost_table.proofs.judge.edges_fault.Goals as goal

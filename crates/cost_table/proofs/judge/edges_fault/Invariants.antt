@@ -3,7 +3,7 @@ use Rattle.std.specs.List.{Any}
 use Rattle.program.specs.declared.function.Function.{Function}
 use Rattle.refusal.specs.declared.broken.Broken.{Broken}
 use Rattle.refusal.specs.Earliest.{IsEarliest}
-use Rattle.ranges.specs.Edges.{with_known}
+use Rattle.ranges.specs.Tables.{with_known}
 use Rattle.cost_table.specs.Doing.{IsWork}
 use Rattle.cost_table.specs.Rules.{IsEdgeUncovered}
 use Rattle.cost_table.proofs.judge.edges_fault.Given as goal

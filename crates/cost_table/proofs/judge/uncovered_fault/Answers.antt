@@ -3,7 +3,7 @@ use Rattle.std.specs.Prelude.{IfOk}
 use Rattle.program.specs.declared.function.Function.{Function}
 use Rattle.program.specs.declared.instruction.Terminator.{Terminator}
 use Rattle.refusal.specs.Earliest.{IsEarliest}
-use Rattle.ranges.specs.Edges.{all_with_known}
+use Rattle.ranges.specs.Tables.{all_with_known}
 use Rattle.cost_table.specs.Doing.{IsWork}
 use Rattle.cost_table.specs.Rules.{IsUncoveredAt}
 use Rattle.cost_table.proofs.judge.uncovered_fault.Goals as goal

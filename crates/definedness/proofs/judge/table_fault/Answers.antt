@@ -1,6 +1,7 @@
 use Rattle.std.proofs.Common.{◌≡◌, true}
 use Rattle.definedness.specs.declared.act.BlockActs.{BlockActs}
-use Rattle.definedness.specs.Needs.{mark_at, IsBlockBroken}
+use Rattle.definedness.specs.Needs.{IsBlockBroken}
+use Rattle.definedness.specs.Marks.{mark_at}
 use Rattle.refusal.proofs.Places.{below_next, below_all}
 use Rattle.definedness.proofs.judge.table_fault.Goals as goal
 

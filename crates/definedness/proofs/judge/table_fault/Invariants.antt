@@ -1,7 +1,8 @@
 use Rattle.std.proofs.Common.{◌≡◌, true}
 use Rattle.refusal.specs.Earliest.{IsEarliest}
 use Rattle.definedness.specs.declared.act.BlockActs.{BlockActs}
-use Rattle.definedness.specs.Needs.{mark_at, IsBlockBroken}
+use Rattle.definedness.specs.Needs.{IsBlockBroken}
+use Rattle.definedness.specs.Marks.{mark_at}
 use Rattle.refusal.proofs.Places.{Below}
 use Rattle.definedness.proofs.judge.table_fault.Given as goal
 

@@ -1,6 +1,6 @@
 use Rattle.std.proofs.Common.{◌≤◌, suc, take}
 use Rattle.std.specs.List.{All}
-use Rattle.definedness.specs.Needs.{IsNeedBelow}
+use Rattle.definedness.specs.Marks.{IsNeedBelow}
 use Rattle.definedness.proofs.table.most_needed.Given as goal
 
 abbrev pub invariant-loop-act : goal.invariant-loop-act

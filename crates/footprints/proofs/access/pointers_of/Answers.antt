@@ -3,7 +3,8 @@ use Rattle.std.proofs.lemmas.List.{drop_more, drop_all, append-nil}
 use Rattle.std.proofs.lemmas.Result.{IfOk-from_err}
 use Rattle.program.specs.declared.instruction.Step.{Step}
 use Rattle.footprints.specs.declared.access.Pointer.{Pointer}
-use Rattle.footprints.specs.Pointers.{defined_pointer, with_pointer, pointers_of}
+use Rattle.footprints.specs.Pointers.{defined_pointer, with_pointer}
+use Rattle.footprints.specs.Touched.{pointers_of}
 use Rattle.footprints.proofs.access.pointers_of.Goals as goal
 use Rattle.footprints.proofs.access.pointers_of.Goals.{in-Some+in_ok-push, in_default}
 

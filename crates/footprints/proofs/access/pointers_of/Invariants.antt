@@ -1,5 +1,5 @@
 use Rattle.std.proofs.Common.{◌≡◌, ◌++◌, drop}
-use Rattle.footprints.specs.Pointers.{pointers_of}
+use Rattle.footprints.specs.Touched.{pointers_of}
 use Rattle.footprints.proofs.access.pointers_of.Given as goal
 
 abbrev pub invariant-loop-step : goal.invariant-loop-step

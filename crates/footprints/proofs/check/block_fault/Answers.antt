@@ -3,8 +3,8 @@ use Rattle.linear.specs.declared.form.Fact.{Fact}
 use Rattle.refusal.specs.Earliest.{IsEarliest}
 use Rattle.refusal.proofs.Elements.{earliest_both}
 use Rattle.ranges.specs.declared.table.EdgeFacts.{EdgeFacts}
-use Rattle.ranges.specs.Edges.{all_with_known}
-use Rattle.ranges.specs.Places.{facts_in_table, edges_in_table}
+use Rattle.ranges.specs.Tables.{all_with_known}
+use Rattle.ranges.specs.Tables.{facts_in_table, edges_in_table}
 use Rattle.footprints.specs.Rules.{AreStepsBroken, IsEndBroken}
 use Rattle.footprints.proofs.check.block_fault.Goals as goal
 

@@ -3,7 +3,7 @@ use Rattle.std.specs.Prelude.{IfOk}
 use Rattle.linear.specs.declared.form.Fact.{Fact}
 use Rattle.program.specs.declared.instruction.Ending.{Ending}
 use Rattle.refusal.specs.Earliest.{IsEarliest}
-use Rattle.ranges.specs.Edges.{all_with_known}
+use Rattle.ranges.specs.Tables.{all_with_known}
 use Rattle.footprints.specs.Rules.{IsEndBroken}
 use Rattle.footprints.proofs.check.end_fault.Goals as goal
 

@@ -5,7 +5,7 @@ use Rattle.refusal.specs.declared.broken.Broken.{Broken}
 use Rattle.refusal.specs.Earliest.{IsEarliest}
 use Rattle.refusal.proofs.Elements.{earliest_both}
 use Rattle.ranges.specs.declared.table.EdgeFacts.{EdgeFacts}
-use Rattle.ranges.specs.Edges.{all_with_known}
+use Rattle.ranges.specs.Tables.{all_with_known}
 use Rattle.footprints_feet.specs.footprints_zones.declared.place.Use.{Use}
 use Rattle.linear.specs.declared.form.Fact.{Fact}
 use Rattle.footprints.specs.Footprints.{Place, end_use}

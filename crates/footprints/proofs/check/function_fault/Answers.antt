@@ -4,7 +4,7 @@ use Rattle.ranges.specs.region_match.declared.task.Task.{Task}
 use Rattle.refusal.specs.Earliest.{IsEarliest}
 use Rattle.ranges.specs.region_match.Tasks.{task_at}
 use Rattle.refusal.proofs.Places.{Within, below_next, below_all, read_in}
-use Rattle.ranges.specs.Places.{facts_in_table, edges_in_table}
+use Rattle.ranges.specs.Tables.{facts_in_table, edges_in_table}
 use Rattle.footprints.specs.Rules.{IsBlockBrokenBy, IsBlockBroken}
 use Rattle.footprints.proofs.ByTables.{block_by_table}
 use Rattle.footprints.proofs.check.function_fault.Goals as goal

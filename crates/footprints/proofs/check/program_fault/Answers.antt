@@ -3,7 +3,7 @@ use Rattle.std.specs.Prelude.{slice_get}
 use Rattle.program.specs.declared.function.Function.{Function}
 use Rattle.ranges.specs.region_match.declared.task.Task.{Task}
 use Rattle.refusal.specs.Earliest.{IsEarliest}
-use Rattle.ranges.specs.Places.{IsFunctionTable}
+use Rattle.ranges.specs.Tables.{IsFunctionTable}
 use Rattle.refusal.proofs.Places.{Within, below_next, below_all, read_in}
 use Rattle.footprints.specs.Rules.{IsFunctionBroken}
 use Rattle.ranges.specs.region_match.Tasks.{tasks_in}

@@ -4,7 +4,7 @@ use Rattle.linear.specs.declared.form.Fact.{Fact}
 use Rattle.program.specs.declared.instruction.Step.{Step}
 use Rattle.refusal.specs.Earliest.{IsEarliest}
 use Rattle.refusal.proofs.Places.{Within, below_next, below_all}
-use Rattle.ranges.specs.Places.{facts_in_table}
+use Rattle.ranges.specs.Tables.{facts_in_table}
 use Rattle.footprints.specs.Rules.{IsStepBroken}
 use Rattle.ranges.proofs.Passed.{below_passed}
 use Rattle.footprints.proofs.After.{use_after}

@@ -1,7 +1,7 @@
 use Rattle.std.proofs.Common.{◌≡◌}
 use Rattle.refusal.specs.Earliest.{IsEarliest}
 use Rattle.refusal.proofs.Places.{Below}
-use Rattle.ranges.specs.Places.{facts_in_table}
+use Rattle.ranges.specs.Tables.{facts_in_table}
 use Rattle.footprints.specs.Rules.{IsStepBroken}
 use Rattle.footprints.proofs.check.steps_fault.Given as goal
 

@@ -1,7 +1,7 @@
 use Rattle.std.proofs.Common.{◌≡◌, ◌∙◌, Bool, false, ap, subst}
 use Rattle.refusal.specs.declared.broken.Broken.{Broken}
 use Rattle.refusal.specs.Earliest.{IsEarliest}
-use Rattle.ranges.specs.Edges.{with_known}
+use Rattle.ranges.specs.Tables.{with_known}
 use Rattle.footprints.specs.Footprints.{passes_on}
 use Rattle.footprints.proofs.judge.edge_fault.Goals as goal
 

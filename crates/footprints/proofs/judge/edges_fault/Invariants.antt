@@ -1,7 +1,7 @@
 use Rattle.std.proofs.Common.{◌≡◌, take}
 use Rattle.std.specs.List.{Any}
 use Rattle.refusal.specs.Earliest.{IsEarliest}
-use Rattle.ranges.specs.Edges.{with_known}
+use Rattle.ranges.specs.Tables.{with_known}
 use Rattle.footprints.specs.Rules.{IsEdgeBroken}
 use Rattle.footprints.proofs.judge.edges_fault.Given as goal
 

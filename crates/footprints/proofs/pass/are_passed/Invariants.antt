@@ -1,5 +1,6 @@
 use Rattle.std.proofs.Common.{◌≡◌, true, take}
-use Rattle.footprints.specs.Footprints.{with_facts, are_passed}
+use Rattle.footprints.specs.Footprints.{are_passed}
+use Rattle.footprints.specs.Touched.{with_facts}
 use Rattle.footprints.proofs.pass.are_passed.Given as goal
 
 abbrev pub invariant-loop-item : goal.invariant-loop-item

@@ -1,5 +1,6 @@
 use Rattle.std.proofs.Common.{◌≡◌, true, take}
-use Rattle.footprints.specs.Footprints.{with_facts, foot_passed}
+use Rattle.footprints.specs.Footprints.{foot_passed}
+use Rattle.footprints.specs.Touched.{with_facts}
 use Rattle.footprints.proofs.pass.foot_passed.Given as goal
 
 abbrev pub invariant-loop-zone : goal.invariant-loop-zone

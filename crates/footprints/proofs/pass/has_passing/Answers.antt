@@ -1,7 +1,7 @@
 use Rattle.std.proofs.Common.{◌∙◌, sym}
 use Rattle.std.proofs.lemmas.Bool.{eqb-true, not-false}
 use Rattle.std.proofs.lemmas.List.{nil_from_length, take_all}
-use Rattle.ranges.specs.Edges.{with_known}
+use Rattle.ranges.specs.Tables.{with_known}
 use Rattle.footprints.proofs.Passing.{nothing_goes_on}
 use Rattle.footprints.proofs.pass.has_passing.Goals as goal
 

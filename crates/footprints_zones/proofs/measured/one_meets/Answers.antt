@@ -1,7 +1,8 @@
 use Rattle.std.proofs.Common.{sym, subst}
 use Rattle.std.proofs.lemmas.Result.{IfOk-from_err}
 use Rattle.footprints_zones.specs.declared.measured.MeasuredZone.{MeasuredZone}
-use Rattle.footprints_zones.specs.Zones.{span, as_written, meets}
+use Rattle.footprints_zones.specs.Zones.{span, as_written}
+use Rattle.footprints_zones.specs.Meets.{meets}
 use Rattle.footprints_zones.specs.Ends.{IsMeasured}
 use Rattle.footprints_zones.proofs.Numbers.{none_next, one_found, none_found}
 use Rattle.footprints_zones.proofs.measured.one_meets.Goals as goal

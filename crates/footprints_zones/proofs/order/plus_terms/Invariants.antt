@@ -1,5 +1,5 @@
 use Rattle.std.proofs.Common.{◌≡◌, ◌<◌, ◌^◌, drop, unsigned_abs, Some}
-use Rattle.linear.specs.Forms.{constant_form}
+use Rattle.linear.specs.Terms.{constant_form}
 use Rattle.ranges.specs.ranges_owed.Inequalities.{parts_of}
 use Rattle.ranges.specs.Sums.{with_parts}
 use Rattle.footprints_zones.proofs.order.plus_terms.Given as goal

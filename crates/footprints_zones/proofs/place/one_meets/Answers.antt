@@ -1,6 +1,7 @@
 use Rattle.std.proofs.lemmas.Result.{IfOk-from_err}
 use Rattle.program.specs.declared.annotation.Pending.{Pending}
-use Rattle.footprints_zones.specs.Zones.{span, as_written, meets}
+use Rattle.footprints_zones.specs.Zones.{span, as_written}
+use Rattle.footprints_zones.specs.Meets.{meets}
 use Rattle.footprints_zones.proofs.Numbers.{none_next, one_found, none_found}
 use Rattle.footprints_zones.proofs.place.one_meets.Goals as goal
 

@@ -1,7 +1,8 @@
 use Rattle.std.proofs.Common.{◌≡◌, false, take}
 use Rattle.std.specs.List.{list_any}
 use Rattle.program.specs.declared.annotation.Pending.{Pending}
-use Rattle.footprints_zones.specs.Zones.{span, as_written, meets}
+use Rattle.footprints_zones.specs.Zones.{span, as_written}
+use Rattle.footprints_zones.specs.Meets.{meets}
 use Rattle.footprints_zones.proofs.place.one_meets.Given as goal
 
 abbrev pub invariant-loop-item : goal.invariant-loop-item

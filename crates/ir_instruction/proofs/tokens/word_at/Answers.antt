@@ -1,4 +1,4 @@
-use Rattle.ir_lex.specs.Lexemes.{text_at}
+use Rattle.ir_lex.specs.Texts.{text_at}
 use Rattle.ir_lex.proofs.Plain.{token_ascii}
 use Rattle.ir_instruction.proofs.tokens.word_at.Goals as goal
 

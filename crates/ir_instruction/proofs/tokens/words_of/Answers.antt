@@ -1,4 +1,4 @@
-use Rattle.ir_lex.specs.Lexemes.{text_at}
+use Rattle.ir_lex.specs.Texts.{text_at}
 use Rattle.ir_instruction.proofs.Pushed.{pushed}
 use Rattle.ir_instruction.proofs.tokens.words_of.Goals as goal
 

@@ -1,5 +1,5 @@
 use Rattle.std.proofs.Common.{◌≡◌, take, map}
-use Rattle.ir_lex.specs.Lexemes.{text_at}
+use Rattle.ir_lex.specs.Texts.{text_at}
 use Rattle.ir_instruction.proofs.tokens.words_of.Given as goal
 
 abbrev pub invariant-loop-token : goal.invariant-loop-token

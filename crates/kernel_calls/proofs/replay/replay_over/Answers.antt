@@ -1,6 +1,6 @@
 use Rattle.std.proofs.Common.{List, subst}
 use Rattle.store.specs.Cells.{NamedCells}
-use Rattle.store.specs.Made.{HasGlobalCells}
+use Rattle.store.specs.Named.{HasGlobalCells}
 use Rattle.kernel_calls.specs.Told.{memory_from}
 use Rattle.kernel_calls.proofs.Replayed.{ends_by, is_after, stands_after}
 use Rattle.kernel_calls.proofs.replay.replay_over.Goals as goal

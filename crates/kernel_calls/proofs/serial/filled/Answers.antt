@@ -1,6 +1,7 @@
 use Rattle.std.proofs.Common.{rules, ◌≡◌, ◌∙◌, ◌<◌, List, length, ap, arith, subst, sym}
 use Rattle.store.specs.Cells.{NamedCells}
-use Rattle.store.specs.Made.{HasGlobalCells, IsMadeFor}
+use Rattle.store.specs.Made.{IsMadeFor}
+use Rattle.store.specs.Named.{HasGlobalCells}
 use Rattle.kernel_calls.specs.Told.{cells_in}
 use Rattle.kernel_calls.proofs.Counting.{as_many, filled_cells, filled_made}
 use Rattle.kernel_calls.proofs.serial.filled.Goals as goal

@@ -1,5 +1,5 @@
 use Rattle.std.proofs.Common.{◌∙◌, ◌<◌, sym, ap, arith}
-use Rattle.linear.specs.Forms.{Combination}
+use Rattle.linear.specs.Terms.{Combination}
 use Rattle.linear_shown.proofs.Newest.{side_is}
 use Rattle.linear_shown.proofs.show.side_at.Goals as goal
 

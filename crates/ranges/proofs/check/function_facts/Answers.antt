@@ -1,6 +1,6 @@
 use Rattle.std.proofs.Common.{◌≡◌, length, subst, arith}
 use Rattle.refusal.specs.Earliest.{IsEarliest}
-use Rattle.ranges.specs.Places.{IsBlockTable}
+use Rattle.ranges.specs.Tables.{IsBlockTable}
 use Rattle.ranges.specs.Rules.{IsBlockBroken}
 use Rattle.refusal.proofs.Places.{Within, below_nothing, below_next, below_all}
 use Rattle.ranges.proofs.Tabling.{tabled_start, tabled_next, function_table}

@@ -1,5 +1,5 @@
 use Rattle.refusal.specs.Earliest.{IsEarliest}
-use Rattle.ranges.specs.Places.{IsBlockTable}
+use Rattle.ranges.specs.Tables.{IsBlockTable}
 use Rattle.ranges.specs.Rules.{IsBlockBroken}
 use Rattle.refusal.proofs.Places.{Below}
 use Rattle.ranges.proofs.Tabling.{Tabled}

@@ -4,7 +4,7 @@ use Rattle.program.specs.declared.function.Function.{Function}
 use Rattle.refusal.specs.declared.broken.Broken.{Broken}
 use Rattle.refusal.specs.Earliest.{IsEarliest}
 use Rattle.refusal.proofs.Elements.{earliest_none, earliest_next, earliest_all}
-use Rattle.ranges.specs.Places.{IsFunctionTable}
+use Rattle.ranges.specs.Tables.{IsFunctionTable}
 use Rattle.ranges.specs.Rules.{IsFunctionBroken}
 use Rattle.ranges.proofs.Tabling.{tabled_start, tabled_next, program_table}
 use Rattle.ranges.proofs.check.program_facts.Goals as goal

@@ -2,7 +2,7 @@ use Rattle.std.proofs.Common.{take}
 use Rattle.std.specs.List.{Any}
 use Rattle.program.specs.declared.function.Function.{Function}
 use Rattle.refusal.specs.Earliest.{IsEarliest}
-use Rattle.ranges.specs.Places.{IsFunctionTable}
+use Rattle.ranges.specs.Tables.{IsFunctionTable}
 use Rattle.ranges.specs.Rules.{IsFunctionBroken}
 use Rattle.ranges.proofs.Tabling.{Tabled}
 use Rattle.ranges.proofs.check.program_facts.Given as goal

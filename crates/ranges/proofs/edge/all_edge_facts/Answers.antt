@@ -1,7 +1,8 @@
 use Rattle.std.proofs.Common.{◌∙◌, ap}
 use Rattle.std.proofs.lemmas.List.{take_all}
 use Rattle.std.proofs.lemmas.Result.{IfOk-from_err}
-use Rattle.ranges.specs.Edges.{edge_facts, all_edge_facts, with_known}
+use Rattle.ranges.specs.Edges.{edge_facts, all_edge_facts}
+use Rattle.ranges.specs.Tables.{with_known}
 use Rattle.ranges.proofs.Edges.{mapped_alike}
 use Rattle.ranges.proofs.edge.all_edge_facts.Goals as goal
 

@@ -1,6 +1,7 @@
 use Rattle.std.proofs.Common.{◌≡◌, List, take}
 use Rattle.linear.specs.declared.form.Fact.{Fact}
-use Rattle.ranges.specs.Edges.{all_edge_facts, all_with_known}
+use Rattle.ranges.specs.Edges.{all_edge_facts}
+use Rattle.ranges.specs.Tables.{all_with_known}
 use Rattle.ranges.proofs.edge.all_edge_facts.Given as goal
 
 abbrev pub invariant-loop-edge : goal.invariant-loop-edge

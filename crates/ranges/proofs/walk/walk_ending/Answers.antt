@@ -5,7 +5,8 @@ use Rattle.refusal.specs.declared.broken.Broken.{Broken}
 use Rattle.refusal.proofs.Elements.{earliest_both}
 use Rattle.ranges.specs.declared.table.EdgeFacts.{EdgeFacts}
 use Rattle.ranges_owed.specs.Owed.{owed_at_end}
-use Rattle.ranges.specs.Edges.{edge_owed, all_with_known}
+use Rattle.ranges.specs.Edges.{edge_owed}
+use Rattle.ranges.specs.Tables.{all_with_known}
 use Rattle.ranges.specs.Places.{with_shows}
 use Rattle.ranges.specs.Rules.{AreUnmet, AreUnshown}
 use Rattle.ranges.proofs.walk.walk_ending.Goals as goal

@@ -2,7 +2,8 @@ use Rattle.std.proofs.Common.{◌≡◌, ◌<◌, ◌≤◌, List, length, slice
 use Rattle.std.specs.Prelude.{sum}
 use Rattle.program.specs.declared.function.Function.{Function}
 use Rattle.program.specs.declared.function.Program.{Program}
-use Rattle.serial_machine.specs.store.Rows.{row_of, sizes_of}
+use Rattle.serial_machine.specs.store.Rows.{sizes_of}
+use Rattle.serial_machine.specs.store.Refilled.{row_of}
 use Rattle.frame_engine.specs.Fits.{HasMoves}
 use Rattle.schedule_workers.specs.Starts.{ArePlaces, Begins}
 use Rattle.schedule_core.specs.declared.stage.Stage.{Stage}

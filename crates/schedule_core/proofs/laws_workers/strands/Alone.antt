@@ -2,7 +2,8 @@
 use Rattle.std.proofs.Common.{◌≡◌, ◌∙◌, ℕ, ◌<◌, Option, Some, None, Bool, true, false, is_some, refl, sym, ap, subst, ℤ, pos}
 use Rattle.syntax.specs.declared.operator.Mode.{Mode}
 use Rattle.syntax.specs.declared.operator.Mode.TheVariants.{Reads, Writes, Adds}
-use Rattle.semantics.specs.Paths.{Path, itself, same_path}
+use Rattle.semantics.specs.Paths.{Path, same_path}
+use Rattle.semantics.specs.Below.{itself}
 use Rattle.semantics.specs.Cells.{Object, Shared, Local, Cell, Memory}
 use Rattle.semantics.specs.Arithmetic.{Trap}
 use Rattle.semantics.specs.Frames.{Frame, Item, Does, item_at, word_at, cell_at}

@@ -5,7 +5,8 @@ use Rattle.semantics.specs.Cells.{Memory}
 use Rattle.semantics.specs.Frames.{Halted, Frame}
 use Rattle.semantics.specs.State.{State, Change, apply, root_frame}
 use Rattle.semantics.specs.Events.{Event, start}
-use Rattle.semantics.specs.Replay.{NeverTraps, replay}
+use Rattle.semantics.specs.Replay.{replay}
+use Rattle.semantics.specs.Sound.{NeverTraps}
 use Rattle.semantics.proofs.Steps.{Does}
 use Rattle.program.specs.declared.function.Program.{Program}
 use Rattle.serial_machine.specs.verifier.Accepted.{IsProgramOf}

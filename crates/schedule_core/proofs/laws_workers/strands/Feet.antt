@@ -6,7 +6,8 @@ use Rattle.semantics.specs.Frames.{Free, OnCall, Frame}
 use Rattle.semantics.specs.State.{State, Change, apply, root_frame, start_state}
 use Rattle.semantics.specs.Tree.{Tree}
 use Rattle.semantics.specs.Events.{Event, start}
-use Rattle.semantics.specs.Replay.{NeverTraps, replay}
+use Rattle.semantics.specs.Replay.{replay}
+use Rattle.semantics.specs.Sound.{NeverTraps}
 use Rattle.semantics.proofs.Starting.{at_start, start_tree}
 use Rattle.semantics.proofs.Steps.{Does}
 use Rattle.semantics.proofs.TreeKept.{step_keeps_tree}

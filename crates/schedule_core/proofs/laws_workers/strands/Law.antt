@@ -6,7 +6,8 @@ use Rattle.semantics.specs.Cells.{Memory}
 use Rattle.semantics.specs.Frames.{Halted, Frame}
 use Rattle.semantics.specs.State.{State, may_go}
 use Rattle.semantics.specs.Events.{Machine, Event, start}
-use Rattle.semantics.specs.Replay.{NeverTraps, replay}
+use Rattle.semantics.specs.Replay.{replay}
+use Rattle.semantics.specs.Sound.{NeverTraps}
 use Rattle.semantics.proofs.Actions.{same_path_itself}
 use Rattle.semantics.proofs.Steps.{does}
 use Rattle.program.specs.declared.function.Program.{Program}

@@ -9,7 +9,8 @@ use Rattle.semantics.specs.Effect.{Effect, Plain, Detach, Sync, Call, Return, ac
 use Rattle.semantics.specs.State.{State, Change, apply, went, detached, continued, synced, called, waiting, resumed, root_frame}
 use Rattle.semantics.specs.SerialMeaning.{Left, Gave, at_last}
 use Rattle.semantics.specs.Events.{Event, start}
-use Rattle.semantics.specs.Replay.{NeverTraps, replay}
+use Rattle.semantics.specs.Replay.{replay}
+use Rattle.semantics.specs.Sound.{NeverTraps}
 use Rattle.semantics.proofs.Diamond.{no_call_after}
 use Rattle.semantics.proofs.Outcomes.{gave_same, left_none}
 use Rattle.semantics.proofs.Steps.{Does}

@@ -4,7 +4,7 @@ use Rattle.std.specs.Int.{w64}
 use mir.Val.{to_z, of_z}
 use Rattle.std.proofs.lemmas.Int.{to_z-of_z}
 use Rattle.frame_engine.specs.Fits.{HasMoves}
-use Rattle.store.specs.Rows.{refilled, row_of}
+use Rattle.store.specs.Refilled.{refilled, row_of}
 use Rattle.store.specs.declared.outcome.Finished.{Finished}
 use Rattle.store.specs.verifier.Budgets.{budget_of}
 use Rattle.serial_stack.proofs.Calling.{vec_small}

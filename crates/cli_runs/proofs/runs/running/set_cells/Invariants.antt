@@ -1,5 +1,6 @@
 use Rattle.program.specs.declared.function.Program.{Program}
-use Rattle.serial_machine.specs.store.Made.{HasGlobalCells, IsMadeFor}
+use Rattle.serial_machine.specs.store.Made.{IsMadeFor}
+use Rattle.serial_machine.specs.store.Named.{HasGlobalCells}
 use Rattle.cli_runs.proofs.runs.running.set_cells.Given as goal
 
 abbrev pub invariant-loop-setting : goal.invariant-loop-setting

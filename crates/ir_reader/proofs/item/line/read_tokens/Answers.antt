@@ -5,10 +5,12 @@ use Rattle.std.proofs.lemmas.List.Elements.{All-take, All-drop}
 use Rattle.lists.specs.declared.name.Name.{Name}
 use Rattle.ir_lex.specs.declared.token.Token.{Token}
 use Rattle.ir_lex.specs.declared.token.Kind.TheVariants as kinds
-use Rattle.ir_lex.specs.Lexemes.{IsTokenOf, text_at}
+use Rattle.ir_lex.specs.Lexemes.{IsTokenOf}
+use Rattle.ir_lex.specs.Texts.{text_at}
 use Rattle.ir_annotation.specs.Lines.{annotation_of}
 use Rattle.ir_reader.specs.declared.item.line.Line.{Line}
-use Rattle.ir_reader.specs.item.Lines.{meaning_of, annotation_line, IsMeaningFault}
+use Rattle.ir_reader.specs.item.Lines.{meaning_of, annotation_line}
+use Rattle.ir_reader.specs.item.Answers.{IsMeaningFault}
 use Rattle.ir_reader.proofs.item.line.read_tokens.Goals as goal
 
 note : (at : ℕ) (line : List ℕ) (tokens : List Token) (d : Token) → 1 ≤ length tokens → (get_or tokens 0 d).kind ≡ kinds.Note →

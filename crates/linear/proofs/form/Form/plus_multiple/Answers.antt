@@ -4,7 +4,8 @@ use Rattle.std.proofs.lemmas.Int.{to_z-of_z}
 use Rattle.std.proofs.lemmas.List.{take_all}
 use Rattle.std.proofs.lemmas.Result.{IfOk-weaker, err_from_is_err_and}
 use Rattle.linear.specs.declared.form.Term.{Term}
-use Rattle.linear.specs.Forms.{Combination, Same, constant_form, plus, scaled}
+use Rattle.linear.specs.Forms.{Same, plus, scaled}
+use Rattle.linear.specs.Terms.{Combination, constant_form}
 use Rattle.linear.proofs.Making.{Multiplied, past_end, read_coefficient, multiplied_next, multiplied_sum, term_refused}
 use Rattle.linear.proofs.form.Form.plus_multiple.Goals as goal
 

@@ -1,5 +1,6 @@
 use Rattle.std.proofs.Common.{◌≡◌, ◌∙◌, ◌<◌, ap, sym, subst, ℕ, List, length, ℤ, refl}
-use Rattle.store.specs.Rows.{row_of, sizes_of}
+use Rattle.store.specs.Rows.{sizes_of}
+use Rattle.store.specs.Refilled.{row_of}
 use Rattle.frame_engine.specs.Starts.{starts_from}
 use Rattle.serial_stack.specs.StackShown.{TextFits}
 use Rattle.serial_stack.specs.Starts.{Begins}

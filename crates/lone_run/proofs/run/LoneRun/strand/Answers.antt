@@ -3,7 +3,7 @@ use Rattle.std.specs.Int.{w64}
 use mir.Val.{to_z, of_z}
 use Rattle.std.proofs.lemmas.Int.{to_z-of_z}
 use Rattle.store.specs.declared.outcome.Finished.{Finished}
-use Rattle.store.specs.Rows.{refilled}
+use Rattle.store.specs.Refilled.{refilled}
 use Rattle.serial_stack.specs.StackShown.{Returns}
 use Rattle.serial_machine.specs.SerialPromise.{EndsWithinBudget}
 use Rattle.lone_run.proofs.OnWay.{done_before, fits, numbers, over, passed, stands, stays, went_on, within}

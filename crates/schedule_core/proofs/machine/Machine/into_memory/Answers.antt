@@ -1,7 +1,8 @@
 use Rattle.std.proofs.Common.{◌≤◌, List, length, sym, subst, ℤ}
 use Rattle.std.specs.Prelude.{sum}
 use Rattle.serial_machine.specs.store.Cells.{NamedCells}
-use Rattle.serial_machine.specs.store.Rows.{refilled, sizes_of}
+use Rattle.serial_machine.specs.store.Rows.{sizes_of}
+use Rattle.serial_machine.specs.store.Refilled.{refilled}
 use Rattle.schedule_core.specs.Stages.{HoldsGlobals}
 use Rattle.schedule_core.proofs.Held.{globals_held, row_holds_all}
 use Rattle.schedule_core.proofs.machine.Machine.into_memory.Goals as goal

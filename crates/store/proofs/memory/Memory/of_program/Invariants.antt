@@ -1,5 +1,5 @@
 use Rattle.std.proofs.Common.{◌≡◌, take, map}
-use Rattle.store.specs.Cells.{zeros}
+use Rattle.store.specs.Named.{zeros}
 use Rattle.store.proofs.memory.Memory.of_program.Given as goal
 
 abbrev pub invariant-loop-global : goal.invariant-loop-global

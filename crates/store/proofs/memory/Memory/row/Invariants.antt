@@ -1,5 +1,5 @@
 use Rattle.std.proofs.Common.{◌≡◌, ◌++◌, drop}
-use Rattle.store.specs.Rows.{row_of}
+use Rattle.store.specs.Refilled.{row_of}
 use Rattle.store.proofs.memory.Memory.row.Given as goal
 
 abbrev pub invariant-loop-global : goal.invariant-loop-global

@@ -2,7 +2,7 @@ use Rattle.std.proofs.Common.{◌∙◌, List, length, suc, drop, Some, slice_se
 use Rattle.std.proofs.lemmas.List.{length-set}
 use Rattle.std.proofs.lemmas.Option.{slice_get-get_or}
 use Rattle.store.specs.Cells.{NamedCells}
-use Rattle.store.specs.Rows.{refilled}
+use Rattle.store.specs.Refilled.{refilled}
 use Rattle.store.proofs.Refilling.{Partly, partly_done, partly_next}
 use Rattle.store.proofs.memory.Memory.set_row.Goals as goal
 

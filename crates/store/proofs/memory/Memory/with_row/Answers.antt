@@ -1,6 +1,6 @@
 use Rattle.std.proofs.Common.{◌≡◌, ◌∙◌, ap, arith, ℕ, List, length, min}
 use Rattle.store.specs.Cells.{NamedCells}
-use Rattle.store.specs.Rows.{refilled}
+use Rattle.store.specs.Refilled.{refilled}
 use Rattle.store.proofs.Refilling.{refill_step, refill_end}
 use Rattle.store.proofs.memory.Memory.with_row.Goals as goal
 

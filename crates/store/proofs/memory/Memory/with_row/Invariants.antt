@@ -1,5 +1,5 @@
 use Rattle.std.proofs.Common.{◌≡◌, ◌++◌, drop}
-use Rattle.store.specs.Rows.{refilled}
+use Rattle.store.specs.Refilled.{refilled}
 use Rattle.store.proofs.memory.Memory.with_row.Given as goal
 
 abbrev pub invariant-loop-global : goal.invariant-loop-global

@@ -1,7 +1,7 @@
 use Rattle.std.proofs.Common.{◌≡◌, subst}
 use Rattle.std.specs.Prelude.{IfOk, map}
 use Rattle.program.specs.declared.function.Program.{Program}
-use Rattle.store.specs.Cells.{zeros}
+use Rattle.store.specs.Named.{zeros}
 use Rattle.store.proofs.Made.{made_for_if, made_if}
 use Rattle.store.proofs.memory.Memory.zeroed.Goals as goal
 
