@@ -30,8 +30,9 @@ after_step functions known step = with_shows known step.shows ++
 
 -- before the `shows` lines of the step of this number; behind all steps where there are fewer
 abbrev pub facts_before : List Function → List Fact → List Step → ℕ → List Fact
+facts_before functions known steps zero = known
+facts_before functions known [] (suc i) = known
 facts_before functions known (step ∷ steps) (suc i) = facts_before functions (after_step functions known step) steps i
-facts_before functions known one other = known
 
 abbrev pub step_shows : Option Step → List Inequality
 step_shows None = []
