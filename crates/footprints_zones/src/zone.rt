@@ -171,7 +171,7 @@ pub fn conflict(
 /// Whether two zones may have a cell in common, where `y` has any, and the order of its uses may matter. Few pairs get as far as the question
 /// whether `z` is empty, and who asks of many zones beside one `y` asks once whether that is.
 #[inline(always)]
-#[tactic(auto, unfolding(crate::specs::Zones::meets))]
+#[tactic(auto, unfolding(crate::specs::Meets::meets))]
 pub fn meets(
     alloc: Global,
     facts: &Known<'_>,

@@ -16,7 +16,7 @@ use Rattle.region_match.specs.Matched.{AreRegionsRight, IsTaskBroken}
 use Rattle.definedness.specs.Definedness.{IsDefinednessBroken}
 use Rattle.ranges.specs.Rules.{IsRangeBroken, AreRangesRight}
 use Rattle.footprints.specs.Rules.{IsZoneBroken, AreZonesRightBy}
-use Rattle.cost_table.specs.Rules.{IsCostBroken}
+use Rattle.cost_table.specs.Rules.{IsCostBroken, AreCostsRight}
 use Rattle.verifier.specs.Accepted.{AreTasksOf, AreZonesRight, IsFirstOfZones, IsRight, IsFaulty}
 use Rattle.laws_phases.proofs.zones.Tables.{one_table}
 
@@ -79,7 +79,7 @@ right_or_faulty program broken right (inr (_, inl h)) = regions_right program _ 
 right_or_faulty program broken right (inr (_, inr (_, inl h))) = right.definedness _ h.0
 right_or_faulty program broken right (inr (_, inr (_, inr (_, inl h)))) = right.ranges _ h.0
 right_or_faulty program broken right (inr (_, inr (_, inr (_, inr (_, inl h))))) = zones_right program broken right.zones h
-right_or_faulty program broken right (inr (_, inr (_, inr (_, inr (_, inr (_, h)))))) = right.costs _ h.0
+right_or_faulty program broken right (inr (_, inr (_, inr (_, inr (_, inr (_, inl h)))))) = right.costs _ h.0
 
 module _ (program : Program) (a b : Broken) where
   -- of a phase and those behind it, which are reached where its rules hold
@@ -89,15 +89,20 @@ module _ (program : Program) (a b : Broken) where
   phase P Right Later Later' never later (inr h) (inl k) = absurd (never h.0 _ k.0)
   phase P Right Later Later' never later (inr h) (inr k) = later h.1 k.1
 
-  last : IsFirstOfZones program a ⊎ (AreZonesRight program × IsFirst (IsCostBroken program) a) → IsFirstOfZones program b ⊎ (AreZonesRight program × IsFirst (IsCostBroken program) b) → a ≡ b
-  last (inl h) (inl k) = one_zone_fault program a b h k
-  last (inl h) (inr k) = absurd (zones_right program a k.0 h)
-  last (inr h) (inl k) = absurd (zones_right program b h.0 k)
-  last (inr h) (inr k) = one_earliest (IsCostBroken program) a b h.1 k.1
+  costs : IsFirst (IsCostBroken program) a ⊎ (AreCostsRight program × ⊥) → IsFirst (IsCostBroken program) b ⊎ (AreCostsRight program × ⊥) → a ≡ b
+  costs (inl h) (inl k) = one_earliest (IsCostBroken program) a b h k
+  costs (inl h) (inr (_, k)) = absurd k
+  costs (inr (_, h)) k = absurd h
+
+  zones : IsFirstOfZones program a ⊎ (AreZonesRight program × (IsFirst (IsCostBroken program) a ⊎ (AreCostsRight program × ⊥))) → IsFirstOfZones program b ⊎ (AreZonesRight program × (IsFirst (IsCostBroken program) b ⊎ (AreCostsRight program × ⊥))) → a ≡ b
+  zones (inl h) (inl k) = one_zone_fault program a b h k
+  zones (inl h) (inr k) = absurd (zones_right program a k.0 h)
+  zones (inr h) (inl k) = absurd (zones_right program b h.0 k)
+  zones (inr h) (inr k) = costs h.1 k.1
 
   pub one_fault : IsFaulty program a → IsFaulty program b → a ≡ b
   one_fault =
       phase (IsGraphBroken program) (IsGraphRight program) _ _ (λ right x. graph_right program x right)
       (phase (IsTaskBroken program) (AreRegionsRight program) _ _ (λ right x. regions_right program x right)
       (phase (IsDefinednessBroken program) _ _ _ (λ right. right)
-      (phase (IsRangeBroken program) (AreRangesRight program) _ _ (λ right. right) last)))
+      (phase (IsRangeBroken program) (AreRangesRight program) _ _ (λ right. right) zones)))

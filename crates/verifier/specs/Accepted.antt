@@ -1,5 +1,5 @@
 -- What a text means by the phases: a program, or the fault that is named.
-use Rattle.std.specs.Prelude.{◌≡◌, ◌⊎◌, ℕ, List, Option, Some, Ok, Err}
+use Rattle.std.specs.Prelude.{◌≡◌, ◌⊎◌, ℕ, List, [], ◌∷◌, Option, Some, Ok, Err}
 use Rattle.refusal.specs.declared.broken.Broken.{Broken}
 use Rattle.refusal.specs.Earliest.{IsFirst}
 use Rattle.refusal.specs.Refusals.{IfBroken}
@@ -50,12 +50,28 @@ abbrev pub IsProgramOf : List ℕ → Program → Type 0
 IsProgramOf text program = (whole : Module) × Answers text (Ok whole) × (typed : Typed) × MeansTyped whole (Ok typed) ×
     (typed.program ≡ program) × IsRight program
 
--- of the first phase after the types whose rules the program breaks this is the earliest broken one
+-- a phase: which fault it names, and that its rules are kept
+pub record Phase : Type 1 where
+  pub names : Broken → Type 0
+  pub kept : Type 0
+
+-- the phases after the types, in their order
+abbrev pub phases : Program → List Phase
+phases program =
+    record { names = IsFirst (IsGraphBroken program); kept = IsGraphRight program } ∷
+    record { names = IsFirst (IsTaskBroken program); kept = AreRegionsRight program } ∷
+    record { names = IsFirst (IsDefinednessBroken program); kept = IsDefined program } ∷
+    record { names = IsFirst (IsRangeBroken program); kept = AreRangesRight program } ∷
+    record { names = IsFirstOfZones program; kept = AreZonesRight program } ∷
+    record { names = IsFirst (IsCostBroken program); kept = AreCostsRight program } ∷ []
+
+-- a phase names this fault, and the rules of those before it are kept
+abbrev pub IsNamedBy : List Phase → Broken → Type 0
+IsNamedBy [] broken = ⊥
+IsNamedBy (phase ∷ later) broken = phase.names broken ⊎ (phase.kept × IsNamedBy later broken)
+
 abbrev pub IsFaulty : Program → Broken → Type 0
-IsFaulty program broken = IsFirst (IsGraphBroken program) broken ⊎ (IsGraphRight program ×
-    (IsFirst (IsTaskBroken program) broken ⊎ (AreRegionsRight program × (IsFirst (IsDefinednessBroken program) broken ⊎
-    (IsDefined program × (IsFirst (IsRangeBroken program) broken ⊎ (AreRangesRight program ×
-    (IsFirstOfZones program broken ⊎ (AreZonesRight program × IsFirst (IsCostBroken program) broken)))))))))
+IsFaulty program broken = IsNamedBy (phases program) broken
 
 -- the text breaks this rule at this line, by the first phase with a fault
 abbrev pub IsRefused : List ℕ → Broken → Type 0

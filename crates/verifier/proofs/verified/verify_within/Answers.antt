@@ -60,4 +60,4 @@ returns-in_err-check_zones-clause-refused c = err_from _ _ _ c.from_residual-in_
 pub returns-in_err-table-clause-refused : goal.returns-in_err-table-clause-refused
 returns-in_err-table-clause-refused c = err_from _ _ _ c.from_residual-in_err-table.ensures.1
     (unverified_by _ _ (IsCostBroken c.in_ok-graph.graph.program) _ c.in_err-table.ensures.fault (λ refused named. (refused_after _ _ c.in_ok-typed.typed _ _ _ c.in_ok-graph.ensures.same c.in_ok-module.ensures.exact c.in_ok-typed.ensures.judged
-    (λ b h. inr (rw c.in_ok-graph.ensures.same c.in_ok-graph.ensures.right, inr (c.in_ok-regions.ensures.right, inr (c.in_ok-defined.ensures.right, inr (c.in_ok-facts.ensures.right, inr ((c.in_ok-regions.regions, by_tasks c.in_ok-graph.graph.program c.in_ok-graph.graph.functions c.in_ok-regions.regions c.in_ok-graph.graph.edges c.in_ok-regions.ensures.tasks, c.in_ok-check_zones.ensures.right), h)))))) named)))
+    (λ b h. inr (rw c.in_ok-graph.ensures.same c.in_ok-graph.ensures.right, inr (c.in_ok-regions.ensures.right, inr (c.in_ok-defined.ensures.right, inr (c.in_ok-facts.ensures.right, inr ((c.in_ok-regions.regions, by_tasks c.in_ok-graph.graph.program c.in_ok-graph.graph.functions c.in_ok-regions.regions c.in_ok-graph.graph.edges c.in_ok-regions.ensures.tasks, c.in_ok-check_zones.ensures.right), inl h)))))) named)))
