@@ -1,5 +1,5 @@
 -- What a program has that the verifier takes.
-use Rattle.std.proofs.Common.{◌≡◌, ℕ, ◌<◌, List, length, Some, true, is_some, subst, arith, Ok}
+use Rattle.std.proofs.Common.{◌≡◌, ℕ, ◌<◌, List, length, Some, true, is_some, arith, Ok}
 use Rattle.std.specs.Prelude.{slice_get}
 use Rattle.std.specs.List.{All}
 use Rattle.program.specs.declared.function.Function.{Function}
@@ -58,9 +58,8 @@ module _ (whole : Module) (kept : IsKeptModule whole) (program : Program) (m : M
 
 pub is_taken : (text : List ℕ) (program : Program) → IsProgramOf text program → IsTaken program
 is_taken text program accepted =
-    let P : Program → Type 0 = λ p. Means accepted.0 (Ok p) in
-    taken accepted.0 (answers_kept text accepted.0 accepted.1) program (subst P accepted.4 accepted.3)
-    (accepted_programs_are_typed text program accepted) accepted.5
+    taken accepted.0 (answers_kept text accepted.0 accepted.1) program accepted.2
+    (accepted_programs_are_typed text program accepted) accepted.3
 
 module _ (program : Program) (t : IsTaken program) where
   -- by any table of the blocks' tasks

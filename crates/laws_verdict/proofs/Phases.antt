@@ -80,6 +80,7 @@ right_or_faulty program broken right (inr (_, inr (_, inl h))) = right.definedne
 right_or_faulty program broken right (inr (_, inr (_, inr (_, inl h)))) = right.ranges _ h.0
 right_or_faulty program broken right (inr (_, inr (_, inr (_, inr (_, inl h))))) = zones_right program broken right.zones h
 right_or_faulty program broken right (inr (_, inr (_, inr (_, inr (_, inr (_, inl h)))))) = right.costs _ h.0
+right_or_faulty program broken right (inr (_, inr (_, inr (_, inr (_, inr (_, inr (_, h))))))) = absurd h
 
 module _ (program : Program) (a b : Broken) where
   -- of a phase and those behind it, which are reached where its rules hold

@@ -1,12 +1,10 @@
 -- A text has one verdict.
-use Rattle.std.proofs.Common.{◌≡◌, ◌⊎◌, ◌∙◌, ℕ, List, Result, Ok, Err, inl, inr, sym, ap, subst}
+use Rattle.std.proofs.Common.{◌≡◌, ◌⊎◌, ℕ, List, Result, Ok, Err, inl, inr, sym, ap, subst}
 use Rattle.refusal.specs.declared.broken.Broken.{Broken}
 use Rattle.syntax.specs.declared.module.Module.{Module}
 use Rattle.program.specs.declared.function.Program.{Program}
 use Rattle.ir_reader.specs.Reading.{Answers}
 use Rattle.ir_reader.proofs.OneAnswer.{one_answer}
-use Rattle.types.specs.declared.typed.Typed.{Typed}
-use Rattle.types.specs.Typed.{MeansTyped}
 use Rattle.types.specs.Meaning.{Means}
 use Rattle.verifier.specs.Accepted.{IsProgramOf, IsFaulty, IsRefused}
 use Rattle.laws_verdict.specs.Verdicts.{VerdictsAreOne}
@@ -21,17 +19,17 @@ same_module text a b one other = let e = one_answer text (Ok a) (Ok b) one other
 never_both : (text : List ℕ) (a : Module) (fault : ℕ × ℕ) → Answers text (Ok a) → Answers text (Err fault) → ⊥
 never_both text a fault one other = let e = one_answer text (Ok a) (Err fault) one other in cc
 
-same_program : (a b : Module) (s t : Typed) → a ≡ b → MeansTyped a (Ok s) → MeansTyped b (Ok t) → s.program ≡ t.program
-same_program a b s t e h k =
-    let same = one_meaning b (Ok s.program) (Ok t.program) (subst (λ (m : Module). Means m (Ok s.program)) e h) k in
+same_program : (a b : Module) (p q : Program) → a ≡ b → Means a (Ok p) → Means b (Ok q) → p ≡ q
+same_program a b p q e h k =
+    let same = one_meaning b (Ok p) (Ok q) (subst (λ (m : Module). Means m (Ok p)) e h) k in
     cc
 
-never_faulty : (a b : Module) (s : Typed) (fault : Broken) → a ≡ b → MeansTyped a (Ok s) → MeansTyped b (Err fault) → ⊥
-never_faulty a b s fault e h k =
-    let same = one_meaning b (Ok s.program) (Err fault) (subst (λ (m : Module). Means m (Ok s.program)) e h) k in
+never_faulty : (a b : Module) (p : Program) (fault : Broken) → a ≡ b → Means a (Ok p) → Means b (Err fault) → ⊥
+never_faulty a b p fault e h k =
+    let same = one_meaning b (Ok p) (Err fault) (subst (λ (m : Module). Means m (Ok p)) e h) k in
     cc
 
-same_fault : (a b : Module) (f g : Broken) → a ≡ b → MeansTyped a (Err f) → MeansTyped b (Err g) → f ≡ g
+same_fault : (a b : Module) (f g : Broken) → a ≡ b → Means a (Err f) → Means b (Err g) → f ≡ g
 same_fault a b f g e h k =
     let same = one_meaning b (Err f) (Err g) (subst (λ (m : Module). Means m (Err f)) e h) k in
     cc
@@ -42,19 +40,18 @@ pair f g e = cc
 -- ---- the law
 
 one_program : (text : List ℕ) (p q : Program) → IsProgramOf text p → IsProgramOf text q → p ≡ q
-one_program text p q (a, read, s, means, is, right) (b, reads, t, means', is', right') =
-    sym is ∙ same_program a b s t (same_module text a b read reads) means means' ∙ is'
+one_program text p q (a, read, means, right) (b, reads, means', right') =
+    same_program a b p q (same_module text a b read reads) means means'
 
 fault_after : (a b : Module) (f g : Broken) → a ≡ b →
-    MeansTyped a (Err f) ⊎ ((s : Typed) × MeansTyped a (Ok s) × IsFaulty s.program f) →
-    MeansTyped b (Err g) ⊎ ((t : Typed) × MeansTyped b (Ok t) × IsFaulty t.program g) →
+    Means a (Err f) ⊎ ((p : Program) × Means a (Ok p) × IsFaulty p f) →
+    Means b (Err g) ⊎ ((q : Program) × Means b (Ok q) × IsFaulty q g) →
     f ≡ g
 fault_after a b f g e (inl h) (inl k) = same_fault a b f g e h k
-fault_after a b f g e (inl h) (inr (t, k, _)) = absurd (never_faulty b a t f (sym e) k h)
-fault_after a b f g e (inr (s, h, _)) (inl k) = absurd (never_faulty a b s g e h k)
-fault_after a b f g e (inr (s, h, faulty)) (inr (t, k, faulty')) =
-    one_fault t.program f g
-    (subst (λ (p : Program). IsFaulty p f) (same_program a b s t e h k) faulty) faulty'
+fault_after a b f g e (inl h) (inr (q, k, _)) = absurd (never_faulty b a q f (sym e) k h)
+fault_after a b f g e (inr (p, h, _)) (inl k) = absurd (never_faulty a b p g e h k)
+fault_after a b f g e (inr (p, h, faulty)) (inr (q, k, faulty')) =
+    one_fault q f g (subst (λ (r : Program). IsFaulty r f) (same_program a b p q e h k) faulty) faulty'
 
 one_refusal : (text : List ℕ) (f g : Broken) → IsRefused text f → IsRefused text g → f ≡ g
 one_refusal text f g (inl h) (inl k) =
@@ -65,11 +62,11 @@ one_refusal text f g (inr (a, read, _)) (inl k) = absurd (never_both text a (g.n
 one_refusal text f g (inr (a, read, h)) (inr (b, reads, k)) = fault_after a b f g (same_module text a b read reads) h k
 
 not_refused : (text : List ℕ) (p : Program) (f : Broken) → IsProgramOf text p → IsRefused text f → ⊥
-not_refused text p f (a, read, s, means, is, right) (inl h) = never_both text a (f.number, f.line) read h
-not_refused text p f (a, read, s, means, is, right) (inr (b, reads, inl h)) = never_faulty a b s f (same_module text a b read reads) means h
-not_refused text p f (a, read, s, means, is, right) (inr (b, reads, inr (t, means', h))) =
+not_refused text p f (a, read, means, right) (inl h) = never_both text a (f.number, f.line) read h
+not_refused text p f (a, read, means, right) (inr (b, reads, inl h)) = never_faulty a b p f (same_module text a b read reads) means h
+not_refused text p f (a, read, means, right) (inr (b, reads, inr (q, means', h))) =
     right_or_faulty p f right
-    (subst (λ (q : Program). IsFaulty q f) (sym (same_program a b s t (same_module text a b read reads) means means') ∙ is) h)
+    (subst (λ (r : Program). IsFaulty r f) (sym (same_program a b p q (same_module text a b read reads) means means')) h)
 
 pub one_verdict : VerdictsAreOne
 one_verdict text = record {

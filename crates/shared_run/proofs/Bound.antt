@@ -154,7 +154,7 @@ module _ (prog : Program) (workers : ℕ) where
 
 -- an accepted module's budget is a million million at most
 pub budget_small : (program : Program) → IsAccepted program → budget_of program < 2 ^ 62
-budget_small program accepted = let b = budget_bounded program (accepted.means.5).costs in omega (arith, b)
+budget_small program accepted = let b = budget_bounded program (accepted.means.3).costs in omega (arith, b)
 
 module _ (o : Origin) (events : List Event) (stage : Stage) (legal : IsLegal o events stage) where
   pub few : length events ≤ 2 * budget_of o.program + 63

@@ -4,7 +4,7 @@ ghost use Rattle.types.specs.names.Told.{Gives};
 ghost use Rattle.types.specs.Apart.{CallsApart};
 ghost use Rattle.types.specs.Definitions.{EachDefinesAnew, KeepsParameters};
 ghost use Rattle.types.specs.Meaning as spec;
-ghost use Rattle.types.specs.Typed.{Judges, Resolves};
+ghost use Rattle.types.specs.Typed.{Judges};
 
 use crate::call::World;
 use crate::function::resolve_functions;
@@ -110,7 +110,7 @@ fn resolve_program(
 
 /// The program that a module means.
 fn resolve_module(alloc: Global, state: RandomState, whole: &Module) -> Result<Program, Refused>
-    ensures { Resolves whole.now result }
+    ensures { Judges (λ program. program) whole.now result }
 {
     let items = items_of(alloc, state, whole)?;
     let mentions = all_mentions(alloc, &items, whole.functions.as_slice())?;
@@ -122,7 +122,7 @@ fn resolve_module(alloc: Global, state: RandomState, whole: &Module) -> Result<P
 ///
 /// The tables of names are hashed with `state`.
 pub fn check_types(alloc: Global, state: RandomState, whole: Module) -> Result<Typed, Refused>
-    ensures judged { Judges whole result }
+    ensures judged { Judges (λ typed. typed.program) whole result }
     ensures apart { IfOk result (λ typed. CallsApart typed.program.functions) }
     ensures kept { EachDefinesAnew whole.functions → IfOk result (λ typed. KeepsParameters typed.program.functions) }
 {

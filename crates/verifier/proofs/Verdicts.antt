@@ -13,6 +13,7 @@ use Rattle.footprints.specs.ranges.Judged.{JudgesEarliest}
 use Rattle.syntax.specs.declared.module.Module.{Module}
 use Rattle.ir_reader.specs.Reading.{Answers, IsFaultOfText}
 use Rattle.types.specs.declared.typed.Typed.{Typed}
+use Rattle.types.specs.Meaning.{Means}
 use Rattle.types.specs.Typed.{Judges}
 use Rattle.cfg.specs.declared.structure.FunctionGraph.{FunctionGraph}
 use Rattle.cfg.specs.Edges.{graphs_of}
@@ -31,17 +32,17 @@ pub refused_by_text : (text : List ℕ) (refused : Refused) → IsFaultOfText te
 refused_by_text text (Fault number line) h = inl h
 refused_by_text text Memory h = tt
 
-pub refused_by_types : (text : List ℕ) (whole : Module) (refused : Refused) → Answers text (Ok whole) → Judges whole (Err refused) → IfBroken (IsRefused text) refused
+pub refused_by_types : (text : List ℕ) (whole : Module) (refused : Refused) → Answers text (Ok whole) → Judges (λ (typed : Typed). typed.program) whole (Err refused) → IfBroken (IsRefused text) refused
 refused_by_types text whole (Fault number line) a h = inr (whole, a, inl h)
 refused_by_types text whole Memory a h = tt
 
 -- a phase after the types
-pub refused_after : (text : List ℕ) (whole : Module) (typed : Typed) (kept : Program) (IsBroken : Broken → Type 0) (refused : Refused) → kept ≡ typed.program → Answers text (Ok whole) → Judges whole (Ok typed) →
+pub refused_after : (text : List ℕ) (whole : Module) (program kept : Program) (IsBroken : Broken → Type 0) (refused : Refused) → kept ≡ program → Answers text (Ok whole) → Means whole (Ok program) →
     ((broken : Broken) → IsFirst IsBroken broken → IsFaulty kept broken) → NamesEarliest IsBroken refused → IfBroken (IsRefused text) refused
-refused_after text whole typed kept IsBroken (Fault number line) same a j phase named =
+refused_after text whole program kept IsBroken (Fault number line) same a j phase named =
     let h = phase (record { line = line; number = number }) named in
-    inr (whole, a, inr (typed, j, rw same at h))
-refused_after text whole typed kept IsBroken Memory same a j phase named = tt
+    inr (whole, a, inr (program, j, rw same at h))
+refused_after text whole program kept IsBroken Memory same a j phase named = tt
 
 -- a phase within some effort
 pub unverified_by : (text : List ℕ) (effort : Option ℕ) (IsBroken : Broken → Type 0) (u : Unverified) → JudgesEarliest effort IsBroken u → ((refused : Refused) → NamesEarliest IsBroken refused → IfBroken (IsRefused text) refused) → IsUnverified text effort u
@@ -52,11 +53,11 @@ unverified_by text effort IsBroken (unverified.OutOfEffort granted) h by = h
 pub by_tasks : (program : Program) (graphs : List FunctionGraph) (regions : Regions) → graphs ≡ graphs_of program → AreAllTasks graphs regions.functions → AreTasksOf program regions
 by_tasks program graphs regions e h = subst (λ (gs : List FunctionGraph). AreAllTasks gs regions.functions) e h
 
-pub program_of : (text : List ℕ) (whole : Module) (typed : Typed) (kept : Program) → kept ≡ typed.program → Answers text (Ok whole) → Judges whole (Ok typed) → IsGraphRight typed.program → AreRegionsRight kept → IsDefined kept → AreRangesRight kept → AreZonesRight kept → AreCostsRight kept → IsProgramOf text kept
-program_of text whole typed kept same a j right regions defined ranges zones costs = (whole, a, typed, j, sym same, record { graph = rw same right; regions = regions; definedness = defined; ranges = ranges; zones = zones; costs = costs })
+pub program_of : (text : List ℕ) (whole : Module) (program kept : Program) → kept ≡ program → Answers text (Ok whole) → Means whole (Ok program) → IsGraphRight program → AreRegionsRight kept → IsDefined kept → AreRangesRight kept → AreZonesRight kept → AreCostsRight kept → IsProgramOf text kept
+program_of text whole program kept same a j right regions defined ranges zones costs = (whole, a, subst (λ (p : Program). Means whole (Ok p)) (sym same) j, record { graph = rw same right; regions = regions; definedness = defined; ranges = ranges; zones = zones; costs = costs })
 
-pub limits_of : (text : List ℕ) (whole : Module) (typed : Typed) (kept : Program) → kept ≡ typed.program → Answers text (Ok whole) → Judges whole (Ok typed) → IsWithinLimits kept
-limits_of text whole typed kept same a j = subst IsWithinLimits (sym same) (within_limits text whole a typed.program j)
+pub limits_of : (text : List ℕ) (whole : Module) (program kept : Program) → kept ≡ program → Answers text (Ok whole) → Means whole (Ok program) → IsWithinLimits kept
+limits_of text whole program kept same a j = subst IsWithinLimits (sym same) (within_limits text whole a program j)
 
 -- an error that a call hands on
 pub err_from : {T E : Type 0} (Q : E → Type 0) (r : Result T E) (e : E) → IsErrAnd r (λ y. y ≡ e) → Q e → IfErr r Q

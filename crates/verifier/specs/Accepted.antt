@@ -6,8 +6,7 @@ use Rattle.refusal.specs.Refusals.{IfBroken}
 use Rattle.syntax.specs.declared.module.Module.{Module}
 use Rattle.program.specs.declared.function.Program.{Program}
 use Rattle.ir_reader.specs.Reading.{Answers}
-use Rattle.types.specs.declared.typed.Typed.{Typed}
-use Rattle.types.specs.Typed.{MeansTyped}
+use Rattle.types.specs.Meaning.{Means}
 use Rattle.cfg.specs.Edges.{graphs_of}
 use Rattle.cfg.specs.Rules.{IsGraphRight, IsGraphBroken}
 use Rattle.region_match.specs.declared.tables.Regions.{Regions}
@@ -47,8 +46,8 @@ pub record IsRight (program : Program) : Type 0 where
 
 -- the text is read as a module, the module means this program, and the program keeps the rules
 abbrev pub IsProgramOf : List ℕ → Program → Type 0
-IsProgramOf text program = (whole : Module) × Answers text (Ok whole) × (typed : Typed) × MeansTyped whole (Ok typed) ×
-    (typed.program ≡ program) × IsRight program
+IsProgramOf text program = (whole : Module) × Answers text (Ok whole) × Means whole (Ok program) ×
+    IsRight program
 
 -- a phase: which fault it names, and that its rules are kept
 pub record Phase : Type 1 where
@@ -76,7 +75,7 @@ IsFaulty program broken = IsNamedBy (phases program) broken
 -- the text breaks this rule at this line, by the first phase with a fault
 abbrev pub IsRefused : List ℕ → Broken → Type 0
 IsRefused text broken = Answers text (Err (broken.number, broken.line)) ⊎ ((whole : Module) × Answers text (Ok whole) ×
-    (MeansTyped whole (Err broken) ⊎ ((typed : Typed) × MeansTyped whole (Ok typed) × IsFaulty typed.program broken)))
+    (Means whole (Err broken) ⊎ ((program : Program) × Means whole (Ok program) × IsFaulty program broken)))
 
 -- if a fault, then the text is refused for it; or there is no verdict, and the effort is named that was granted, if
 -- that is bounded

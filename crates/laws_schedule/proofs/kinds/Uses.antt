@@ -156,5 +156,4 @@ module _ (whole : Module) (kept : IsKeptModule whole) (program : Program) (m : M
 
 pub uses_are_kinded : UsesAreKinded
 uses_are_kinded text program accepted =
-    let P : Program → Type 0 = λ p. Means accepted.0 (Ok p) in
-    kinded_uses accepted.0 (answers_kept text accepted.0 accepted.1) program (subst P accepted.4 accepted.3)
+    kinded_uses accepted.0 (answers_kept text accepted.0 accepted.1) program accepted.2

@@ -21,7 +21,7 @@ use Rattle.program.specs.declared.function.Function.{Function}
 use Rattle.program.specs.declared.function.Program.{Program}
 use Rattle.types.specs.Apart.{NamesGlobal, parameters_at, CallsApart}
 use Rattle.types.specs.Definitions.{IsFrom, KeepsParameters}
-use Rattle.laws_schedule.specs.pointers.Apart.{IsReached, at_start as starts, by_step, KeepsNamesApart, PointerNamesAreApart, MeantNamesAreApart, AcceptedNamesAreApart}
+use Rattle.laws_schedule.specs.pointers.Apart.{IsReached, at_start as starts, by_step, PointerNamesAreApart, MeantNamesAreApart, AcceptedNamesAreApart}
 use Rattle.types.proofs.Programs.{program_apart, program_kept}
 use Rattle.ir_reader.proofs.Keeping.{answers_kept}
 use Rattle.laws_schedule.proofs.pointers.Anew.{read_anew}
@@ -179,5 +179,4 @@ meant_names_are_apart text whole prog read means =
 
 pub accepted_names_are_apart : AcceptedNamesAreApart
 accepted_names_are_apart text prog accepted =
-    let at : Program → Type 0 = λ p. KeepsNamesApart p in
-    subst at accepted.4 (meant_names_are_apart text accepted.0 accepted.2.program accepted.1 accepted.3)
+    meant_names_are_apart text accepted.0 prog accepted.1 accepted.2

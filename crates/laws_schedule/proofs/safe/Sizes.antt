@@ -82,7 +82,6 @@ module _ (whole : Module) (kept : IsKeptModule whole) (program : Program) (m : M
 
 pub uses_are_sized : UsesAreSized
 uses_are_sized text program accepted =
-    let P : Program → Type 0 = λ p. Means accepted.0 (Ok p) in
-    let right = accepted.5 in
+    let right = accepted.3 in
     let all = accepted_programs_are_typed text program accepted in
-    sized_uses accepted.0 (answers_kept text accepted.0 accepted.1) program (subst P accepted.4 accepted.3) (stable_by_rules program all.named right.graph right.regions all.uses)
+    sized_uses accepted.0 (answers_kept text accepted.0 accepted.1) program accepted.2 (stable_by_rules program all.named right.graph right.regions all.uses)

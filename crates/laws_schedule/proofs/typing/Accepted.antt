@@ -1,5 +1,5 @@
 -- All of it for each program that the verifier takes.
-use Rattle.std.proofs.Common.{subst, Ok}
+use Rattle.std.proofs.Common.{Ok}
 use Rattle.program.specs.declared.function.Program.{Program}
 use Rattle.syntax.specs.declared.module.Module.{Module}
 use Rattle.ir_reader.specs.Kept.{IsKeptModule}
@@ -31,5 +31,4 @@ has_all whole program kept m right = record {
 
 pub accepted_programs_are_typed : AcceptedProgramsAreTyped
 accepted_programs_are_typed text program accepted =
-    let P : Program → Type 0 = λ p. Means accepted.0 (Ok p) in
-    has_all accepted.0 program (answers_kept text accepted.0 accepted.1) (subst P accepted.4 accepted.3) accepted.5
+    has_all accepted.0 program (answers_kept text accepted.0 accepted.1) accepted.2 accepted.3

@@ -166,5 +166,4 @@ zones_are_named whole program m = names_zones whole program m
 
 pub accepted_zones_are_named : AcceptedZonesAreNamed
 accepted_zones_are_named text program accepted =
-    let P : Program → Type 0 = λ p. Means accepted.0 (Ok p) in
-    names_zones accepted.0 program (subst P accepted.4 accepted.3)
+    names_zones accepted.0 program accepted.2

@@ -66,7 +66,7 @@ module _ (function : Function) (tasks : List Task) (table : AreTasks (graph_of f
 
 pub reads_are_sure : ReadsAreSure
 reads_are_sure program accepted k d w =
-    let right = accepted.means.5 in
+    let right = accepted.means.3 in
     let function : Function = get_or program.functions k d in
     let at : slice_get program.functions k ≡ Some function = slice_get-get_or program.functions k d w in
     reads_sure function (tasks_of right.zones.0 k) (tasks_at program right.zones.0 right.zones.1 k function at)

@@ -183,7 +183,7 @@ module _ (text : List ℕ) (program : Program) (accepted : IsProgramOf text prog
   kept = answers_kept text accepted.0 accepted.1
 
   meaning : Means whole (Ok program)
-  meaning = let P : Program → Type 0 = λ p. Means accepted.0 (Ok p) in subst P accepted.4 accepted.3
+  meaning = accepted.2
 
   pub object_named : (f b i : ℕ) (what : Instruction) (function : Function) (name : ObjectName) → item_at program f b i ≡ Some (Does what) → slice_get program.functions f ≡ Some function → InstructionNames what name →
       IsThere program function name
