@@ -1,4 +1,3 @@
 pub mod Reading
-pub mod code
 -- for the crates above
 pub use Rattle.semantics.specs as semantics

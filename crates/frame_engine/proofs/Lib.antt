@@ -19,5 +19,4 @@ pub mod Passing
 pub mod Zeroing
 pub mod Touches
 pub mod Texts
-pub mod Meant
 pub mod Executed

@@ -15,6 +15,5 @@ pub mod Items
 pub mod Starts
 pub mod Access
 pub mod Accesses
-pub mod Progress
 pub mod Turned
 pub mod Kinds

@@ -73,9 +73,8 @@ fn next_block(regs: &[i64], terminator: &Terminator) -> Option<BlockId>
     }
 }
 
-/// Goes along the edge of a plain ending and says to which block, apart from the loop's code: few blocks end with a switch.
-#[cold]
-#[inline(never)]
+/// Goes along the edge of a plain ending and says to which block.
+#[inline(always)]
 pub fn leave(
     regs: &mut [i64],
     moves: &mut [i64],

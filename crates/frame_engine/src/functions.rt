@@ -23,16 +23,6 @@ pub fn block_at(blocks: &Seq<Block>, block: BlockId) -> &Block
     &blocks.as_slice()[block.0]
 }
 
-/// The same, apart from the loop's code, which has a block seldom and is not to find its place each time.
-#[cold]
-#[inline(never)]
-pub fn far_block(blocks: &Seq<Block>, block: BlockId) -> &Block
-    requires { block.0 < length blocks.now }
-    ensures { slice_get blocks.now block.0 ≡ Some result.now }
-{
-    block_at(blocks, block)
-}
-
 /// The cells of a function's allocas; none where 64 bits don't count them.
 #[inline(always)]
 pub fn frame_cells(allocas: &[Alloca]) -> Option<usize>

@@ -1,23 +1,20 @@
-//! The inner loop of the machine over words, with no test: what it rests on is asked for.
+//! A frame over words, which goes on step by step with no test: what it rests on is asked for.
 #![tactic(auto)]
 
 mod activation;
 mod arithmetic;
 mod beginning;
 mod borders;
-mod branching;
 mod calls;
 mod cells;
 mod clearing;
 mod doing;
 mod ending;
 mod entering;
-mod executing;
 mod flat;
 mod functions;
 mod items;
 mod placing;
-mod rare;
 mod stepping;
 mod turning;
 mod words;
@@ -28,7 +25,6 @@ pub use beginning::{blank, first_registers};
 pub use borders::taker;
 pub use cells::Cells;
 pub use clearing::write_zeros;
-pub use entering::enter_along;
 pub use flat::Flat;
 pub use functions::{frame_cells, function_at, most_moves};
 pub use items::Item;

@@ -1,10 +1,8 @@
 ghost use Rattle.std.specs.Prelude.{◌≡◌, IfOk, map};
 ghost use Rattle.program.specs.declared.function.Function.{Function};
-ghost use Rattle.frame.specs.code.Codes.{program_codes};
 ghost use Rattle.frame_engine.specs.Starts.{alloca_starts, global_starts};
 
 use crate::activation::Places;
-use frame::program_codes;
 use lists::{OutOfMemory, Seq};
 use program::{Alloca, Program};
 use std::alloc::Global;
@@ -39,7 +37,6 @@ impl Places {
     /// The places of a program's objects.
     pub fn of_program(alloc: Global, program: &Program) -> Result<Places, OutOfMemory>
         ensures globals { IfOk result (λ places. places.globals ≡ global_starts program.now.globals) }
-        ensures codes { IfOk result (λ places. places.codes ≡ program_codes program.now) }
         ensures allocas { IfOk result (λ places. places.allocas ≡ map (λ (f : Function). alloca_starts f.allocas) program.now.functions) }
     {
         let globals = starts_of_globals(alloc, program.globals.as_slice())?;
@@ -50,7 +47,6 @@ impl Places {
         Ok(Places {
             globals,
             allocas: Seq::from_vec(allocas),
-            codes: program_codes(alloc, program)?,
         })
     }
 }

@@ -17,7 +17,6 @@ use Rattle.program.specs.declared.instruction.Operand.TheVariants.{Number, Regis
 use Rattle.program.specs.declared.instruction.Terminator.{Terminator}
 use Rattle.program.specs.declared.instruction.Terminator.TheVariants as terminator
 use Rattle.linear.specs.declared.form.RegisterId.{RegisterId}
-use Rattle.frame.proofs.code.Sets.{codes_equal}
 use Rattle.frame_engine.specs.Activation.{FrameFits, ProgramFits}
 use Rattle.frame_engine.specs.Fits.{BlockFits, EdgeFits, EndingFits, HasEnding, HasEntry, HasReturned}
 use Rattle.frame_engine.specs.Names.{HasAddress, HasArgument, HasNames, HasObject, HasOperand, HasResult, Sizes}
@@ -87,7 +86,7 @@ module _ (n : Sizes) where
   block_prop moves from blocks b = hlevel (props, names_prop, ending_prop)
 
 pub program_prop : (prog : Program) (places : Places) (moves : ℕ) → IsProp (ProgramFits prog places moves)
-program_prop prog places moves = hlevel (props, codes_equal, block_prop)
+program_prop prog places moves = hlevel (props, block_prop)
 
 pub frame_prop : (prog : Program) (f : Frame) → IsProp (FrameFits prog f)
 frame_prop prog f = hlevel props

@@ -8,6 +8,7 @@ use Rattle.store.specs.Refilled.{refilled}
 use Rattle.store.specs.verifier.Budgets.{budget_of}
 use Rattle.frame_engine.specs.Activation.{FrameFits}
 use Rattle.frame_engine.specs.declared.activation.Places.{Places}
+use Rattle.code_tables.specs.declared.tables.Tables.{Tables}
 use Rattle.serial_stack.specs.Runs.{HasWalked}
 use Rattle.serial_stack.specs.StackShown.{Advances, HasNumbers, Returns, RunsSafely, StandsSafely, StaysSafely, TextFits}
 use Rattle.serial_stack.specs.Steps.{Run}
@@ -17,7 +18,7 @@ use Rattle.serial_machine.specs.SerialPromise.{EndsWithinBudget, TakesMore}
 use Rattle.serial_machine.proofs.Engine.{ends, globals, safe, start, takes_more, walked}
 use Rattle.lone_run.specs.UnderWay.{IsOnWay}
 
-module _ (program : Program) (arguments : List ℤ) (memory : List NamedCells) (places : Places) (k : Stack) (n peak : ℕ) (w : IsOnWay program arguments memory places k n peak) where
+module _ (program : Program) (arguments : List ℤ) (memory : List NamedCells) (places : Places) (tables : Tables) (k : Stack) (n peak : ℕ) (w : IsOnWay program arguments memory places tables k n peak) where
   -- ---- where it stands
 
   from_start : RunsSafely (globals program w.may.accepted arguments memory w.may.taken w.may.cells) program (budget_of program)
@@ -27,7 +28,7 @@ module _ (program : Program) (arguments : List ℤ) (memory : List NamedCells) (
   has_walked : HasWalked (globals program w.may.accepted arguments memory w.may.taken w.may.cells) program places
       (start program w.may.accepted arguments memory w.may.taken w.may.cells) n peak k
   has_walked = w.walked _ _ from_start
-      (walked program w.may.accepted arguments memory w.may.taken w.may.cells places w.globals w.allocas w.codes w.first w.begun)
+      (walked program w.may.accepted arguments memory w.may.taken w.may.cells places w.globals w.allocas w.first w.begun)
 
   pub fits : FrameFits program k.top.value
   fits = ∥∥₁_elim w.safe (fits_prop _ _) (λ m. m.walked.shown.top.fits)
@@ -49,12 +50,12 @@ module _ (program : Program) (arguments : List ℤ) (memory : List NamedCells) (
   pub done_before : (j : Stack) (m : ℕ) → Advances program places k j n m → n ≤ m
   done_before j m on = ∥∥₁_elim w.safe (hlevel props) (no_less program places (budget_of program) n k m j on)
 
-  pub went_on : (j : Stack) (m : ℕ) → length j.moves.items ≡ length k.moves.items → Advances program places k j n m → IsOnWay program arguments memory places j m peak
+  pub went_on : (j : Stack) (m : ℕ) → length j.moves.items ≡ length k.moves.items → Advances program places k j n m → IsOnWay program arguments memory places tables j m peak
   went_on j m moves on = record {
     may = w.may;
     globals = w.globals;
     allocas = w.allocas;
-    codes = w.codes;
+    coded = w.coded;
     small = w.small;
     few = w.few;
     text = subst (λ (x : ℕ). TextFits program places x) (sym moves) w.text;
@@ -67,7 +68,7 @@ module _ (program : Program) (arguments : List ℤ) (memory : List NamedCells) (
   -- ---- over a border
 
   pub passed : (j : Stack) (m high : ℕ) → length j.moves.items ≡ length k.moves.items → m ≡ n + 1 → high ≡ max peak (suc (length j.below.items)) → Returns program places k j None →
-      IsOnWay program arguments memory places j m high
+      IsOnWay program arguments memory places tables j m high
   passed j m high moves one top returns =
       let on : (globals : List ℕ) (start : Run) (p : ℕ) → RunsSafely globals program (budget_of program) start → HasWalked globals program places start n p k → HasWalked globals program places start m (max p (suc (length j.below.items))) j =
       λ globals start p safe h. turned globals program places (budget_of program) n m p start k j None safe h one returns in
@@ -75,7 +76,7 @@ module _ (program : Program) (arguments : List ℤ) (memory : List NamedCells) (
         may = w.may;
         globals = w.globals;
         allocas = w.allocas;
-        codes = w.codes;
+        coded = w.coded;
         small = w.small;
         few = w.few;
         text = subst (λ (x : ℕ). TextFits program places x) (sym moves) w.text;

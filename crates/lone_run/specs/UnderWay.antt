@@ -11,9 +11,10 @@ use Rattle.store.specs.Rows.{sizes_of}
 use Rattle.store.specs.Refilled.{row_of}
 use Rattle.store.specs.verifier.Accepted.{IsAccepted}
 use Rattle.store.specs.verifier.Budgets.{budget_of}
-use Rattle.frame.specs.code.Codes.{program_codes}
 use Rattle.frame_engine.specs.Starts.{alloca_starts, starts_from}
 use Rattle.frame_engine.specs.declared.activation.Places.{Places}
+use Rattle.code_tables.specs.Coded.{AreTables}
+use Rattle.code_tables.specs.declared.tables.Tables.{Tables}
 use Rattle.serial_stack.specs.Runs.{GoesSafely, HasWalked}
 use Rattle.serial_stack.specs.StackShown.{RunsSafely, TextFits}
 use Rattle.serial_stack.specs.Starts.{Begins}
@@ -28,12 +29,12 @@ pub record MayBegin (program : Program) (arguments : List ℤ) (memory : List Na
   pub cells : HasGlobalCells program memory
 
 -- the stack goes on safely, and wherever a first stack of the run stands the serial run leads from there to it
-pub record IsOnWay (program : Program) (arguments : List ℤ) (memory : List NamedCells) (places : Places) (stack : Stack)
-    (done peak : ℕ) : Type 0 where
+pub record IsOnWay (program : Program) (arguments : List ℤ) (memory : List NamedCells) (places : Places) (tables : Tables)
+    (stack : Stack) (done peak : ℕ) : Type 0 where
   pub may : MayBegin program arguments memory
   pub globals : places.globals ≡ starts_from 0 (sizes_of memory)
   pub allocas : places.allocas ≡ map (λ (f : Function). alloca_starts f.allocas) program.functions
-  pub codes : places.codes ≡ program_codes program
+  pub coded : AreTables program places tables
   pub small : length (row_of memory) < 9223372036854775808
   pub few : budget_of program < 18446744073709551616
   pub text : TextFits program places (length stack.moves.items)
@@ -44,7 +45,7 @@ pub record IsOnWay (program : Program) (arguments : List ℤ) (memory : List Nam
       HasWalked globals program places start 0 1 first → HasWalked globals program places start done peak stack
 
 abbrev pub IsUnderWay : LoneRun → Type 0
-IsUnderWay r = IsOnWay r.program.now r.arguments.now r.memory r.places r.stack r.done r.peak
+IsUnderWay r = IsOnWay r.program.now r.arguments.now r.memory r.places r.tables r.stack r.done r.peak
 
 -- of this program, from these arguments and this memory
 abbrev pub IsRunOf : Program → List ℤ → List NamedCells → LoneRun → Type 0

@@ -1,6 +1,6 @@
 //! A serial run strand by strand, with no board, lock or copy: of one worker alone under a gate that watches, and of a
-//! host that may stop it. It goes on the stack of `serial_stack`, which can pause where it likes; the serial run itself
-//! goes by windows and never pauses.
+//! host that may stop it. It goes on the stack of `serial_stack`, which can pause where it likes, and its frames go on by
+//! the codes of the serial run, which itself goes by windows and never pauses.
 //!
 //! - `run`: a run between two strands (`LoneRun`). `LoneRun::strand` does one, which ends where one of the board's
 //!   workers would end it.

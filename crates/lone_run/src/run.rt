@@ -10,6 +10,7 @@ ghost use Rattle.lone_run.specs.UnderWay.{GetsOn, IsRefusal, IsRunOf, IsUnderWay
 use crate::counted::CountedCells;
 use crate::counts::Counts;
 use crate::steps::{advance, is_at_border};
+use code_tables::{Tables, decode};
 use frame_engine::{Flat, Places, most_moves};
 use lists::OutOfMemory;
 use program::Program;
@@ -27,6 +28,8 @@ pub struct LoneRun<'v> {
     /// What it began with. The answer takes it.
     memory: Memory,
     places: Places,
+    /// The codes of its functions.
+    tables: Tables,
     stack: Stack,
     /// What the strand has read and written. Its row of cells is empty: while plain instructions are done, the stack's stands there.
     counted: CountedCells,
@@ -44,6 +47,7 @@ impl Drop for LoneRun<'_> {
             arguments: _,
             memory: _,
             places: _,
+            tables: _,
             stack: _,
             counted: _,
             done: _,
@@ -69,6 +73,7 @@ impl<'v> LoneRun<'v> {
         ensures none { IfOk result (λ run. run.done ≡ 0) }
     {
         let places = Places::of_program(alloc, program)?;
+        let tables = decode(alloc, program, &places)?;
         let row = memory.row()?;
         let stack = Stack::begin(alloc, program, arguments, row, most_moves(program))?;
         let cells = Vec::new(alloc);
@@ -78,6 +83,7 @@ impl<'v> LoneRun<'v> {
             arguments,
             memory,
             places,
+            tables,
             stack,
             counted: CountedCells {
                 flat: Flat { cells },
@@ -152,6 +158,7 @@ impl<'v> LoneRun<'v> {
             &mut self.counted,
             program,
             &self.places,
+            &self.tables,
             &mut self.done,
             limit,
         );

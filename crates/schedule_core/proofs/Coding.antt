@@ -5,4 +5,4 @@ use Rattle.serial_machine.specs.declared.decoded.Decoded.{Decoded}
 use Rattle.schedule_workers.specs.Starts.{ArePlaces}
 
 pub places_are : (program : Program) (code : Decoded) → IsCodeOf program code → ArePlaces program code.places
-places_are program code is = record { globals = is.globals; allocas = is.allocas; codes = is.codes }
+places_are program code is = record { globals = is.globals; allocas = is.allocas }

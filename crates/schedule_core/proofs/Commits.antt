@@ -6,7 +6,6 @@ use Rattle.std.proofs.Props.{props}
 use Rattle.std.proofs.Math.Nat.{ℕ_set}
 use Rattle.std.proofs.Math.IntN.{ℤ_set}
 use mathlib.Core.Sum.{⊎_set}
-use Rattle.frame.proofs.code.Sets.{codes_equal}
 use Rattle.std.proofs.lemmas.List.{map-append}
 use Rattle.lists.specs.declared.memory.OutOfMemory.{OutOfMemory}
 use Rattle.semantics.specs.Events as running
@@ -189,7 +188,6 @@ pub places_kept : (stage : Stage) → ∥ IsMachine stage ∥₁ → ArePlaces (
 places_kept stage kept = record {
   globals = ∥∥₁_elim kept (Prim.hlevel (props, ⊎_set, ℕ_set, ℤ_set)) (λ m. m.places.globals);
   allocas = ∥∥₁_elim kept (Prim.hlevel (props, ⊎_set, ℕ_set, ℤ_set)) (λ m. m.places.allocas);
-  codes = ∥∥₁_elim kept (codes_equal _ _) (λ m. m.places.codes);
 }
 
 -- a module's objects begin at the same places whenever they are laid out
@@ -198,5 +196,4 @@ same_places stage kept places at =
     let own : ArePlaces (program_of stage) stage.places = places_kept stage kept in
     let globals : places.globals ≡ stage.places.globals = at.globals ∙ sym own.globals in
     let allocas : places.allocas ≡ stage.places.allocas = at.allocas ∙ sym own.allocas in
-    let codes : places.codes ≡ stage.places.codes = at.codes ∙ sym own.codes in
-    λ i. record { globals = globals i; allocas = allocas i; codes = codes i }
+    λ i. record { globals = globals i; allocas = allocas i }

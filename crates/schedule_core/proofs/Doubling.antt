@@ -5,7 +5,6 @@ use Rattle.std.proofs.Props.{props}
 use Rattle.std.proofs.Math.Nat.{ℕ_set}
 use Rattle.std.proofs.Math.IntN.{ℤ_set}
 use mathlib.Core.Sum.{⊎_set}
-use Rattle.frame.proofs.code.Sets.{codes_equal}
 use Rattle.semantics.specs.Events.{Machine}
 use Rattle.serial_machine.specs.store.Cells.{NamedCells}
 use Rattle.frame_engine.specs.declared.activation.Places.{Places}
@@ -68,14 +67,11 @@ module _ (stage : Stage) (kept : ∥ IsMachine stage ∥₁) (copy : Run) (c : I
   same_allocas : stage.places.allocas ≡ places.allocas
   same_allocas = ∥∥₁_elim kept (Prim.hlevel (props, ⊎_set, ℕ_set, ℤ_set)) (λ m. m.places.allocas ∙ sym at.allocas)
 
-  same_codes : stage.places.codes ≡ places.codes
-  same_codes = ∥∥₁_elim kept (codes_equal stage.places.codes places.codes) (λ m. m.places.codes ∙ sym at.codes)
-
   same_stage : with_run stage copy ≡ other
   same_stage =
       (λ j. record {
         verified = stage.verified;
-        places = record { globals = same_globals j; allocas = same_allocas j; codes = same_codes j };
+        places = record { globals = same_globals j; allocas = same_allocas j };
         memory = sym same j;
         run = copy;
       })

@@ -107,7 +107,7 @@ module _ (program : Program) (a : IsAccepted program) (arguments : List ℤ) (no
 
 pub laws : Laws
 laws = record {
-  texts_fit = λ program a places at moves has. texts_fit a.text program a.means places moves at.globals at.allocas at.codes has;
+  texts_fit = λ program a places at moves has. texts_fit a.text program a.means places moves at.globals at.allocas has;
   from_start = λ program a arguments none globals made workers some. from program a arguments none globals made workers some;
   main = λ program a arguments none. main program a arguments none;
 }

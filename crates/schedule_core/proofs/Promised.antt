@@ -6,7 +6,6 @@ use Rattle.std.proofs.Props.{props}
 use Rattle.std.proofs.Math.Nat.{ℕ_set}
 use Rattle.std.proofs.Math.IntN.{ℤ_set}
 use mathlib.Core.Sum.{⊎_set}
-use Rattle.frame.proofs.code.Sets.{codes_equal}
 use Rattle.lists.specs.declared.memory.OutOfMemory.{OutOfMemory}
 use Rattle.semantics.specs.Paths.{Path}
 use Rattle.frame.specs.declared.path.Path.{Path as Name}
@@ -38,7 +37,7 @@ use Rattle.schedule_core.proofs.Replaying.{happens, leaves_as_before, replays_ne
 -- ---- what a step rests on
 
 places_prop : (prog : Program) (places : Places) → IsProp (ArePlaces prog places)
-places_prop prog places = Prim.hlevel (props, codes_equal, ⊎_set, ℕ_set, ℤ_set)
+places_prop prog places = Prim.hlevel (props, ⊎_set, ℕ_set, ℤ_set)
 
 moves_prop : (prog : Program) (n : ℕ) → IsProp (HasMoves prog n)
 moves_prop prog n = Prim.hlevel (props, ⊎_set, ℕ_set, ℤ_set)

@@ -6,7 +6,6 @@ use Rattle.program.specs.declared.function.Function.{Function}
 use Rattle.program.specs.declared.function.Global.{Global}
 use Rattle.program.specs.declared.function.Program.{Program}
 use Rattle.frame_engine.specs.declared.activation.Places.{Places}
-use Rattle.frame.specs.code.Codes.{program_codes}
 use Rattle.frame_engine.specs.Starts.{alloca_starts, global_starts}
 use Rattle.schedule_workers.specs.declared.run.Run.{Run}
 use Rattle.schedule_workers.specs.RunShown.{IsShown}
@@ -27,11 +26,10 @@ pub record IsRowOf (prog : Program) (memory : Memory) (row : List ℤ) : Type 0 
   pub held : (g i : ℕ) (z : ℤ) → memory (record { object = Shared g; index = i }) ≡ Some z →
       slice_get row (row_start prog g + i) ≡ Some z
 
--- the globals stand in a row, and each function's allocas behind its frame's home; the codes are the program's
+-- the globals stand in a row, and each function's allocas behind its frame's home
 pub record ArePlaces (prog : Program) (places : Places) : Type 0 where
   pub globals : places.globals ≡ global_starts prog.globals
   pub allocas : places.allocas ≡ map (λ (f : Function). alloca_starts f.allocas) prog.functions
-  pub codes : places.codes ≡ program_codes prog
 
 -- the run shows the start with these arguments, from each memory that stands in the row
 abbrev pub Begins : Program → List ℤ → List ℤ → Run → Type 0

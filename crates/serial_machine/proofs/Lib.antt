@@ -9,7 +9,7 @@ pub mod text
 pub mod Rows
 pub mod Held
 pub mod Engine
-mod Windows
+pub mod Windows
 -- for the crates above
 pub use Rattle.laws_schedule.proofs as laws_schedule
 pub use Rattle.laws_schedule.proofs.laws_conditions as laws_conditions

@@ -7,7 +7,6 @@ use Rattle.program.specs.declared.function.Function.{Function}
 use Rattle.program.specs.declared.function.Program.{Program}
 use Rattle.store.specs.verifier.Accepted.{IsProgramOf}
 use Rattle.store.specs.verifier.Budgets.{budget_of}
-use Rattle.frame.specs.code.Codes.{program_codes}
 use Rattle.frame_engine.specs.Fits.{HasMoves}
 use Rattle.frame_engine.specs.Operands.{ItemFits}
 use Rattle.frame_engine.specs.Starts.{alloca_starts}
@@ -43,4 +42,4 @@ TextsFit =
     (text : List ℕ) (program : Program) → IsProgramOf text program → (places : Places) (moves : ℕ) →
     length program.globals ≤ length places.globals →
     places.allocas ≡ map (λ (f : Function). alloca_starts f.allocas) program.functions →
-    places.codes ≡ program_codes program → HasMoves program moves → TextFits program places moves
+    HasMoves program moves → TextFits program places moves

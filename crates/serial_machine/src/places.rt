@@ -1,6 +1,5 @@
 ghost use Rattle.std.specs.Prelude.{◌≡◌, IfOk, map};
 ghost use Rattle.program.specs.declared.function.Function.{Function};
-ghost use Rattle.frame.specs.code.Codes.{program_codes};
 ghost use Rattle.frame_engine.specs.Starts.{alloca_starts, starts_from};
 
 use frame_engine::Places;
@@ -28,7 +27,6 @@ pub(crate) fn places_from(
     globals: Seq<i64>,
 ) -> Result<Places, OutOfMemory>
     ensures globals { IfOk result (λ places. places.globals ≡ globals) }
-    ensures codes { IfOk result (λ places. places.codes ≡ program_codes program.now) }
     ensures allocas { IfOk result (λ places. places.allocas ≡ map (λ (f : Function). alloca_starts f.allocas) program.now.functions) }
 {
     let mut places = Places::of_program(alloc, program)?;

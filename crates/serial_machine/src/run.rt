@@ -1,6 +1,5 @@
 ghost use Rattle.std.specs.Prelude.{◌≡◌, ◌≤◌, ℕ, Some, None, Err, IfNone, IfOk, IfSome, map};
 ghost use Rattle.program.specs.declared.function.Function.{Function};
-ghost use Rattle.frame.specs.code.Codes.{program_codes};
 ghost use Rattle.frame_engine.specs.Starts.{alloca_starts, starts_from};
 ghost use Rattle.store.specs.Requirements.{unmet_in};
 ghost use Rattle.store.specs.Named.{HasGlobalCells};
@@ -44,7 +43,6 @@ fn run_in_places(
 ) -> Result<Option<Finished>, OutOfMemory>
     requires accepted { IsAccepted program.now }
     requires globals { places.now.globals ≡ starts_from 0 (sizes_of memory.old) }
-    requires codes { places.now.codes ≡ program_codes program.now }
     requires allocas { places.now.allocas ≡ map (λ (f : Function). alloca_starts f.allocas) program.now.functions }
     requires tables { AreTables program.now places.now tables.now }
     requires taken { unmet_in program.now arguments.now ≡ None }

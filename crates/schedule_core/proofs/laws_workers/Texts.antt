@@ -20,9 +20,9 @@ globals_enough program places all =
 
 -- a region's register is one of the function's: it has a kind
 pub texts_fit : TextsFit
-texts_fit text program accepted places moves globals all codes room =
+texts_fit text program accepted places moves globals all room =
     let kinds = (is_taken text program accepted).names.kinds in
-    let text_fits = serial.texts_fit text program accepted places moves (globals_enough program places globals) all codes room in
+    let text_fits = serial.texts_fit text program accepted places moves (globals_enough program places globals) all room in
     record {
       fits = text_fits.fits;
       globals = globals;

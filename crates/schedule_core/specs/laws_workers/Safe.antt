@@ -5,7 +5,6 @@ use Rattle.semantics.specs.Cells.{Memory}
 use Rattle.semantics.specs.Events.{start}
 use Rattle.program.specs.declared.function.Function.{Function}
 use Rattle.program.specs.declared.function.Program.{Program}
-use Rattle.frame.specs.code.Codes.{program_codes}
 use Rattle.schedule_workers.specs.frame_engine.Starts.{alloca_starts, global_starts}
 use Rattle.schedule_workers.specs.frame_engine.declared.activation.Places.{Places}
 use Rattle.schedule_workers.specs.frame_engine.Fits.{HasMoves}
@@ -27,7 +26,7 @@ TextsFit =
     (text : List ℕ) (program : Program) → IsProgramOf text program → (places : Places) (moves : ℕ) →
     places.globals ≡ global_starts program.globals →
     places.allocas ≡ map (λ (f : Function). alloca_starts f.allocas) program.functions →
-    places.codes ≡ program_codes program → HasMoves program moves → TextFits program places moves
+    HasMoves program moves → TextFits program places moves
 
 -- `main` is there, and has an entry and a register for each of these arguments
 pub record StartFits (program : Program) (arguments : List ℤ) : Type 0 where

@@ -53,7 +53,6 @@ use Rattle.frame_engine.specs.declared.activation.Places.{Places}
 use Rattle.frame_engine.specs.Activation.{allocas_of, or_none}
 use Rattle.frame_engine.specs.Fits.{BlockFits, EdgeFits, EndingFits, HasEnding, HasEntry, HasPhi, HasReturned, HasMoves}
 use Rattle.frame_engine.specs.Names.{Sizes, sizes, HasAddress, HasArgument, HasNames, HasObject, HasOperand, HasResult}
-use Rattle.frame.specs.code.Codes.{program_codes}
 use Rattle.frame_engine.specs.Starts.{alloca_starts, starts_from}
 use Rattle.serial_stack.specs.StackShown.{TextFits}
 use Rattle.serial_machine.specs.Safe.{TextsFit}
@@ -103,7 +102,7 @@ parameters_first program kinds f function at =
     below_all function.parameters (length function.registers) (λ i one is. slice_get_within function.registers i _ (kinds.parameters f i function one at is))
 
 module _ (text : List ℕ) (program : Program) (accepted : IsProgramOf text program) (places : Places) (moves : ℕ) (enough : length program.globals ≤ length places.globals)
-    (all : places.allocas ≡ map (λ (f : Function). alloca_starts f.allocas) program.functions) (codes : places.codes ≡ program_codes program) (room : HasMoves program moves)
+    (all : places.allocas ≡ map (λ (f : Function). alloca_starts f.allocas) program.functions) (room : HasMoves program moves)
   where
     taken : IsTaken program
     taken = is_taken text program accepted
@@ -267,7 +266,6 @@ module _ (text : List ℕ) (program : Program) (accepted : IsProgramOf text prog
     pub text_fits : TextFits program places moves
     text_fits = record {
       fits = record {
-        codes = codes;
         allocas = ap length all ∙ length-map program.functions (λ (f : Function). alloca_starts f.allocas);
         blocks = λ k g at from b at_block. block_fits k g at from b at_block;
       };
@@ -277,4 +275,4 @@ module _ (text : List ℕ) (program : Program) (accepted : IsProgramOf text prog
     }
 
 pub texts_fit : TextsFit
-texts_fit text program accepted places moves enough all codes room = text_fits text program accepted places moves enough all codes room
+texts_fit text program accepted places moves enough all room = text_fits text program accepted places moves enough all room

@@ -14,6 +14,5 @@ decode-requires c =
     let globals_are : places.globals ≡ starts_from 0 (sizes_of m) =
     made.globals ∙ c.in_ok-globals.ensures ∙ ap (λ (sizes : List ℕ). starts_from 0 sizes) sizes_are in
     record {
-      fits = some_fit c.args.program.now r.accepted c.args.arguments.now m r.taken r.cells places globals_are made.allocas
-          made.codes;
+      fits = some_fit c.args.program.now r.accepted c.args.arguments.now m r.taken r.cells places globals_are made.allocas;
     }

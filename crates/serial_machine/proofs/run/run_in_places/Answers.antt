@@ -23,7 +23,7 @@ pub begin-requires-clause-tables : goal.begin-requires-clause-tables
 begin-requires-clause-tables c =
     let r = c.requires in
     has_tables c.args.program.now r.accepted c.args.arguments.now c.args.memory.now r.taken r.cells c.args.places.now
-    r.globals r.allocas r.codes c.args.tables.now r.tables
+    r.globals r.allocas c.args.tables.now r.tables
 
 pub run-requires : goal.run-requires
 run-requires c =
@@ -41,7 +41,7 @@ run-requires c =
     subst (λ (xs : List ℤ). BeginsRun program tables arguments xs k place) c.in_ok-row.ensures
     c.in_ok-stack.ensures.begins in
     record {
-      safe = goes program r.accepted arguments m r.taken r.cells c.args.places.now r.globals r.allocas r.codes tables r.tables
+      safe = goes program r.accepted arguments m r.taken r.cells c.args.places.now r.globals r.allocas tables r.tables
           moves enough k place begun;
     }
 
@@ -66,7 +66,7 @@ returns-in_default-clause-beyond c =
     let beyond : RunsBeyond program places tables moves k place c.min.result =
     subst (λ (o : Option Ended). IfNone o (RunsBeyond program places tables moves k place c.min.result)) c.in_default.is
     c.in_ok-ended.ensures.beyond in
-    takes_more program r.accepted arguments m r.taken r.cells places r.globals r.allocas r.codes tables r.tables moves enough
+    takes_more program r.accepted arguments m r.taken r.cells places r.globals r.allocas tables r.tables moves enough
     k place begun fuel (subst (λ (n : ℕ). RunsBeyond program places tables moves k place n) limit beyond)
 
 pub returns-clause-ends : goal.returns-clause-ends
@@ -101,5 +101,5 @@ returns-clause-ends c =
     (record { result = to_z w64 (of_z w64 e.result); memory = c.take.result; instructions = e.instructions; peak = e.peak }) =
     λ i. record { result = sym number i; memory = sym kept i; instructions = e.instructions; peak = e.peak } in
     subst (λ (d : Finished). EndsWithinBudget program arguments m d) same
-    (ends program r.accepted arguments m r.taken r.cells places r.globals r.allocas r.codes tables r.tables moves enough k
+    (ends program r.accepted arguments m r.taken r.cells places r.globals r.allocas tables r.tables moves enough k
     place begun small new e runs)

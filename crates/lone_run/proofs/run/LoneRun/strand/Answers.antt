@@ -11,34 +11,34 @@ use Rattle.lone_run.proofs.Stopping.{got_on}
 use Rattle.lone_run.proofs.run.LoneRun.strand.Goals as goal
 
 pub advance-pause-requires-clause-stands : goal.advance-pause-requires-clause-stands
-advance-pause-requires-clause-stands c = fits _ _ _ _ _ _ _ c.requires
+advance-pause-requires-clause-stands c = fits _ _ _ _ _ _ _ _ c.requires
 
 pub advance-pause-requires-clause-safe : goal.advance-pause-requires-clause-safe
-advance-pause-requires-clause-safe c = stays _ _ _ _ _ _ _ c.requires
+advance-pause-requires-clause-safe c = stays _ _ _ _ _ _ _ _ c.requires
 
 pub returns-then-not-is_at_border-clause-goes : goal.returns-then-not-is_at_border-clause-goes
-returns-then-not-is_at_border-clause-goes c = (refl, refl, refl, went_on _ _ _ _ _ _ _ c.requires _ _ c.advance-pause.ensures.moves c.advance-pause.ensures.led)
+returns-then-not-is_at_border-clause-goes c = (refl, refl, refl, went_on _ _ _ _ _ _ _ _ c.requires _ _ c.advance-pause.ensures.moves c.advance-pause.ensures.led)
 
 pub returns-then-not-is_at_border-clause-gets_on : goal.returns-then-not-is_at_border-clause-gets_on
 returns-then-not-is_at_border-clause-gets_on c =
-    let low = within _ _ _ _ _ _ _ c.requires in
+    let low = within _ _ _ _ _ _ _ _ c.requires in
     let few = c.requires.few in
     let limit = c.saturating_add-limit.ensures in (
       got_on c.advance-pause.result _ _ _ _ _ c.is_at_border.ensures.paused c.if-not-is_at_border.true c.advance-pause.ensures.limit (omega (arith, low, few, limit)) c.in_ok-begin.ensures c.advance-pause.ensures.gets_on,
-      within _ _ _ _ _ _ _ (returns-then-not-is_at_border-clause-goes c).3,
+      within _ _ _ _ _ _ _ _ (returns-then-not-is_at_border-clause-goes c).3,
     )
 
 pub overflow_add-self : goal.overflow_add-self
 overflow_add-self c =
-    let low = within _ _ _ _ _ _ _ (went_on _ _ _ _ _ _ _ c.requires _ _ c.advance-pause.ensures.moves c.advance-pause.ensures.led) in
+    let low = within _ _ _ _ _ _ _ _ (went_on _ _ _ _ _ _ _ _ c.requires _ _ c.advance-pause.ensures.moves c.advance-pause.ensures.led) in
     let few = c.requires.few in
     record { fits = omega (arith, low, few) }
 
 pub border-requires-clause-numbers : goal.border-requires-clause-numbers
-border-requires-clause-numbers c = numbers _ _ _ _ _ _ _ (went_on _ _ _ _ _ _ _ c.requires _ _ c.advance-pause.ensures.moves c.advance-pause.ensures.led)
+border-requires-clause-numbers c = numbers _ _ _ _ _ _ _ _ (went_on _ _ _ _ _ _ _ _ c.requires _ _ c.advance-pause.ensures.moves c.advance-pause.ensures.led)
 
 pub border-requires-clause-safe : goal.border-requires-clause-safe
-border-requires-clause-safe c = stands _ _ _ _ _ _ _ (went_on _ _ _ _ _ _ _ c.requires _ _ c.advance-pause.ensures.moves c.advance-pause.ensures.led)
+border-requires-clause-safe c = stands _ _ _ _ _ _ _ _ (went_on _ _ _ _ _ _ _ _ c.requires _ _ c.advance-pause.ensures.moves c.advance-pause.ensures.led)
 
 pub returns-in-None-clause-goes : goal.returns-in-None-clause-goes
 returns-in-None-clause-goes c =
@@ -51,15 +51,15 @@ returns-in-None-clause-goes c =
       refl,
       refl,
       refl,
-      passed _ _ _ _ _ _ _ (went_on _ _ _ _ _ _ _ c.requires _ _ c.advance-pause.ensures.moves c.advance-pause.ensures.led) new _ _ c.in_ok-result.ensures.moves refl
+      passed _ _ _ _ _ _ _ _ (went_on _ _ _ _ _ _ _ _ c.requires _ _ c.advance-pause.ensures.moves c.advance-pause.ensures.led) new _ _ c.in_ok-result.ensures.moves refl
           (c.max-self.ensures ∙ ap (λ (n : ℕ). max c.args.self.now.peak n) long)
           (subst (λ (r : Option ℤ). Returns program places c.advance-pause.new.stack new r) c.in-None.is c.in_ok-result.ensures.goes),
     )
 
 pub returns-in-None-clause-gets_on : goal.returns-in-None-clause-gets_on
 returns-in-None-clause-gets_on c =
-    let before = done_before _ _ _ _ _ _ _ c.requires _ _ c.advance-pause.ensures.led in
-    (omega (arith, before), within _ _ _ _ _ _ _ (returns-in-None-clause-goes c).3)
+    let before = done_before _ _ _ _ _ _ _ _ c.requires _ _ c.advance-pause.ensures.led in
+    (omega (arith, before), within _ _ _ _ _ _ _ _ (returns-in-None-clause-goes c).3)
 
 pub returns-in-Some-clause-ends : goal.returns-in-Some-clause-ends
 returns-in-Some-clause-ends c =
@@ -78,5 +78,5 @@ returns-in-Some-clause-ends c =
     (record { result = to_z w64 (of_z w64 z); memory = c.set_row.new.self; instructions = n; peak = peak }) =
     λ i. record { result = sym number i; memory = sym kept i; instructions = n; peak = peak } in
     subst (λ (d : Finished). EndsWithinBudget program c.args.self.now.arguments.now m d) same
-    (over _ _ _ _ _ _ _ (went_on _ _ _ _ _ _ _ c.requires _ _ c.advance-pause.ensures.moves c.advance-pause.ensures.led) new _ z refl
+    (over _ _ _ _ _ _ _ _ (went_on _ _ _ _ _ _ _ _ c.requires _ _ c.advance-pause.ensures.moves c.advance-pause.ensures.led) new _ z refl
     (subst (λ (r : Option ℤ). Returns program places c.advance-pause.new.stack new r) c.in-Some.is c.in_ok-result.ensures.goes))
