@@ -147,10 +147,11 @@ pub fn balances_of<'a>(
     for (number, one) in parts.iter().enumerate() {
         for (place, other) in parts.iter().enumerate() {
             for sign in &[1i128, -1] {
-                if place > number || *sign < 0 && place != number {
-                    if let Some(balance) = balance_of(heap, function, whole, *one, *other, *sign) {
-                        heap.push(&mut balances, balance);
-                    }
+                if place == number || *sign > 0 && place < number {
+                    continue;
+                }
+                if let Some(balance) = balance_of(heap, function, whole, *one, *other, *sign) {
+                    heap.push(&mut balances, balance);
                 }
             }
         }

@@ -12,12 +12,11 @@ ghost use Rattle.definedness.specs.Definedness.{IsDefinednessBroken};
 use crate::DefinedFault;
 use crate::act::BlockActs;
 use crate::allocas::block_allocas;
-use crate::fork::all_forks;
+use crate::fork::{Flow, all_forks};
 use crate::judge::table_fault;
 use crate::missing::missing_rows;
 use crate::registers::block_registers;
 use crate::table::{Given, Row, all_given, greatest_needed};
-use crate::unsure::unsure_rows;
 use cfg::{BlockEdges, Graph};
 use lists::Seq;
 use program::{Block, Function};
@@ -86,7 +85,12 @@ fn alloca_rows(
         → (mark_at rows.items n b ≡ true) ↔ IsNeverSure bodies.now blocks.now all.now n b) }
 {
     let forks = all_forks(alloc, bodies, blocks, tasks)?;
-    Ok(unsure_rows(alloc, bodies, blocks, &forks, all, greatest)?)
+    let flow = Flow {
+        bodies,
+        blocks,
+        forks: forks.as_slice(),
+    };
+    flow.unsure_rows(alloc, all, greatest)
 }
 
 /// 402: what is named of the allocas of a function.

@@ -13,6 +13,14 @@ use program::{Block, RegisterId, Terminator};
 use region_match::{Task, ending_of};
 use std::alloc::{AllocError, Global};
 
+/// The flow of a function: its blocks, their edges, and what their terminators do to children.
+#[derive(Clone, Copy)]
+pub struct Flow<'a> {
+    pub bodies: &'a [Block],
+    pub blocks: &'a [BlockEdges],
+    pub forks: &'a [Fork],
+}
+
 /// The region of the detach that a block ends with.
 fn fork_region(bodies: &[Block], block: usize) -> Option<RegisterId>
     ensures { (region : RegisterId) → (result ≡ Some region) ↔ IsFork bodies.now block region }

@@ -7,8 +7,9 @@ ghost use Rattle.definedness_allocas.specs.Labels.{Labels};
 ghost use Rattle.definedness_allocas.specs.Sets.{due_in, label_in, label_of, count_sure, Ends, IsFit};
 ghost use Rattle.definedness.specs.Settling.{IsBelow, IsTableLabelling, IsSettledAt, IsAllSure, KeepsBoth, Lowers, NotesEnd, IsGreatest};
 
+use crate::fork::Flow;
 use crate::given::{copy_given, is_given};
-use cfg::{BlockEdges, Edge, no_marks};
+use cfg::{Edge, no_marks};
 use definedness_allocas::{Fork, Label, Sets, is_stored, label_along};
 use lists::Seq;
 use program::RegisterId;
@@ -97,105 +98,6 @@ fn lose_due(
     put_due(sets, to, Seq::from_vec(kept), work)
 }
 
-/// Takes from the label of a block what is not given.
-fn narrow(
-    alloc: Global,
-    sets: &mut Sets,
-    stops: &[bool],
-    forks: &[Fork],
-    blocks: &[BlockEdges],
-    to: usize,
-    given: Label,
-    work: &mut Vec<usize>,
-) -> Result<(), AllocError>
-    requires fit { IsFit stops.now forks.now (length blocks.now) sets.old }
-    requires few { count_sure sets.old + length (due_in given) ≤ length blocks.now + 1 }
-    requires given { (l : Labels) → IsTableLabelling stops.now forks.now blocks.now l → IsBelow (length blocks.now) l sets.old → (k : Option RegisterId)
-        → l k to ≡ true → label_in given k ≡ true }
-    ensures lowers { OnOk result (Lowers stops.now forks.now blocks.now sets.old work.old.items sets.new work.new.items) }
-    ensures taken { OnOk result ((k : Option RegisterId) → label_of sets.new k to ≡ true → label_in given k ≡ true) }
-{
-    match given {
-        Label::Sure => Ok(()),
-        Label::Due(regions) => {
-            if sets.is_in(None, to) {
-                lose_sure(sets, stops, forks, to, regions, work)
-            } else {
-                lose_due(alloc, sets, to, regions.as_slice(), work)
-            }
-        }
-    }
-}
-
-/// Takes from the label at the end of an edge what the edge does not give.
-fn lower_along(
-    alloc: Global,
-    sets: &mut Sets,
-    stops: &[bool],
-    forks: &[Fork],
-    blocks: &[BlockEdges],
-    from: usize,
-    edge: &Edge,
-    work: &mut Vec<usize>,
-) -> Result<(), AllocError>
-    requires fit { IsFit stops.now forks.now (length blocks.now) sets.old }
-    requires size { length forks.now ≤ length blocks.now }
-    requires edge { Contains (edges_of blocks.now from) edge.now }
-    ensures lowers { OnOk result (Lowers stops.now forks.now blocks.now sets.old work.old.items sets.new work.new.items) }
-    ensures kept { OnOk result (IsSettledAt stops.now forks.now sets.new work.new.items from edge.now) }
-{
-    let given = label_along(alloc, sets, stops, forks, from, edge.way)?;
-    narrow(alloc, sets, stops, forks, blocks, edge.to.0, given, work)
-}
-
-/// Takes from the labels at the ends of a block's edges what these do not give. Goes from the last to the first, so that the child of a detach,
-/// whose edge is the first, is gone through before its continuation.
-fn lower_edges(
-    alloc: Global,
-    sets: &mut Sets,
-    stops: &[bool],
-    forks: &[Fork],
-    blocks: &[BlockEdges],
-    from: usize,
-    edges: &[Edge],
-    work: &mut Vec<usize>,
-) -> Result<(), AllocError>
-    requires fit { IsFit stops.now forks.now (length blocks.now) sets.old }
-    requires size { length forks.now ≤ length blocks.now }
-    requires edges { edges.now ≡ edges_of blocks.now from }
-    ensures lowers { OnOk result (Lowers stops.now forks.now blocks.now sets.old work.old.items sets.new work.new.items) }
-    ensures kept { OnOk result (All (IsSettledAt stops.now forks.now sets.new work.new.items from) edges.now) }
-{
-    let mut left = edges.len();
-    while left > 0 {
-        left -= 1;
-        lower_along(alloc, sets, stops, forks, blocks, from, &edges[left], work)?;
-    }
-    Ok(())
-}
-
-/// Takes from the labels behind a block what its edges do not give.
-fn lower_block(
-    alloc: Global,
-    sets: &mut Sets,
-    stops: &[bool],
-    forks: &[Fork],
-    blocks: &[BlockEdges],
-    from: usize,
-    work: &mut Vec<usize>,
-) -> Result<(), AllocError>
-    requires fit { IsFit stops.now forks.now (length blocks.now) sets.old }
-    requires size { length forks.now ≤ length blocks.now }
-    ensures lowers { OnOk result (Lowers stops.now forks.now blocks.now sets.old work.old.items sets.new work.new.items) }
-    ensures kept { OnOk result (All (IsSettledAt stops.now forks.now sets.new work.new.items from) (edges_of blocks.now from)) }
-{
-    if from >= blocks.len() {
-        return Ok(());
-    }
-    let edges = blocks[from].edges.as_slice();
-    lower_edges(alloc, sets, stops, forks, blocks, from, edges, work)
-}
-
 /// The sets as they begin: the alloca is sure everywhere.
 fn all_sure(alloc: Global, blocks: usize) -> Result<Sets, AllocError>
     ensures { IfOk result (IsAllSure blocks) }
@@ -208,25 +110,116 @@ fn all_sure(alloc: Global, blocks: usize) -> Result<Sets, AllocError>
     Ok(Sets { labels, lacking })
 }
 
-/// The greatest labelling of an alloca, where `stops` marks the blocks that store it. Takes time in proportion to the edges, as
-/// long as few regions bring it to a block.
-pub fn settle(
-    alloc: Global,
-    stops: &[bool],
-    forks: &[Fork],
-    blocks: &[BlockEdges],
-) -> Result<Sets, AllocError>
-    requires { length forks.now ≡ length blocks.now }
-    ensures { IfOk result (IsGreatest stops.now forks.now blocks.now) }
-{
-    let mut sets = all_sure(alloc, blocks.len())?;
-    let mut work: Vec<usize> = Vec::with_capacity(alloc, blocks.len())?;
-    let nothing = Label::Due(Seq::new(alloc));
-    narrow(
-        alloc, &mut sets, stops, forks, blocks, 0, nothing, &mut work,
-    )?;
-    while let Some(block) = work.pop() {
-        lower_block(alloc, &mut sets, stops, forks, blocks, block, &mut work)?;
+impl Flow<'_> {
+    /// Takes from the label of a block what is not given.
+    fn narrow(
+        &self,
+        alloc: Global,
+        sets: &mut Sets,
+        stops: &[bool],
+        to: usize,
+        given: Label,
+        work: &mut Vec<usize>,
+    ) -> Result<(), AllocError>
+        requires fit { IsFit stops.now self.now.forks.now (length self.now.blocks.now) sets.old }
+        requires few { count_sure sets.old + length (due_in given) ≤ length self.now.blocks.now + 1 }
+        requires given { (l : Labels) → IsTableLabelling stops.now self.now.forks.now self.now.blocks.now l
+            → IsBelow (length self.now.blocks.now) l sets.old → (k : Option RegisterId)
+            → l k to ≡ true → label_in given k ≡ true }
+        ensures lowers { OnOk result (Lowers stops.now self.now.forks.now self.now.blocks.now sets.old work.old.items sets.new work.new.items) }
+        ensures taken { OnOk result ((k : Option RegisterId) → label_of sets.new k to ≡ true → label_in given k ≡ true) }
+    {
+        match given {
+            Label::Sure => Ok(()),
+            Label::Due(regions) => {
+                if sets.is_in(None, to) {
+                    lose_sure(sets, stops, self.forks, to, regions, work)
+                } else {
+                    lose_due(alloc, sets, to, regions.as_slice(), work)
+                }
+            }
+        }
     }
-    Ok(sets)
+
+    /// Takes from the label at the end of an edge what the edge does not give.
+    fn lower_along(
+        &self,
+        alloc: Global,
+        sets: &mut Sets,
+        stops: &[bool],
+        from: usize,
+        edge: &Edge,
+        work: &mut Vec<usize>,
+    ) -> Result<(), AllocError>
+        requires fit { IsFit stops.now self.now.forks.now (length self.now.blocks.now) sets.old }
+        requires size { length self.now.forks.now ≤ length self.now.blocks.now }
+        requires edge { Contains (edges_of self.now.blocks.now from) edge.now }
+        ensures lowers { OnOk result (Lowers stops.now self.now.forks.now self.now.blocks.now sets.old work.old.items sets.new work.new.items) }
+        ensures kept { OnOk result (IsSettledAt stops.now self.now.forks.now sets.new work.new.items from edge.now) }
+    {
+        let given = label_along(alloc, sets, stops, self.forks, from, edge.way)?;
+        self.narrow(alloc, sets, stops, edge.to.0, given, work)
+    }
+
+    /// Takes from the labels at the ends of a block's edges what these do not give. Goes from the last to the first, so that the child of a detach,
+    /// whose edge is the first, is gone through before its continuation.
+    fn lower_edges(
+        &self,
+        alloc: Global,
+        sets: &mut Sets,
+        stops: &[bool],
+        from: usize,
+        edges: &[Edge],
+        work: &mut Vec<usize>,
+    ) -> Result<(), AllocError>
+        requires fit { IsFit stops.now self.now.forks.now (length self.now.blocks.now) sets.old }
+        requires size { length self.now.forks.now ≤ length self.now.blocks.now }
+        requires edges { edges.now ≡ edges_of self.now.blocks.now from }
+        ensures lowers { OnOk result (Lowers stops.now self.now.forks.now self.now.blocks.now sets.old work.old.items sets.new work.new.items) }
+        ensures kept { OnOk result (All (IsSettledAt stops.now self.now.forks.now sets.new work.new.items from) edges.now) }
+    {
+        let mut left = edges.len();
+        while left > 0 {
+            left -= 1;
+            self.lower_along(alloc, sets, stops, from, &edges[left], work)?;
+        }
+        Ok(())
+    }
+
+    /// Takes from the labels behind a block what its edges do not give.
+    fn lower_block(
+        &self,
+        alloc: Global,
+        sets: &mut Sets,
+        stops: &[bool],
+        from: usize,
+        work: &mut Vec<usize>,
+    ) -> Result<(), AllocError>
+        requires fit { IsFit stops.now self.now.forks.now (length self.now.blocks.now) sets.old }
+        requires size { length self.now.forks.now ≤ length self.now.blocks.now }
+        ensures lowers { OnOk result (Lowers stops.now self.now.forks.now self.now.blocks.now sets.old work.old.items sets.new work.new.items) }
+        ensures kept { OnOk result (All (IsSettledAt stops.now self.now.forks.now sets.new work.new.items from) (edges_of self.now.blocks.now from)) }
+    {
+        if from >= self.blocks.len() {
+            return Ok(());
+        }
+        let edges = self.blocks[from].edges.as_slice();
+        self.lower_edges(alloc, sets, stops, from, edges, work)
+    }
+
+    /// The greatest labelling of an alloca, where `stops` marks the blocks that store it. Takes time in proportion to the edges, as
+    /// long as few regions bring it to a block.
+    pub fn settle(&self, alloc: Global, stops: &[bool]) -> Result<Sets, AllocError>
+        requires { length self.now.forks.now ≡ length self.now.blocks.now }
+        ensures { IfOk result (IsGreatest stops.now self.now.forks.now self.now.blocks.now) }
+    {
+        let mut sets = all_sure(alloc, self.blocks.len())?;
+        let mut work: Vec<usize> = Vec::with_capacity(alloc, self.blocks.len())?;
+        let nothing = Label::Due(Seq::new(alloc));
+        self.narrow(alloc, &mut sets, stops, 0, nothing, &mut work)?;
+        while let Some(block) = work.pop() {
+            self.lower_block(alloc, &mut sets, stops, block, &mut work)?;
+        }
+        Ok(sets)
+    }
 }

@@ -19,8 +19,8 @@ use footprints_feet::{Place, index_for};
 use linear::Fact;
 use program::{Block, BlockId, Ending, Function, Instruction, Program, Step, Zone};
 use ranges::{
-    BlockFacts, EdgeFacts, Effort, FactCursor, Facts, FunctionFacts, Graph, Known, Regions, Task,
-    Unanswered, Unverified, stands_before,
+    BlockFacts, EdgeFacts, Effort, FactBranches, FactCursor, Facts, FunctionFacts, Graph, Known,
+    Regions, Task, Unanswered, Unverified, stands_before,
 };
 use refusal::{Broken, lower};
 use std::alloc::Global;
@@ -78,41 +78,6 @@ fn is_own_block(task: Task) -> bool
     }
 }
 
-/// A place of a block.
-fn place_in<'a>(
-    function: &'a Function,
-    task: Task,
-    block: &'a Block,
-    facts: &'a Known<'a>,
-) -> Place<'a>
-    ensures { place_of result.facts.now result.covering.now result.own result.pending.now ≡ place_in function.now task block.now facts.now }
-{
-    Place {
-        facts,
-        covering: covering_of(function, task),
-        own: is_own_block(task),
-        pending: block.pending.as_slice(),
-    }
-}
-
-/// What is broken at a step of a block with these pointers.
-fn step_in_block(
-    alloc: Global,
-    functions: &[Function],
-    function: &Function,
-    task: Task,
-    block: &Block,
-    pointers: &[Pointer],
-    facts: &Known<'_>,
-    step: &Step,
-) -> Result<Option<Broken>, Unanswered>
-    requires { pointers.now ≡ pointers_of block.now.steps }
-    ensures { IfOk result (IsEarliest (IsStepBroken functions.now function.now task block.now facts.now step.now)) }
-{
-    let place = place_in(function, task, block, facts);
-    step_fault(alloc, &place, functions, pointers, step)
-}
-
 /// Whether an instruction may touch cells.
 fn has_zones(instruction: &Instruction) -> bool {
     match instruction {
@@ -130,100 +95,133 @@ fn has_zones(instruction: &Instruction) -> bool {
     }
 }
 
-/// What is broken at the steps of a block. Steps after a fault are not judged: it is named before theirs.
-fn steps_fault(
-    alloc: Global,
-    functions: &[Function],
-    function: &Function,
+/// A block of a function, and its task.
+#[derive(Clone, Copy)]
+struct Site<'a> {
+    functions: &'a [Function],
+    function: &'a Function,
     task: Task,
-    block: &Block,
-    table: &BlockFacts,
-    effort: &Effort,
-) -> Result<Option<Broken>, Unanswered>
-    ensures { IfOk result (IsEarliest (AreStepsBroken functions.now function.now task block.now (facts_in_table table.now))) }
-{
-    let mut named: Option<Broken> = None;
-    let mut cursor = FactCursor::new(alloc, table.facts.as_slice(), effort);
-    let steps = block.steps.as_slice();
-    let pointers = pointers_of(alloc, steps)?;
-    for (index, step) in steps.iter().enumerate() {
-        if stands_before(named, step.line) {
-            continue;
+    block: &'a Block,
+}
+
+impl<'a> Site<'a> {
+    /// A place of the block.
+    fn place(&self, facts: &'a Known<'a>) -> Place<'a>
+        ensures { place_of result.facts.now result.covering.now result.own result.pending.now
+            ≡ place_in self.now.function.now self.now.task self.now.block.now facts.now }
+    {
+        Place {
+            facts,
+            covering: covering_of(self.function, self.task),
+            own: is_own_block(self.task),
+            pending: self.block.pending.as_slice(),
         }
-        cursor.seek(table.count_at(index));
-        index_for(&mut cursor, has_zones(&step.instruction))?;
-        let facts = cursor.known();
-        let broken = step_in_block(
-            alloc, functions, function, task, block, &pointers, &facts, step,
-        )?;
-        named = lower(named, broken);
     }
-    Ok(named)
-}
 
-/// What is broken at a terminator and on its edges.
-fn ending_fault(
-    alloc: Global,
-    function: &Function,
-    task: Task,
-    block: &Block,
-    facts: &Known<'_>,
-    edges: &[EdgeFacts],
-    ending: &Ending,
-    effort: &Effort,
-) -> Result<Option<Broken>, Unanswered>
-    ensures { IfOk result (IsEarliest (IsEndBroken function.now task block.now facts.now (all_with_known facts.now edges.now) (Some ending.now))) }
-{
-    let place = place_in(function, task, block, facts);
-    let blocks = function.blocks.as_slice();
-    let used = end_use(alloc, &place, blocks, &ending.terminator)?;
-    let at_end = use_fault(ending.line, used);
-    let on_edges = edges_fault(alloc, blocks, block, ending, facts.facts(), edges, effort)?;
-    Ok(lower(at_end, on_edges))
-}
+    /// What is broken at a step of a block with these pointers.
+    fn step_fault(
+        &self,
+        alloc: Global,
+        pointers: &[Pointer],
+        facts: &Known<'_>,
+        step: &Step,
+    ) -> Result<Option<Broken>, Unanswered>
+        requires { pointers.now ≡ pointers_of self.now.block.now.steps }
+        ensures { IfOk result (IsEarliest
+            (IsStepBroken self.now.functions.now self.now.function.now self.now.task self.now.block.now facts.now step.now)) }
+    {
+        let place = self.place(facts);
+        step_fault(alloc, &place, self.functions, pointers, step)
+    }
 
-/// What is broken at the end of a block.
-fn end_fault(
-    alloc: Global,
-    function: &Function,
-    task: Task,
-    block: &Block,
-    facts: &[Fact],
-    edges: &[EdgeFacts],
-    effort: &Effort,
-) -> Result<Option<Broken>, Unanswered>
-    ensures { IfOk result (IsEarliest (IsEndBroken function.now task block.now facts.now (all_with_known facts.now edges.now) block.now.ending)) }
-{
-    match &block.ending {
-        Some(ending) => {
-            let mut cursor = FactCursor::new(alloc, facts, effort);
-            let foot = child_foot(function.blocks.as_slice(), &ending.terminator);
-            index_for(&mut cursor, !foot.is_empty())?;
+    /// What is broken at the steps of a block. Steps after a fault are not judged: it is named before theirs.
+    fn steps_fault(
+        &self,
+        alloc: Global,
+        table: &BlockFacts,
+        effort: &Effort,
+    ) -> Result<Option<Broken>, Unanswered>
+        ensures { IfOk result (IsEarliest
+            (AreStepsBroken self.now.functions.now self.now.function.now self.now.task self.now.block.now (facts_in_table table.now))) }
+    {
+        let mut named: Option<Broken> = None;
+        let mut cursor = FactCursor::new(alloc, table.facts.as_slice(), effort);
+        let steps = self.block.steps.as_slice();
+        let pointers = pointers_of(alloc, steps)?;
+        for (index, step) in steps.iter().enumerate() {
+            if stands_before(named, step.line) {
+                continue;
+            }
+            cursor.seek(table.count_at(index));
+            index_for(&mut cursor, has_zones(&step.instruction))?;
             let facts = cursor.known();
-            ending_fault(alloc, function, task, block, &facts, edges, ending, effort)
+            let broken = self.step_fault(alloc, &pointers, &facts, step)?;
+            named = lower(named, broken);
         }
-        None => Ok(None),
+        Ok(named)
     }
-}
 
-/// What is broken in a block, with what its table says is known there.
-fn block_fault(
-    alloc: Global,
-    functions: &[Function],
-    function: &Function,
-    task: Task,
-    block: &Block,
-    table: &BlockFacts,
-    effort: &Effort,
-) -> Result<Option<Broken>, Unanswered>
-    ensures { IfOk result (IsEarliest
-        (IsBlockBrokenBy functions.now function.now task block.now (facts_in_table table.now) table.now.facts (edges_in_table table.now))) }
-{
-    let at_steps = steps_fault(alloc, functions, function, task, block, table, effort)?;
-    let facts = table.facts.as_slice();
-    let edges = table.edges.as_slice();
-    let at_end = end_fault(alloc, function, task, block, facts, edges, effort)?;
-    Ok(lower(at_steps, at_end))
+    /// What is broken at a terminator and on its edges.
+    fn ending_fault(
+        &self,
+        alloc: Global,
+        facts: &Known<'_>,
+        edges: &[EdgeFacts],
+        ending: &Ending,
+        effort: &Effort,
+    ) -> Result<Option<Broken>, Unanswered>
+        ensures { IfOk result (IsEarliest (IsEndBroken self.now.function.now self.now.task self.now.block.now facts.now
+            (all_with_known facts.now edges.now) (Some ending.now))) }
+    {
+        let place = self.place(facts);
+        let blocks = self.function.blocks.as_slice();
+        let used = end_use(alloc, &place, blocks, &ending.terminator)?;
+        let at_end = use_fault(ending.line, used);
+        let mut branches = FactBranches::new(alloc, facts.facts(), effort);
+        let on_edges = edges_fault(alloc, blocks, self.block, ending, &mut branches, edges)?;
+        Ok(lower(at_end, on_edges))
+    }
+
+    /// What is broken at the end of a block.
+    fn end_fault(
+        &self,
+        alloc: Global,
+        facts: &[Fact],
+        edges: &[EdgeFacts],
+        effort: &Effort,
+    ) -> Result<Option<Broken>, Unanswered>
+        ensures { IfOk result (IsEarliest (IsEndBroken self.now.function.now self.now.task self.now.block.now facts.now
+            (all_with_known facts.now edges.now) self.now.block.now.ending)) }
+    {
+        match &self.block.ending {
+            Some(ending) => {
+                let mut cursor = FactCursor::new(alloc, facts, effort);
+                let foot = child_foot(self.function.blocks.as_slice(), &ending.terminator);
+                index_for(&mut cursor, !foot.is_empty())?;
+                let facts = cursor.known();
+                self.ending_fault(alloc, &facts, edges, ending, effort)
+            }
+            None => Ok(None),
+        }
+    }
+
+    /// What is broken in a block, with what its table says is known there.
+    fn block_fault(
+        &self,
+        alloc: Global,
+        table: &BlockFacts,
+        effort: &Effort,
+    ) -> Result<Option<Broken>, Unanswered>
+        ensures { IfOk result (IsEarliest
+            (IsBlockBrokenBy self.now.functions.now self.now.function.now self.now.task self.now.block.now
+            (facts_in_table table.now) table.now.facts (edges_in_table table.now))) }
+    {
+        let at_steps = self.steps_fault(alloc, table, effort)?;
+        let facts = table.facts.as_slice();
+        let edges = table.edges.as_slice();
+        let at_end = self.end_fault(alloc, facts, edges, effort)?;
+        Ok(lower(at_steps, at_end))
+    }
 }
 
 /// What is broken in a function.
@@ -244,7 +242,13 @@ fn function_fault(
     for (index, block) in blocks.iter().enumerate() {
         let table = &tables[index];
         let task = task_at(tasks, index);
-        let broken = block_fault(alloc, functions, function, task, block, table, effort)?;
+        let site = Site {
+            functions,
+            function,
+            task,
+            block,
+        };
+        let broken = site.block_fault(alloc, table, effort)?;
         named = lower(named, broken);
     }
     Ok(named)

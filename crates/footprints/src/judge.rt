@@ -11,9 +11,8 @@ use crate::access::Pointer;
 use crate::pass::passes_on;
 use crate::touch::{end_use, step_use};
 use footprints_feet::{Place, Use};
-use linear::Fact;
 use program::{Block, Ending, Function, Step};
-use ranges::{EdgeFacts, Effort, FactBranches, Unanswered};
+use ranges::{EdgeFacts, FactBranches, Unanswered};
 use refusal::{Broken, lower, rule};
 use std::alloc::Global;
 
@@ -83,16 +82,14 @@ pub fn edges_fault(
     blocks: &[Block],
     block: &Block,
     ending: &Ending,
-    known: &[Fact],
+    facts: &mut FactBranches<'_>,
     edges: &[EdgeFacts],
-    effort: &Effort,
 ) -> Result<Option<Broken>, Unanswered>
-    ensures { IfOk result (IsEarliest (λ (b : Broken). Any (λ e. IsEdgeBroken blocks.now block.now ending.now e b) (all_with_known known.now edges.now))) }
+    ensures { IfOk result (IsEarliest (λ (b : Broken). Any (λ e. IsEdgeBroken blocks.now block.now ending.now e b) (all_with_known facts.old.0 edges.now))) }
 {
     let mut named: Option<Broken> = None;
-    let mut facts = FactBranches::new(alloc, known, effort);
     for edge in edges {
-        let broken = edge_fault(alloc, blocks, block, ending, &mut facts, edge)?;
+        let broken = edge_fault(alloc, blocks, block, ending, facts, edge)?;
         named = lower(named, broken);
     }
     Ok(named)

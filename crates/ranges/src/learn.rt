@@ -15,91 +15,108 @@ use program::{Argument, BinaryOperator, Conversion, Function, FunctionId, Instru
 use ranges_owed::{Sum, call_moves, differences_of, opposite, scale_of};
 use std::alloc::Global;
 
-/// Adds that constant + a * x + b * y is at least 0.
-fn push_two(
-    alloc: Global,
-    sums: &mut Vec<Sum>,
-    constant: i128,
-    a: i64,
-    x: Operand,
-    b: i64,
-    y: Operand,
-) -> Result<(), Unanswered>
-    ensures { OnOk result (sums.new.items ≡ sums.old.items ++ two constant a x b y ∷ []) }
+fn one_less(divisor: i64) -> i128
+    ensures { result ≡ divisor -ℤ pos 1 }
 {
-    sums.push(Sum::two(alloc, constant, a, x, b, y)?)?;
-    Ok(())
+    i128::from(divisor) - 1
 }
 
-/// d = factor * x
-fn push_multiple(
+/// Sums that an instruction makes known to be at least 0.
+#[derive(Drop)]
+struct Sums {
     alloc: Global,
-    sums: &mut Vec<Sum>,
-    d: Operand,
-    factor: i64,
-    x: Operand,
-) -> Result<(), Unanswered>
-    requires { is_scale factor ≡ true }
-    ensures { OnOk result (sums.new.items ≡ sums.old.items ++ is_multiple d factor x) }
-{
-    push_two(alloc, sums, 0, 1, d, opposite(factor), x)?;
-    push_two(alloc, sums, 0, -1, d, factor, x)?;
-    Ok(())
+    list: Vec<Sum>,
 }
 
-/// Adds that constant + a * x is at least 0.
-fn push_one(
-    alloc: Global,
-    sums: &mut Vec<Sum>,
-    constant: i128,
-    a: i64,
-    x: Operand,
-) -> Result<(), Unanswered>
-    ensures { OnOk result (sums.new.items ≡ sums.old.items ++ one constant a x ∷ []) }
-{
-    sums.push(Sum::one(alloc, constant, a, x)?)?;
-    Ok(())
-}
+impl Sums {
+    fn new(alloc: Global) -> Sums
+        ensures { result.list.items ≡ [] }
+    {
+        Sums {
+            alloc,
+            list: Vec::new(alloc),
+        }
+    }
 
-/// d from least to greatest
-fn push_between(
-    alloc: Global,
-    sums: &mut Vec<Sum>,
-    least: i64,
-    greatest: i64,
-    d: Operand,
-) -> Result<(), Unanswered>
-    ensures { OnOk result (sums.new.items ≡ sums.old.items ++ is_between least greatest d) }
-{
-    push_one(alloc, sums, opposite_number(least), 1, d)?;
-    push_one(alloc, sums, i128::from(greatest), -1, d)
-}
+    /// Adds that constant + a * x is at least 0.
+    fn push_one(&mut self, constant: i128, a: i64, x: Operand) -> Result<(), Unanswered>
+        ensures { OnOk result (self.new.list.items ≡ self.old.list.items ++ one constant a x ∷ []) }
+    {
+        self.list.push(Sum::one(self.alloc, constant, a, x)?)?;
+        Ok(())
+    }
 
-/// Adds that a * x + b * y + c * z is at least 0.
-fn push_three(
-    alloc: Global,
-    sums: &mut Vec<Sum>,
-    a: i64,
-    x: Operand,
-    b: i64,
-    y: Operand,
-    c: i64,
-    z: Operand,
-) -> Result<(), Unanswered>
-    ensures { OnOk result (sums.new.items ≡ sums.old.items ++ three (pos 0) a x b y c z ∷ []) }
-{
-    sums.push(Sum::three(alloc, a, x, b, y, c, z)?)?;
-    Ok(())
+    /// Adds that constant + a * x + b * y is at least 0.
+    fn push_two(
+        &mut self,
+        constant: i128,
+        a: i64,
+        x: Operand,
+        b: i64,
+        y: Operand,
+    ) -> Result<(), Unanswered>
+        ensures { OnOk result (self.new.list.items ≡ self.old.list.items ++ two constant a x b y ∷ []) }
+    {
+        self.list.push(Sum::two(self.alloc, constant, a, x, b, y)?)?;
+        Ok(())
+    }
+
+    /// Adds that a * x + b * y + c * z is at least 0.
+    fn push_three(
+        &mut self,
+        a: i64,
+        x: Operand,
+        b: i64,
+        y: Operand,
+        c: i64,
+        z: Operand,
+    ) -> Result<(), Unanswered>
+        ensures { OnOk result (self.new.list.items ≡ self.old.list.items ++ three (pos 0) a x b y c z ∷ []) }
+    {
+        self.list
+            .push(Sum::two(self.alloc, 0, a, x, b, y)?.plus(c, z)?)?;
+        Ok(())
+    }
+
+    /// d = factor * x
+    fn push_multiple(&mut self, d: Operand, factor: i64, x: Operand) -> Result<(), Unanswered>
+        requires { is_scale factor ≡ true }
+        ensures { OnOk result (self.new.list.items ≡ self.old.list.items ++ is_multiple d factor x) }
+    {
+        self.push_two(0, 1, d, opposite(factor), x)?;
+        self.push_two(0, -1, d, factor, x)?;
+        Ok(())
+    }
+
+    /// d from least to greatest
+    fn push_between(&mut self, least: i64, greatest: i64, d: Operand) -> Result<(), Unanswered>
+        ensures { OnOk result (self.new.list.items ≡ self.old.list.items ++ is_between least greatest d) }
+    {
+        self.push_one(opposite_number(least), 1, d)?;
+        self.push_one(i128::from(greatest), -1, d)
+    }
+
+    /// divisor * d <= x, x <= divisor * d + divisor - 1, d >= 0
+    fn push_quotient(&mut self, d: Operand, x: Operand, divisor: i64) -> Result<(), Unanswered>
+        requires scale { is_scale divisor ≡ true }
+        requires positive { pos 1 ≤ℤ divisor }
+        ensures { OnOk result (self.new.list.items ≡ self.old.list.items ++ is_quotient d x divisor) }
+    {
+        self.push_two(0, 1, x, opposite(divisor), d)?;
+        self.push_two(one_less(divisor), divisor, d, -1, x)?;
+        self.push_one(0, 1, d)?;
+        Ok(())
+    }
 }
 
 /// d = x + y
 fn sum_sums(alloc: Global, d: Operand, x: Operand, y: Operand) -> Result<Vec<Sum>, Unanswered>
     ensures { IfOk result (λ sums. sums.items ≡ binary_sums [] AddNoWrap d x y) }
 {
-    let mut sums = Vec::new(alloc);
-    push_three(alloc, &mut sums, 1, d, -1, x, -1, y)?;
-    push_three(alloc, &mut sums, -1, d, 1, x, 1, y)?;
-    Ok(sums)
+    let mut sums = Sums::new(alloc);
+    sums.push_three(1, d, -1, x, -1, y)?;
+    sums.push_three(-1, d, 1, x, 1, y)?;
+    Ok(sums.list)
 }
 
 /// d = x - y
@@ -111,21 +128,21 @@ fn difference_sums(
 ) -> Result<Vec<Sum>, Unanswered>
     ensures { IfOk result (λ sums. sums.items ≡ binary_sums [] SubtractNoWrap d x y) }
 {
-    let mut sums = Vec::new(alloc);
-    push_three(alloc, &mut sums, 1, d, -1, x, 1, y)?;
-    push_three(alloc, &mut sums, -1, d, 1, x, -1, y)?;
-    Ok(sums)
+    let mut sums = Sums::new(alloc);
+    sums.push_three(1, d, -1, x, 1, y)?;
+    sums.push_three(-1, d, 1, x, -1, y)?;
+    Ok(sums.list)
 }
 
 /// d = x * y, where one of them is a number within a million
 fn product_sums(alloc: Global, d: Operand, x: Operand, y: Operand) -> Result<Vec<Sum>, Unanswered>
     ensures { IfOk result (λ sums. sums.items ≡ is_product d (scale_of x y)) }
 {
-    let mut sums = Vec::new(alloc);
+    let mut sums = Sums::new(alloc);
     if let Some(part) = scale_of(x, y) {
-        push_multiple(alloc, &mut sums, d, part.factor, part.operand)?;
+        sums.push_multiple(d, part.factor, part.operand)?;
     }
-    Ok(sums)
+    Ok(sums.list)
 }
 
 /// Whether constant + a * x is shown to be at least 0.
@@ -160,30 +177,6 @@ fn is_divisor(
     }
 }
 
-fn one_less(divisor: i64) -> i128
-    ensures { result ≡ divisor -ℤ pos 1 }
-{
-    i128::from(divisor) - 1
-}
-
-/// divisor * d <= x, x <= divisor * d + divisor - 1, d >= 0
-fn push_quotient(
-    alloc: Global,
-    sums: &mut Vec<Sum>,
-    d: Operand,
-    x: Operand,
-    divisor: i64,
-) -> Result<(), Unanswered>
-    requires scale { is_scale divisor ≡ true }
-    requires positive { pos 1 ≤ℤ divisor }
-    ensures { OnOk result (sums.new.items ≡ sums.old.items ++ is_quotient d x divisor) }
-{
-    push_two(alloc, sums, 0, 1, x, opposite(divisor), d)?;
-    push_two(alloc, sums, one_less(divisor), divisor, d, -1, x)?;
-    push_one(alloc, sums, 0, 1, d)?;
-    Ok(())
-}
-
 /// d = x / divisor, rounded down
 fn quotient_sums(
     alloc: Global,
@@ -194,13 +187,13 @@ fn quotient_sums(
 ) -> Result<Vec<Sum>, Unanswered>
     ensures { IfOk result (λ sums. sums.items ≡ quotient_by known.now d x y) }
 {
-    let mut sums = Vec::new(alloc);
+    let mut sums = Sums::new(alloc);
     if let Operand::Number(divisor) = y {
         if is_divisor(alloc, known, x, divisor)? {
-            push_quotient(alloc, &mut sums, d, x, divisor)?;
+            sums.push_quotient(d, x, divisor)?;
         }
     }
-    Ok(sums)
+    Ok(sums.list)
 }
 
 /// d = x % divisor
@@ -213,26 +206,26 @@ fn remainder_sums(
 ) -> Result<Vec<Sum>, Unanswered>
     ensures { IfOk result (λ sums. sums.items ≡ remainder_by known.now d x y) }
 {
-    let mut sums = Vec::new(alloc);
+    let mut sums = Sums::new(alloc);
     if let Operand::Number(divisor) = y {
         if is_divisor(alloc, known, x, divisor)? {
-            push_between(alloc, &mut sums, 0, divisor - 1, d)?;
+            sums.push_between(0, divisor - 1, d)?;
         }
     }
-    Ok(sums)
+    Ok(sums.list)
 }
 
 /// d = x & mask
 fn masked_sums(alloc: Global, d: Operand, y: Operand) -> Result<Vec<Sum>, Unanswered>
     ensures { IfOk result (λ sums. sums.items ≡ masked_by d y) }
 {
-    let mut sums = Vec::new(alloc);
+    let mut sums = Sums::new(alloc);
     if let Operand::Number(mask) = y {
         if 0 <= mask {
-            push_between(alloc, &mut sums, 0, mask, d)?;
+            sums.push_between(0, mask, d)?;
         }
     }
-    Ok(sums)
+    Ok(sums.list)
 }
 
 fn binary_sums(
@@ -285,25 +278,25 @@ fn conversion_sums(
 ) -> Result<Vec<Sum>, Unanswered>
     ensures { IfOk result (λ sums. sums.items ≡ conversion_sums known.now conversion d x) }
 {
-    let mut sums = Vec::new(alloc);
+    let mut sums = Sums::new(alloc);
     let is_kept = match conversion {
         Conversion::SignExtend => {
-            push_between(alloc, &mut sums, -2_147_483_648, 2_147_483_647, d)?;
+            sums.push_between(-2_147_483_648, 2_147_483_647, d)?;
             true
         }
         Conversion::Truncate => {
-            push_between(alloc, &mut sums, -2_147_483_648, 2_147_483_647, d)?;
+            sums.push_between(-2_147_483_648, 2_147_483_647, d)?;
             is_32_bits(alloc, known, x)?
         }
         Conversion::ZeroExtend => {
-            push_between(alloc, &mut sums, 0, 4_294_967_295, d)?;
+            sums.push_between(0, 4_294_967_295, d)?;
             shows_one(alloc, known, 0, 1, x)?
         }
     };
     if is_kept {
-        push_multiple(alloc, &mut sums, d, 1, x)?;
+        sums.push_multiple(d, 1, x)?;
     }
-    Ok(sums)
+    Ok(sums.list)
 }
 
 /// The callee's `ensures`, with the arguments and the result's register put in.

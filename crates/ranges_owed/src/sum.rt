@@ -1,6 +1,6 @@
-ghost use Rattle.std.specs.Prelude.{◌≡◌, pos, negsuc, ◌*ℤ◌, true, IfOk};
+ghost use Rattle.std.specs.Prelude.{◌≡◌, ◌++◌, ◌∷◌, [], negsuc, ◌*ℤ◌, true, IfOk};
 ghost use Rattle.ranges_owed.specs.Scales.{is_scale};
-ghost use Rattle.ranges_owed.specs.Sums.{one, two, three};
+ghost use Rattle.ranges_owed.specs.Sums.{one, two};
 
 use lists::{OutOfMemory, Seq};
 use program::Operand;
@@ -40,6 +40,22 @@ impl Sum {
         Ok(Sum { constant, parts })
     }
 
+    /// This sum with a * x added.
+    pub fn plus(self, a: i64, x: Operand) -> Result<Sum, OutOfMemory>
+        ensures { IfOk result (λ s. s
+            ≡ record { constant = self.constant; parts = self.parts ++ record { factor = a; operand = x } ∷ [] }) }
+    {
+        let Sum {
+            constant,
+            mut parts,
+        } = self;
+        parts.push(Part {
+            factor: a,
+            operand: x,
+        })?;
+        Ok(Sum { constant, parts })
+    }
+
     /// constant + a * x + b * y
     pub fn two(
         alloc: Global,
@@ -51,38 +67,7 @@ impl Sum {
     ) -> Result<Sum, OutOfMemory>
         ensures { IfOk result (λ s. s ≡ two constant a x b y) }
     {
-        let Sum {
-            constant,
-            mut parts,
-        } = Sum::one(alloc, constant, a, x)?;
-        parts.push(Part {
-            factor: b,
-            operand: y,
-        })?;
-        Ok(Sum { constant, parts })
-    }
-
-    /// a * x + b * y + c * z
-    pub fn three(
-        alloc: Global,
-        a: i64,
-        x: Operand,
-        b: i64,
-        y: Operand,
-        c: i64,
-        z: Operand,
-    ) -> Result<Sum, OutOfMemory>
-        ensures { IfOk result (λ s. s ≡ three (pos 0) a x b y c z) }
-    {
-        let Sum {
-            constant,
-            mut parts,
-        } = Sum::two(alloc, 0, a, x, b, y)?;
-        parts.push(Part {
-            factor: c,
-            operand: z,
-        })?;
-        Ok(Sum { constant, parts })
+        Sum::one(alloc, constant, a, x)?.plus(b, y)
     }
 }
 

@@ -9,7 +9,7 @@ use Rattle.footprints.proofs.judge.edges_fault.Goals as goal
 
 pub loop-edge-preserved : goal.loop-edge-preserved
 loop-edge-preserved c =
-    let known = c.args.known.now in (
+    let known = c.args.facts.now.0 in (
       c.in_ok-broken.ensures.lent ∙ c.loop-edge.invariant.0,
       earliest_next (λ (e : EdgeFacts) (b : Broken). IsEdgeBroken c.args.blocks.now c.args.block.now c.args.ending.now (with_known known e) b) c.args.edges.now _ c.edge-item.result _ _ _ c.loop-edge-test.true c.edge-item.is c.loop-edge.invariant.1
           (rw c.loop-edge.invariant.0 at c.in_ok-broken.ensures.fault) c.lower-named.ensures,
@@ -17,6 +17,6 @@ loop-edge-preserved c =
 
 pub returns : goal.returns
 returns c =
-    let known = c.args.known.now in
+    let known = c.args.facts.now.0 in
     earliest_known known (λ (e : EdgeFacts) (b : Broken). IsEdgeBroken c.args.blocks.now c.args.block.now c.args.ending.now e b) c.args.edges.now _
     (earliest_all (λ (e : EdgeFacts) (b : Broken). IsEdgeBroken c.args.blocks.now c.args.block.now c.args.ending.now (with_known known e) b) c.args.edges.now _ _ c.loop-edge-test.false c.loop-edge.invariant.1)

@@ -7,5 +7,5 @@ use Rattle.footprints.proofs.judge.edges_fault.Given as goal
 
 abbrev pub invariant-loop-edge : goal.invariant-loop-edge
 invariant-loop-edge l =
-    (l.facts.0 ≡ l.known)
-    × IsEarliest (λ b. Any (λ e. IsEdgeBroken l.blocks l.block l.ending (with_known l.known e) b) (take l.edge-index l.edges)) l.named
+    (l.facts.0 ≡ l.fn.facts.0)
+    × IsEarliest (λ b. Any (λ e. IsEdgeBroken l.blocks l.block l.ending (with_known l.fn.facts.0 e) b) (take l.edge-index l.edges)) l.named
