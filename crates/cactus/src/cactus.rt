@@ -6,6 +6,7 @@ ghost use Rattle.slab.specs.Slab.{entries_from};
 ghost use Rattle.cactus.specs.Frames.{node_at, node_of_use, HasPath, HasNoPath, frame_at, Lives, IsAdded, AddsChild, IsRemoved};
 ghost use Rattle.cactus.specs.ByPath.{named, IsTree, Binds, GrowsMap, ShrinksMap};
 ghost use Rattle.cactus.specs.Chain.{AddsChain, GrowsChain};
+ghost use Rattle.cactus.specs.declared.node.Node.{Node as ShownNode};
 
 use crate::node::{FrameData, Link, Node};
 use frame::Path;
@@ -26,12 +27,17 @@ fn child_path(alloc: Global, path: &Path, number: u64) -> Result<Path, OutOfMemo
     })
 }
 
+/// So many frames that are gone are kept at most, so that others take their lists.
+const MOST_SPARE: usize = 256;
+
 /// The living frames of a run, each with data of type `F`.
 #[derive(Drop)]
 pub struct Cactus<F> {
     alloc: Global,
     nodes: Slab<Node<F>>,
     made: u64,
+    /// Frames that are gone; contracts see none of them.
+    spare: Vec<Node<F>>,
 }
 
 impl<F> Model for Cactus<F> {
@@ -57,6 +63,7 @@ impl<F: Drop> Cactus<F> {
             alloc,
             nodes: Slab::new(alloc),
             made: 0,
+            spare: Vec::new(alloc),
         }
     }
 
@@ -276,6 +283,32 @@ impl<F: Drop> Cactus<F> {
     {
         self.nodes.remove(slot)
     }
+
+    /// Takes the frame in the slot away, and keeps it as [`Cactus::keep`] does.
+    pub fn discard(&mut self, slot: usize)
+        requires { Lives self.old slot }
+        ensures rest { IsRemoved self.old self.new slot }
+        ensures map { (node : ShownNode F) → node_at self.old slot ≡ Some node → ShrinksMap self.old self.new slot node }
+    {
+        let node = self.remove(slot);
+        self.keep(node);
+    }
+
+    /// Keeps a frame that is gone, so that another takes its lists. Where there is no room for it, it is let go.
+    pub fn keep(&mut self, node: Node<F>)
+        ensures { self.new ≡ self.old }
+    {
+        if self.spare.len() < MOST_SPARE && self.spare.reserve(1).is_ok() {
+            self.spare.push_reserved(node);
+        }
+    }
+
+    /// A frame that is gone, where one was kept: what is in its lists says nothing.
+    pub fn reuse(&mut self) -> Option<Node<F>>
+        ensures { self.new ≡ self.old }
+    {
+        self.spare.pop()
+    }
 }
 
 impl<F: FrameData> Clone for Cactus<F> {
@@ -288,6 +321,7 @@ impl<F: FrameData> Clone for Cactus<F> {
             alloc: self.alloc,
             nodes: self.nodes.clone()?,
             made: self.made,
+            spare: Vec::new(self.alloc),
         })
     }
 }

@@ -38,7 +38,7 @@ impl Machine<'_> {
         ensures none { (m : running.Machine) → IsState self.now.stage m → IfNone result (HasNoReadyParent (workers_of self.now.stage) m worker) }
     {
         let parent = self.parent_slot(worker)?;
-        let spot = self.ready_spot(parent)?;
-        Some((spot.slot, spot.generation))
+        let ticket = self.ready_ticket(parent)?;
+        Some((ticket.slot, ticket.generation))
     }
 }

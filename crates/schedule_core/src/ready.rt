@@ -16,7 +16,7 @@ pub struct Ticket {
 
 impl Machine<'_> {
     /// The ready task of which the slot's frame is the top.
-    pub(crate) fn ready_spot(&self, slot: usize) -> Option<Ticket>
+    pub(crate) fn ready_ticket(&self, slot: usize) -> Option<Ticket>
         ensures has { IfSome result (IsSpotOf self.now.stage.run.cactus slot) }
         ensures none { IsTree self.now.stage.run.cactus → IfNone result (IsNotReady self.now.stage.run.cactus slot) }
     {
@@ -40,33 +40,33 @@ impl Machine<'_> {
     }
 
     /// Adds the task of which the slot's frame is the top, if it is ready.
-    fn note(&self, slot: Option<usize>, spots: &mut Vec<Ticket>)
-        requires room { vec_len spots.old < vec_capacity spots.old }
-        ensures notes { IsTree self.now.stage.run.cactus → Notes self.now.stage.run.cactus slot spots.old.items spots.new.items }
-        ensures one { vec_len spots.new ≤ vec_len spots.old + 1 }
-        ensures as_large { vec_capacity spots.new ≡ vec_capacity spots.old }
+    fn note(&self, slot: Option<usize>, tickets: &mut Vec<Ticket>)
+        requires room { vec_len tickets.old < vec_capacity tickets.old }
+        ensures notes { IsTree self.now.stage.run.cactus → Notes self.now.stage.run.cactus slot tickets.old.items tickets.new.items }
+        ensures one { vec_len tickets.new ≤ vec_len tickets.old + 1 }
+        ensures as_large { vec_capacity tickets.new ≡ vec_capacity tickets.old }
     {
         let Some(top) = slot else {
             return;
         };
-        let Some(spot) = self.ready_spot(top) else {
+        let Some(ticket) = self.ready_ticket(top) else {
             return;
         };
-        spots.push_reserved(spot);
+        tickets.push_reserved(ticket);
     }
 
     /// The ready tasks whose tops are among so many frames below the one that the worker runs next, the outermost first; it takes no memory.
     /// After a strand's steps these are the tasks that its detaches left, where it had so many frames below its top.
-    pub fn ready_below(&self, worker: u8, levels: usize, spots: &mut Vec<Ticket>)
-        requires empty { spots.old.items ≡ [] }
-        requires room { levels ≤ vec_capacity spots.old }
-        ensures { (m : running.Machine) → IsState self.now.stage m → AreReadyBelow self.now.stage m worker levels (reverse spots.new.items) }
+    pub fn ready_below(&self, worker: u8, levels: usize, tickets: &mut Vec<Ticket>)
+        requires empty { tickets.old.items ≡ [] }
+        requires room { levels ≤ vec_capacity tickets.old }
+        ensures { (m : running.Machine) → IsState self.now.stage m → AreReadyBelow self.now.stage m worker levels (reverse tickets.new.items) }
     {
         let mut slot = self.stage.run.hand(worker);
         for _level in 0..levels {
             slot = self.maker(slot);
-            self.note(slot, spots);
+            self.note(slot, tickets);
         }
-        spots.reverse();
+        tickets.reverse();
     }
 }

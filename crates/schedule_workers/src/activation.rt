@@ -31,7 +31,21 @@ impl Activation {
         ensures none { IfOk result (λ a. (region : ℕ) → counted_in a region ≡ 0) }
         ensures as_many { IfOk result (λ a. length a.counts.items ≡ length frame.registers.items) }
     {
-        let counts = vec![in alloc; RegionCount::NONE; frame.registers.len()]?;
+        Activation::with_counts(Vec::new(alloc), frame, worker)
+    }
+
+    /// A frame that the worker begins to run, with its counts in this list, whatever it holds.
+    pub fn with_counts(
+        mut counts: Vec<RegionCount>,
+        frame: Frame,
+        worker: u8,
+    ) -> Result<Activation, OutOfMemory>
+        ensures is { IfOk result (λ a. a ≡ record { frame = frame; counts = a.counts; callee = None; runner = Some worker; stalled_in = None }) }
+        ensures none { IfOk result (λ a. (region : ℕ) → counted_in a region ≡ 0) }
+        ensures as_many { IfOk result (λ a. length a.counts.items ≡ length frame.registers.items) }
+    {
+        counts.clear();
+        counts.resize(frame.registers.len(), RegionCount::NONE)?;
         Ok(Activation {
             frame,
             counts,

@@ -10,28 +10,37 @@ use frame_engine::{Flat, Frame, Place};
 use lists::OutOfMemory;
 use std::alloc::{AllocError, Global};
 
-/// The frame again, with registers of its own.
+/// The frame again, with registers in this list, whatever it holds.
 ///
 /// # Errors
 ///
 /// Memory was refused.
-pub fn frame_copy(frame: &Frame) -> Result<Frame, AllocError>
+pub fn frame_copy_in(mut registers: Vec<i64>, frame: &Frame) -> Result<Frame, AllocError>
     ensures { IfOk result (IsFrameCopy frame.now) }
 {
-    let alloc = *frame.registers.allocator();
+    registers.clear();
+    registers.extend_from_slice(frame.registers.as_slice())?;
     Ok(Frame {
         function: frame.function,
         place: Place {
             block: frame.place.block,
             index: frame.place.index,
         },
-        registers: Vec::from_slice(alloc, frame.registers.as_slice())?,
+        registers,
         home: frame.home,
         made: frame.made,
         waits: frame.waits,
         role: frame.role,
         depth: frame.depth,
     })
+}
+
+/// The frame again, with registers of its own.
+fn frame_copy(frame: &Frame) -> Result<Frame, AllocError>
+    ensures { IfOk result (IsFrameCopy frame.now) }
+{
+    let registers = Vec::with_capacity(*frame.registers.allocator(), frame.registers.len())?;
+    frame_copy_in(registers, frame)
 }
 
 impl Clone for Activation {

@@ -49,5 +49,5 @@ mod sync;
 mod tops;
 
 pub use activation::Activation;
-pub use copies::frame_copy;
+pub use copies::frame_copy_in;
 pub use run::{Block, Run};

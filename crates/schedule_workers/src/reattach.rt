@@ -80,7 +80,7 @@ impl Run {
         };
         let last = node.path.numbers.as_slice().last().copied();
         let above = node.parent;
-        let _child = self.cactus.remove(slot);
+        self.cactus.discard(slot);
         self.instructions += 1;
         let Some(parent) = above else {
             self.set_hand(worker, None);

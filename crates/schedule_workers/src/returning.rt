@@ -75,5 +75,6 @@ impl Run {
             self.result = number;
         }
         self.set_hand(worker, over.parent);
+        self.cactus.keep(over);
     }
 }

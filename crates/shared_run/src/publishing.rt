@@ -62,7 +62,7 @@ impl<L: Bench> Board<'_, L> {
         }
     }
 
-    /// The same of a strand whose frames are as the board takes them.
+    /// Puts what a strand did, whose frames are as the board takes them, on the board as steps of the seat's worker, where the strand fits there.
     fn put(&mut self, seat: &mut Seat<L>, strand: &WorkerStrand<'_, L>) -> Published
         requires made { IsUp strand.now.standing → IsStrandOf L.code strand.now.strand }
         ensures { Publishes strand.now self.old self.new seat.old seat.new result }

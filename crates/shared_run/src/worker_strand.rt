@@ -155,7 +155,8 @@ impl<'p, L: Bench> WorkerStrand<'p, L> {
     /// Whether a frame below is behind a detach, so that its task is ready once the strand is published.
     #[tactic(auto, using(crate::proofs::Strands::under_way, crate::proofs::Settling::ready_at))]
     pub fn has_ready_frame(&self) -> bool
-        ensures { IsUp self.now.standing → result ≡ list_any (λ saved. is_detach (slot_item L.code saved.at)) self.now.strand.span.windows.below.items }
+        ensures there { IsUp self.now.standing → result ≡ list_any (λ saved. is_detach (slot_item L.code saved.at)) self.now.strand.span.windows.below.items }
+        ensures none { ¬ IsUp self.now.standing → result ≡ false }
     {
         self.standing.is_up() && has_ready_below(&self.strand, self.verified, self.code)
     }
@@ -163,7 +164,8 @@ impl<'p, L: Bench> WorkerStrand<'p, L> {
     /// Whether it holds a frame, and a reattach is next.
     #[tactic(auto, using(crate::proofs::Strands::under_way, crate::proofs::Settling::none_by_step, crate::proofs::Settling::next_by_end))]
     pub fn is_at_reattach(&self) -> bool
-        ensures { IsUp self.now.standing → result ≡ is_reattach (next_item L.code self.now.strand) }
+        ensures next { IsUp self.now.standing → result ≡ is_reattach (next_item L.code self.now.strand) }
+        ensures none { ¬ IsUp self.now.standing → result ≡ false }
     {
         if !self.standing.is_up() {
             return false;

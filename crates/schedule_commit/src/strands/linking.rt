@@ -5,13 +5,54 @@ ghost use Rattle.program.specs.declared.identifier.BlockId.{BlockId};
 ghost use Rattle.schedule_workers.specs.Scheduling.{counted_in};
 ghost use Rattle.schedule_commit.specs.strands.Linking.{AreLinks, IsFrameOf, RegionsFit, counted_of, frames_of};
 
-use cactus::Link;
+use cactus::{Cactus, Link};
 use frame::{Path, Role};
 use frame_engine::Frame;
 use lists::{OutOfMemory, Seq};
-use schedule_workers::{Activation, frame_copy};
+use schedule_workers::{Activation, frame_copy_in};
 use std::alloc::Global;
+use std::mem::replace;
 use strand::Strand;
+use sync_join::RegionCount;
+
+/// Lists for a frame and its path, whatever they hold.
+#[derive(Drop)]
+struct Lists {
+    numbers: Vec<u64>,
+    registers: Vec<i64>,
+    counts: Vec<RegionCount>,
+}
+
+impl Lists {
+    /// Those of a frame that is gone, where one was kept.
+    fn of_gone(alloc: Global, cactus: &mut Cactus<Activation>) -> Lists
+        ensures { cactus.new ≡ cactus.old }
+    {
+        let Some(mut gone) = cactus.reuse() else {
+            return Lists {
+                numbers: Vec::new(alloc),
+                registers: Vec::new(alloc),
+                counts: Vec::new(alloc),
+            };
+        };
+        Lists {
+            numbers: replace(&mut gone.path.numbers, Seq::new(alloc)).into_vec(),
+            registers: gone.frame.frame.registers,
+            counts: gone.frame.counts,
+        }
+    }
+}
+
+/// The path of these numbers, in the list.
+fn path_in(mut list: Vec<u64>, numbers: &[u64]) -> Result<Path, OutOfMemory>
+    ensures { IfOk result (λ path. path.numbers ≡ numbers.now) }
+{
+    list.clear();
+    list.extend_from_slice(numbers)?;
+    Ok(Path {
+        numbers: Seq::from_vec(list),
+    })
+}
 
 /// The strand's frame of this number, counted from the base.
 pub(crate) fn frame_of(strand: &Strand, number: usize) -> &Frame
@@ -50,9 +91,10 @@ pub(crate) fn count_above(activation: &mut Activation, above: &Frame)
     }
 }
 
-/// What the scheduler is to know of the frame of this number.
+/// What the scheduler is to know of the frame of this number, in these lists.
 fn activation_of(
-    alloc: Global,
+    registers: Vec<i64>,
+    counts: Vec<RegionCount>,
     worker: u8,
     strand: &Strand,
     number: usize,
@@ -61,8 +103,8 @@ fn activation_of(
     requires regions { RegionsFit strand.now }
     ensures { IfOk result (IsFrameOf worker strand.now number) }
 {
-    let frame = frame_copy(frame_of(strand, number))?;
-    let mut activation = Activation::new(alloc, frame, worker)?;
+    let frame = frame_copy_in(registers, frame_of(strand, number))?;
+    let mut activation = Activation::with_counts(counts, frame, worker)?;
     if let Some(above) = above(strand, number) {
         activation.runner = None;
         count_above(&mut activation, above);
@@ -70,23 +112,25 @@ fn activation_of(
     Ok(activation)
 }
 
-/// The frames above the base as they are to stand in the cactus, the lowest first. None of them knows the slot of its callee yet.
+/// The frames above the base as they are to stand in the cactus, the lowest first. None of them knows the slot of its callee yet. They take the lists of frames
+/// that are gone.
 pub(crate) fn links_of(
     alloc: Global,
+    cactus: &mut Cactus<Activation>,
     worker: u8,
     strand: &Strand,
 ) -> Result<Vec<Link<Activation>>, OutOfMemory>
     requires { RegionsFit strand.now }
-    ensures { IfOk result (λ links. AreLinks worker strand.now links.items) }
+    ensures links { IfOk result (λ links. AreLinks worker strand.now links.items) }
+    ensures same { cactus.new ≡ cactus.old }
 {
     let mut links = Vec::with_capacity(alloc, strand.below.len())?;
     let mut numbers = Vec::from_slice(alloc, strand.base.path.as_slice())?;
     for number in 0..strand.below.len() {
         numbers.push(frame_of(strand, number).made.saturating_sub(1))?;
-        let path = Path {
-            numbers: Seq::from_vec(Vec::from_slice(alloc, numbers.as_slice())?),
-        };
-        let frame = activation_of(alloc, worker, strand, number + 1)?;
+        let lists = Lists::of_gone(alloc, cactus);
+        let path = path_in(lists.numbers, numbers.as_slice())?;
+        let frame = activation_of(lists.registers, lists.counts, worker, strand, number + 1)?;
         links.push(Link { path, frame })?;
     }
     Ok(links)

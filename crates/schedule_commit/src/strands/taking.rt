@@ -42,7 +42,7 @@ pub fn publish(
     let Some(slot) = fitting_base(run, program, worker, strand) else {
         return Ok(false);
     };
-    let links = links_of(run.alloc, worker, strand)?;
+    let links = links_of(run.alloc, &mut run.cactus, worker, strand)?;
     let slots = run.cactus.add_chain(slot, links)?;
     commit(run, worker, slot, slots.as_slice(), strand);
     Ok(true)

@@ -5,6 +5,7 @@ use Rattle.schedule_commit.proofs.strands.linking.links_of.Goals as goal
 pub loop-number-preserved : goal.loop-number-preserved
 loop-number-preserved c =
     let l = c.loop-number in
-    ready_next c.args.worker c.args.strand.now l.number c.frame_of.result.now c.frame_of.ensures l.numbers.items c.push.new.self.items c.saturating_sub.result l.links.items c.push-in-loop-number.new.self.items
-    (record { path = record { numbers = c.from_vec.result }; frame = c.in_ok-frame.frame }) l.invariant.0 l.invariant.1 c.in_ok-push.ensures.items c.saturating_sub.ensures
-    (c.from_vec.ensures ∙ (c.in_ok-from_slice.ensures.items ∙ c.as_slice-in-loop-number.ensures.value)) c.in_ok-frame.ensures c.in_ok-push-2.ensures.items
+    let next = ready_next c.args.worker c.args.strand.now l.number c.frame_of.result.now c.frame_of.ensures l.numbers.items c.push.new.self.items c.saturating_sub.result l.links.items c.push-in-loop-number.new.self.items
+    (record { path = c.in_ok-path.path; frame = c.in_ok-frame.frame }) l.invariant.0 l.invariant.1 c.in_ok-push.ensures.items c.saturating_sub.ensures
+    (c.in_ok-path.ensures ∙ c.as_slice-in-loop-number.ensures.value) c.in_ok-frame.ensures c.in_ok-push-2.ensures.items in
+    (next.0, next.1, c.of_gone-lists.ensures ∙ l.invariant.2)

@@ -19,9 +19,9 @@ loop-level-preserved c =
     let left : c.args.levels - l._level ≡ suc (c.args.levels - (l._level + 1)) = omega (arith, low) in
     record {
       walk = λ tree.
-          subst (λ (o : Option ℕ). Walks frames c.args.levels hand (c.args.levels - (l._level + 1)) o c.note.new.spots.items) (sym c.maker-slot.ensures)
-          (walk_one frames c.args.levels (c.args.levels - l._level) (c.args.levels - (l._level + 1)) hand l.slot l.spots.items c.note.new.spots.items left (l.invariant.walk tree)
-          (subst (λ (o : Option ℕ). Notes frames o l.spots.items c.note.new.spots.items) c.maker-slot.ensures (c.note.ensures.notes tree)));
+          subst (λ (o : Option ℕ). Walks frames c.args.levels hand (c.args.levels - (l._level + 1)) o c.note.new.tickets.items) (sym c.maker-slot.ensures)
+          (walk_one frames c.args.levels (c.args.levels - l._level) (c.args.levels - (l._level + 1)) hand l.slot l.tickets.items c.note.new.tickets.items left (l.invariant.walk tree)
+          (subst (λ (o : Option ℕ). Notes frames o l.tickets.items c.note.new.tickets.items) c.maker-slot.ensures (c.note.ensures.notes tree)));
       short = omega (arith, one, short);
       room = omega (arith, large, room);
     }
@@ -33,6 +33,6 @@ returns c m state =
     let l = c.loop-level in
     let over = c.loop-level-test.false in
     let none : c.args.levels - l._level ≡ 0 = omega (arith, over) in
-    subst (λ (spots : List Ticket). AreReadyBelow stage m c.args.worker c.args.levels spots) (sym (ap (λ (spots : List Ticket). reverse spots) c.reverse.ensures.items ∙ reverse-reverse l.spots.items))
-    (ready_below stage m state c.args.worker c.args.levels l.spots.items
-    (walked frames c.args.levels (c.args.levels - l._level) (hand_of stage.run.hands.items c.args.worker) l.slot l.spots.items none (l.invariant.walk state.shown.agrees.tree)))
+    subst (λ (spots : List Ticket). AreReadyBelow stage m c.args.worker c.args.levels spots) (sym (ap (λ (spots : List Ticket). reverse spots) c.reverse.ensures.items ∙ reverse-reverse l.tickets.items))
+    (ready_below stage m state c.args.worker c.args.levels l.tickets.items
+    (walked frames c.args.levels (c.args.levels - l._level) (hand_of stage.run.hands.items c.args.worker) l.slot l.tickets.items none (l.invariant.walk state.shown.agrees.tree)))

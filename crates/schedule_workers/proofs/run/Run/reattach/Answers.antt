@@ -4,8 +4,6 @@ use Rattle.std.specs.Option.{option_copied, option_copied_mut}
 use Rattle.std.specs.Vec.{vec_len, with_item}
 use Rattle.std.proofs.Math.Logic.{∥∥₁_elim}
 use Rattle.std.proofs.Props.{props}
-use Rattle.semantics.proofs.Steps.{some_same}
-use Rattle.cactus.specs.declared.node.Node.{Node}
 use Rattle.semantics.specs.Events.{Step}
 use Rattle.cactus.specs.Frames.{frame_at, node_at}
 use Rattle.cactus.specs.ByPath.{ShrinksMap}
@@ -41,11 +39,10 @@ unreachable-requires-in_default-frame_mut c =
     let node = c.in-Some.node.now in
     let stands : node_at k.cactus c.args.slot ≡ Some node = sym c.node.ensures ∙ ap option_copied c.in-Some.is in
     let it = c.requires.item node stands in
-    let same : c.remove-child.result ≡ node = some_same c.remove-child.result node (sym c.remove-child.ensures.value ∙ stands) in
-    let shrinks : ShrinksMap k.cactus c.remove-child.new.self c.args.slot node = subst (λ (x : Node Activation). ShrinksMap k.cactus c.remove-child.new.self c.args.slot x) same c.remove-child.ensures.map in
+    let shrinks : ShrinksMap k.cactus c.discard.new.self c.args.slot node = c.discard.ensures.map node stands in
     ∥∥₁_elim c.requires.safe (hlevel props) (λ s.
-    let there = lives_mid c.args.program.now c.args.places.now k c.args.slot node stands s.machine s.shown c.args.region it.0 it.1 c.args.worker c.requires.hand s.safe (search rules) c.remove-child.new.self c.remove-child.ensures.rest shrinks c.in-Some-above.parent c.in-Some-above.is in
-    not_there c.remove-child.new.self c.in-Some-above.parent there (sym c.frame_mut.ensures.value ∙ ap option_copied_mut c.in_default-frame_mut.is))
+    let there = lives_mid c.args.program.now c.args.places.now k c.args.slot node stands s.machine s.shown c.args.region it.0 it.1 c.args.worker c.requires.hand s.safe (search rules) c.discard.new.self c.discard.ensures.rest shrinks c.in-Some-above.parent c.in-Some-above.is in
+    not_there c.discard.new.self c.in-Some-above.parent there (sym c.frame_mut.ensures.value ∙ ap option_copied_mut c.in_default-frame_mut.is))
 
 -- a path under a parent has a number
 pub unreachable-requires-in_default-last : goal.unreachable-requires-in_default-last
@@ -54,11 +51,10 @@ unreachable-requires-in_default-last c =
     let node = c.in-Some.node.now in
     let stands : node_at k.cactus c.args.slot ≡ Some node = sym c.node.ensures ∙ ap option_copied c.in-Some.is in
     let it = c.requires.item node stands in
-    let same : c.remove-child.result ≡ node = some_same c.remove-child.result node (sym c.remove-child.ensures.value ∙ stands) in
-    let shrinks : ShrinksMap k.cactus c.remove-child.new.self c.args.slot node = subst (λ (x : Node Activation). ShrinksMap k.cactus c.remove-child.new.self c.args.slot x) same c.remove-child.ensures.map in
+    let shrinks : ShrinksMap k.cactus c.discard.new.self c.args.slot node = c.discard.ensures.map node stands in
     let none : slice_get node.path.numbers (length node.path.numbers - 1) ≡ None = subst (λ (xs : List ℕ). slice_get xs (length xs - 1) ≡ None) c.as_slice.ensures (sym c.last.ensures.value ∙ (sym c.copied-last.ensures ∙ c.in_default-last.is)) in
     ∥∥₁_elim c.requires.safe (hlevel props) (λ s.
-    let some = last_is c.args.program.now c.args.places.now k c.args.slot node stands s.machine s.shown c.args.region it.0 it.1 c.args.worker c.requires.hand s.safe (search rules) c.remove-child.new.self c.remove-child.ensures.rest shrinks c.in-Some-above.parent c.in-Some-above.is in
+    let some = last_is c.args.program.now c.args.places.now k c.args.slot node stands s.machine s.shown c.args.region it.0 it.1 c.args.worker c.requires.hand s.safe (search rules) c.discard.new.self c.discard.ensures.rest shrinks c.in-Some-above.parent c.in-Some-above.is in
     none_some _ (sym none ∙ some))
 
 pub lose_child-requires-clause-counted : goal.lose_child-requires-clause-counted
@@ -67,12 +63,11 @@ lose_child-requires-clause-counted c =
     let node = c.in-Some.node.now in
     let stands : node_at k.cactus c.args.slot ≡ Some node = sym c.node.ensures ∙ ap option_copied c.in-Some.is in
     let it = c.requires.item node stands in
-    let same : c.remove-child.result ≡ node = some_same c.remove-child.result node (sym c.remove-child.ensures.value ∙ stands) in
-    let shrinks : ShrinksMap k.cactus c.remove-child.new.self c.args.slot node = subst (λ (x : Node Activation). ShrinksMap k.cactus c.remove-child.new.self c.args.slot x) same c.remove-child.ensures.map in
+    let shrinks : ShrinksMap k.cactus c.discard.new.self c.args.slot node = c.discard.ensures.map node stands in
     let found = sym c.frame_mut.ensures.value ∙ ap option_copied_mut c.in-Some-frame_mut.is in
     ∥∥₁_elim c.requires.safe (hlevel props) (λ s.
-    let there = found_above c.args.program.now c.args.places.now k c.args.slot node stands s.machine s.shown c.args.region it.0 it.1 c.args.worker c.requires.hand s.safe (search rules) c.remove-child.new.self c.remove-child.ensures.rest shrinks c.in-Some-above.parent c.in-Some-above.is c.in-Some-frame_mut.activation.now found in
-    let room = counted_room c.args.program.now c.args.places.now k c.args.slot node stands s.machine s.shown c.args.region it.0 it.1 c.args.worker c.requires.hand s.safe (search rules) c.remove-child.new.self c.remove-child.ensures.rest shrinks c.in-Some-above.parent c.in-Some-above.is in
+    let there = found_above c.args.program.now c.args.places.now k c.args.slot node stands s.machine s.shown c.args.region it.0 it.1 c.args.worker c.requires.hand s.safe (search rules) c.discard.new.self c.discard.ensures.rest shrinks c.in-Some-above.parent c.in-Some-above.is c.in-Some-frame_mut.activation.now found in
+    let room = counted_room c.args.program.now c.args.places.now k c.args.slot node stands s.machine s.shown c.args.region it.0 it.1 c.args.worker c.requires.hand s.safe (search rules) c.discard.new.self c.discard.ensures.rest shrinks c.in-Some-above.parent c.in-Some-above.is in
     subst (λ (x : Activation). c.args.region.0 < vec_len x.counts) there room)
 
 pub lose_child-requires-clause-living : goal.lose_child-requires-clause-living
@@ -81,12 +76,11 @@ lose_child-requires-clause-living c =
     let node = c.in-Some.node.now in
     let stands : node_at k.cactus c.args.slot ≡ Some node = sym c.node.ensures ∙ ap option_copied c.in-Some.is in
     let it = c.requires.item node stands in
-    let same : c.remove-child.result ≡ node = some_same c.remove-child.result node (sym c.remove-child.ensures.value ∙ stands) in
-    let shrinks : ShrinksMap k.cactus c.remove-child.new.self c.args.slot node = subst (λ (x : Node Activation). ShrinksMap k.cactus c.remove-child.new.self c.args.slot x) same c.remove-child.ensures.map in
+    let shrinks : ShrinksMap k.cactus c.discard.new.self c.args.slot node = c.discard.ensures.map node stands in
     let found = sym c.frame_mut.ensures.value ∙ ap option_copied_mut c.in-Some-frame_mut.is in
     ∥∥₁_elim c.requires.safe (hlevel props) (λ s.
-    let there = found_above c.args.program.now c.args.places.now k c.args.slot node stands s.machine s.shown c.args.region it.0 it.1 c.args.worker c.requires.hand s.safe (search rules) c.remove-child.new.self c.remove-child.ensures.rest shrinks c.in-Some-above.parent c.in-Some-above.is c.in-Some-frame_mut.activation.now found in
-    let room = living_room c.args.program.now c.args.places.now k c.args.slot node stands s.machine s.shown c.args.region it.0 it.1 c.args.worker c.requires.hand s.safe (search rules) c.remove-child.new.self c.remove-child.ensures.rest shrinks c.in-Some-above.parent c.in-Some-above.is in
+    let there = found_above c.args.program.now c.args.places.now k c.args.slot node stands s.machine s.shown c.args.region it.0 it.1 c.args.worker c.requires.hand s.safe (search rules) c.discard.new.self c.discard.ensures.rest shrinks c.in-Some-above.parent c.in-Some-above.is c.in-Some-frame_mut.activation.now found in
+    let room = living_room c.args.program.now c.args.places.now k c.args.slot node stands s.machine s.shown c.args.region it.0 it.1 c.args.worker c.requires.hand s.safe (search rules) c.discard.new.self c.discard.ensures.rest shrinks c.in-Some-above.parent c.in-Some-above.is in
     subst (λ (x : Activation). 0 < counted_in x c.args.region.0) there room)
 
 pub lose_child-requires-clause-made : goal.lose_child-requires-clause-made
@@ -95,12 +89,11 @@ lose_child-requires-clause-made c =
     let node = c.in-Some.node.now in
     let stands : node_at k.cactus c.args.slot ≡ Some node = sym c.node.ensures ∙ ap option_copied c.in-Some.is in
     let it = c.requires.item node stands in
-    let same : c.remove-child.result ≡ node = some_same c.remove-child.result node (sym c.remove-child.ensures.value ∙ stands) in
-    let shrinks : ShrinksMap k.cactus c.remove-child.new.self c.args.slot node = subst (λ (x : Node Activation). ShrinksMap k.cactus c.remove-child.new.self c.args.slot x) same c.remove-child.ensures.map in
+    let shrinks : ShrinksMap k.cactus c.discard.new.self c.args.slot node = c.discard.ensures.map node stands in
     let found = sym c.frame_mut.ensures.value ∙ ap option_copied_mut c.in-Some-frame_mut.is in
     ∥∥₁_elim c.requires.safe (hlevel props) (λ s.
-    let there = found_above c.args.program.now c.args.places.now k c.args.slot node stands s.machine s.shown c.args.region it.0 it.1 c.args.worker c.requires.hand s.safe (search rules) c.remove-child.new.self c.remove-child.ensures.rest shrinks c.in-Some-above.parent c.in-Some-above.is c.in-Some-frame_mut.activation.now found in
-    let room = made_room c.args.program.now c.args.places.now k c.args.slot node stands s.machine s.shown c.args.region it.0 it.1 c.args.worker c.requires.hand s.safe (search rules) c.remove-child.new.self c.remove-child.ensures.rest shrinks c.in-Some-above.parent c.in-Some-above.is in
+    let there = found_above c.args.program.now c.args.places.now k c.args.slot node stands s.machine s.shown c.args.region it.0 it.1 c.args.worker c.requires.hand s.safe (search rules) c.discard.new.self c.discard.ensures.rest shrinks c.in-Some-above.parent c.in-Some-above.is c.in-Some-frame_mut.activation.now found in
+    let room = made_room c.args.program.now c.args.places.now k c.args.slot node stands s.machine s.shown c.args.region it.0 it.1 c.args.worker c.requires.hand s.safe (search rules) c.discard.new.self c.discard.ensures.rest shrinks c.in-Some-above.parent c.in-Some-above.is in
     subst (λ (x : Activation). 0 < x.frame.made) there room)
 
 -- no parent
@@ -110,10 +103,9 @@ returns-in_default-above-clause-steps c = λ m shown safe.
     let node = c.in-Some.node.now in
     let stands : node_at k.cactus c.args.slot ≡ Some node = sym c.node.ensures ∙ ap option_copied c.in-Some.is in
     let it = c.requires.item node stands in
-    let same : c.remove-child.result ≡ node = some_same c.remove-child.result node (sym c.remove-child.ensures.value ∙ stands) in
-    let shrinks : ShrinksMap k.cactus c.remove-child.new.self c.args.slot node = subst (λ (x : Node Activation). ShrinksMap k.cactus c.remove-child.new.self c.args.slot x) same c.remove-child.ensures.map in
+    let shrinks : ShrinksMap k.cactus c.discard.new.self c.args.slot node = c.discard.ensures.map node stands in
     subst (λ (x : Run). LeadsTo c.args.program.now c.args.places.now k x c.args.worker m) (sym c.set_hand.ensures)
-    (root_ends c.args.program.now c.args.places.now k c.args.slot node stands m shown c.args.region it.0 it.1 c.args.worker c.requires.hand safe (search rules) c.remove-child.new.self c.remove-child.ensures.rest shrinks c.in_default-above.is)
+    (root_ends c.args.program.now c.args.places.now k c.args.slot node stands m shown c.args.region it.0 it.1 c.args.worker c.requires.hand safe (search rules) c.discard.new.self c.discard.ensures.rest shrinks c.in_default-above.is)
 
 pub returns-then-lose_child-clause-steps : goal.returns-then-lose_child-clause-steps
 returns-then-lose_child-clause-steps c = λ m shown safe.
@@ -121,28 +113,26 @@ returns-then-lose_child-clause-steps c = λ m shown safe.
     let node = c.in-Some.node.now in
     let stands : node_at k.cactus c.args.slot ≡ Some node = sym c.node.ensures ∙ ap option_copied c.in-Some.is in
     let it = c.requires.item node stands in
-    let same : c.remove-child.result ≡ node = some_same c.remove-child.result node (sym c.remove-child.ensures.value ∙ stands) in
-    let shrinks : ShrinksMap k.cactus c.remove-child.new.self c.args.slot node = subst (λ (x : Node Activation). ShrinksMap k.cactus c.remove-child.new.self c.args.slot x) same c.remove-child.ensures.map in
+    let shrinks : ShrinksMap k.cactus c.discard.new.self c.args.slot node = c.discard.ensures.map node stands in
     let found = sym c.frame_mut.ensures.value ∙ ap option_copied_mut c.in-Some-frame_mut.is in
     let last = subst (λ (xs : List ℕ). slice_get xs (length xs - 1) ≡ Some c.in-Some-last.number) c.as_slice.ensures (sym c.last.ensures.value ∙ (sym c.copied-last.ensures ∙ c.in-Some-last.is)) in
     subst (λ (x : Run). LeadsTo c.args.program.now c.args.places.now k x c.args.worker m) (sym c.set_hand-then-lose_child.ensures)
-    (subst (λ (x : Activation). LeadsTo c.args.program.now c.args.places.now k (record k { cactus = with_frame c.remove-child.new.self c.in-Some-above.parent x; instructions = k.instructions + 1; hands = with_item k.hands c.args.worker (Some c.in-Some-above.parent) }) c.args.worker m) (sym c.run_by.ensures)
-    (goes_on c.args.program.now c.args.places.now k c.args.slot node stands m shown c.args.region it.0 it.1 c.args.worker c.requires.hand safe (search rules) c.remove-child.new.self c.remove-child.ensures.rest shrinks c.in-Some-above.parent c.in-Some-above.is
+    (subst (λ (x : Activation). LeadsTo c.args.program.now c.args.places.now k (record k { cactus = with_frame c.discard.new.self c.in-Some-above.parent x; instructions = k.instructions + 1; hands = with_item k.hands c.args.worker (Some c.in-Some-above.parent) }) c.args.worker m) (sym c.run_by.ensures)
+    (goes_on c.args.program.now c.args.places.now k c.args.slot node stands m shown c.args.region it.0 it.1 c.args.worker c.requires.hand safe (search rules) c.discard.new.self c.discard.ensures.rest shrinks c.in-Some-above.parent c.in-Some-above.is
     c.in-Some-frame_mut.activation.now c.lose_child.new.self found c.in-Some-last.number last c.lose_child.result
     (record { only = c.lose_child.ensures.only; as_many = c.lose_child.ensures.as_many; counted = c.lose_child.ensures.counted; resumed = c.lose_child.ensures.resumed }) c.if-lose_child.true))
 
-pub returns-clause-steps : goal.returns-clause-steps
-returns-clause-steps c = λ m shown safe.
+pub returns-else-lose_child-clause-steps : goal.returns-else-lose_child-clause-steps
+returns-else-lose_child-clause-steps c = λ m shown safe.
     let k = c.args.self.now in
     let node = c.in-Some.node.now in
     let stands : node_at k.cactus c.args.slot ≡ Some node = sym c.node.ensures ∙ ap option_copied c.in-Some.is in
     let it = c.requires.item node stands in
-    let same : c.remove-child.result ≡ node = some_same c.remove-child.result node (sym c.remove-child.ensures.value ∙ stands) in
-    let shrinks : ShrinksMap k.cactus c.remove-child.new.self c.args.slot node = subst (λ (x : Node Activation). ShrinksMap k.cactus c.remove-child.new.self c.args.slot x) same c.remove-child.ensures.map in
+    let shrinks : ShrinksMap k.cactus c.discard.new.self c.args.slot node = c.discard.ensures.map node stands in
     let found = sym c.frame_mut.ensures.value ∙ ap option_copied_mut c.in-Some-frame_mut.is in
     let last = subst (λ (xs : List ℕ). slice_get xs (length xs - 1) ≡ Some c.in-Some-last.number) c.as_slice.ensures (sym c.last.ensures.value ∙ (sym c.copied-last.ensures ∙ c.in-Some-last.is)) in
     subst (λ (x : Run). LeadsTo c.args.program.now c.args.places.now k x c.args.worker m) (sym c.set_hand-else-lose_child.ensures)
-    (stops c.args.program.now c.args.places.now k c.args.slot node stands m shown c.args.region it.0 it.1 c.args.worker c.requires.hand safe (search rules) c.remove-child.new.self c.remove-child.ensures.rest shrinks c.in-Some-above.parent c.in-Some-above.is
+    (stops c.args.program.now c.args.places.now k c.args.slot node stands m shown c.args.region it.0 it.1 c.args.worker c.requires.hand safe (search rules) c.discard.new.self c.discard.ensures.rest shrinks c.in-Some-above.parent c.in-Some-above.is
     c.in-Some-frame_mut.activation.now c.lose_child.new.self found c.in-Some-last.number last c.lose_child.result
     (record { only = c.lose_child.ensures.only; as_many = c.lose_child.ensures.as_many; counted = c.lose_child.ensures.counted; resumed = c.lose_child.ensures.resumed }) c.if-lose_child.false)
 
@@ -152,7 +142,7 @@ returns-in_default-above-clause-stalls c = λ m shown safe.
     let node = c.in-Some.node.now in
     let stands : node_at k.cactus c.args.slot ≡ Some node = sym c.node.ensures ∙ ap option_copied c.in-Some.is in
     subst (λ (x : Run). NotesStalls (Step c.args.worker) m k.cactus x.cactus true) (sym c.set_hand.ensures)
-    (last_notes c.args.program.now c.args.places.now k c.args.slot node stands m shown c.args.worker c.requires.hand c.remove-child.new.self c.args.slot c.remove-child.ensures.rest)
+    (last_notes c.args.program.now c.args.places.now k c.args.slot node stands m shown c.args.worker c.requires.hand c.discard.new.self c.args.slot c.discard.ensures.rest)
 
 pub returns-then-lose_child-clause-stalls : goal.returns-then-lose_child-clause-stalls
 returns-then-lose_child-clause-stalls c = λ m shown safe.
@@ -161,19 +151,19 @@ returns-then-lose_child-clause-stalls c = λ m shown safe.
     let stands : node_at k.cactus c.args.slot ≡ Some node = sym c.node.ensures ∙ ap option_copied c.in-Some.is in
     let goes = c.run_by.new.self in
     subst (λ (x : Run). NotesStalls (Step c.args.worker) m k.cactus x.cactus true) (sym c.set_hand-then-lose_child.ensures)
-    (end_notes c.args.program.now c.args.places.now k c.args.slot node stands m shown c.args.worker c.requires.hand c.remove-child.new.self c.args.slot c.remove-child.ensures.rest c.in-Some-above.parent goes
+    (end_notes c.args.program.now c.args.places.now k c.args.slot node stands m shown c.args.worker c.requires.hand c.discard.new.self c.args.slot c.discard.ensures.rest c.in-Some-above.parent goes
     (λ n here last h. run_free goes c.args.worker (ap (λ (x : Activation). x.runner) c.run_by.ensures) last))
 
-pub returns-clause-stalls : goal.returns-clause-stalls
-returns-clause-stalls c = λ m shown safe.
+pub returns-else-lose_child-clause-stalls : goal.returns-else-lose_child-clause-stalls
+returns-else-lose_child-clause-stalls c = λ m shown safe.
     let k = c.args.self.now in
     let node = c.in-Some.node.now in
     let stands : node_at k.cactus c.args.slot ≡ Some node = sym c.node.ensures ∙ ap option_copied c.in-Some.is in
     let lost = c.lose_child.new.self in
-    let found : frame_at c.remove-child.new.self c.in-Some-above.parent ≡ Some c.in-Some-frame_mut.activation.now = sym c.frame_mut.ensures.value ∙ ap option_copied_mut c.in-Some-frame_mut.is in
+    let found : frame_at c.discard.new.self c.in-Some-above.parent ≡ Some c.in-Some-frame_mut.activation.now = sym c.frame_mut.ensures.value ∙ ap option_copied_mut c.in-Some-frame_mut.is in
     subst (λ (x : Run). NotesStalls (Step c.args.worker) m k.cactus x.cactus true) (sym c.set_hand-else-lose_child.ensures)
-    (end_notes c.args.program.now c.args.places.now k c.args.slot node stands m shown c.args.worker c.requires.hand c.remove-child.new.self c.args.slot c.remove-child.ensures.rest c.in-Some-above.parent lost
-    (λ n here. let was = frame_found c.remove-child.new.self c.in-Some-above.parent n here c.in-Some-frame_mut.activation.now found in
+    (end_notes c.args.program.now c.args.places.now k c.args.slot node stands m shown c.args.worker c.requires.hand c.discard.new.self c.args.slot c.discard.ensures.rest c.in-Some-above.parent lost
+    (λ n here. let was = frame_found c.discard.new.self c.in-Some-above.parent n here c.in-Some-frame_mut.activation.now found in
     let like = c.lose_child.ensures.only in
     stalled_alike n.frame lost (record {
       runner = ap (λ (x : Activation). x.runner) like ∙ ap (λ (x : Activation). x.runner) (sym was);
@@ -183,14 +173,14 @@ returns-clause-stalls c = λ m shown safe.
 
 pub returns-in_default-above-clause-follows : goal.returns-in_default-above-clause-follows
 returns-in_default-above-clause-follows c =
-    subst (λ (x : Run). Follows c.args.self.now.cactus x.cactus) (sym c.set_hand.ensures) (removed_follows c.args.self.now.cactus c.remove-child.new.self c.args.slot c.remove-child.ensures.rest)
+    subst (λ (x : Run). Follows c.args.self.now.cactus x.cactus) (sym c.set_hand.ensures) (removed_follows c.args.self.now.cactus c.discard.new.self c.args.slot c.discard.ensures.rest)
 
 pub returns-then-lose_child-clause-follows : goal.returns-then-lose_child-clause-follows
 returns-then-lose_child-clause-follows c =
     subst (λ (x : Run). Follows c.args.self.now.cactus x.cactus) (sym c.set_hand-then-lose_child.ensures)
-    (end_follows c.args.self.now.cactus c.remove-child.new.self c.args.slot c.remove-child.ensures.rest c.in-Some-above.parent c.run_by.new.self)
+    (end_follows c.args.self.now.cactus c.discard.new.self c.args.slot c.discard.ensures.rest c.in-Some-above.parent c.run_by.new.self)
 
-pub returns-clause-follows : goal.returns-clause-follows
-returns-clause-follows c =
+pub returns-else-lose_child-clause-follows : goal.returns-else-lose_child-clause-follows
+returns-else-lose_child-clause-follows c =
     subst (λ (x : Run). Follows c.args.self.now.cactus x.cactus) (sym c.set_hand-else-lose_child.ensures)
-    (end_follows c.args.self.now.cactus c.remove-child.new.self c.args.slot c.remove-child.ensures.rest c.in-Some-above.parent c.lose_child.new.self)
+    (end_follows c.args.self.now.cactus c.discard.new.self c.args.slot c.discard.ensures.rest c.in-Some-above.parent c.lose_child.new.self)

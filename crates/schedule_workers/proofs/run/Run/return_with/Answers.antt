@@ -69,8 +69,9 @@ returns-clause-steps c = λ m shown safe.
     let shrinks = c.pop_call-over.ensures.map in
     let number = c.returned-number.result in
     let gives = number_is prog places k c.args.slot over stands m shown c.args.value item w hand safe number c.returned-number.ensures in
-    let end : (x : Run) (o : Option ℕ) → c.match-over.self ≡ x → over.parent ≡ o → LeadsTo prog places k (handed x w o) w m → LeadsTo prog places k c.set_hand.new.self w m =
-    λ x o is parent leads. subst (λ (y : Run). LeadsTo prog places k y w m) (sym (c.set_hand.ensures ∙ (λ i. handed (is i) w (parent i)))) leads in
+    let kept : record c.set_hand.new.self { cactus = c.keep.new.self } ≡ c.set_hand.new.self = λ i. record c.set_hand.new.self { cactus = c.keep.ensures i } in
+    let end : (x : Run) (o : Option ℕ) → c.match-over.self ≡ x → over.parent ≡ o → LeadsTo prog places k (handed x w o) w m → LeadsTo prog places k (record c.set_hand.new.self { cactus = c.keep.new.self }) w m =
+    λ x o is parent leads. subst (λ (y : Run). LeadsTo prog places k y w m) (sym (kept ∙ (c.set_hand.ensures ∙ (λ i. handed (is i) w (parent i))))) leads in
     elim c.match-over.branch [
       | in-Some+in-Some-frame_mut b ↦ end _ _ b.self-is b.in-Some.is
           (goes_on prog places k c.args.slot over stands m shown c.args.value item w hand safe within mid removed shrinks b.in-Some.above b.in-Some.is number b.in-Some-frame_mut.caller.now b.take_result.new.self
@@ -95,8 +96,9 @@ returns-clause-stalls c = λ m shown safe.
     let mid = c.pop_call-over.new.self in
     let removed = c.pop_call-over.ensures.rest in
     let none = last_notes prog places k c.args.slot over stands m shown w c.requires.hand mid c.args.slot removed in
-    let end : (x : Run) → c.match-over.self ≡ x → NotesStalls (Step w) m k.cactus x.cactus true → NotesStalls (Step w) m k.cactus c.set_hand.new.self.cactus true =
-    λ x is h. subst (λ (y : Run). NotesStalls (Step w) m k.cactus y.cactus true) (sym (c.set_hand.ensures ∙ (λ i. handed (is i) w over.parent))) h in
+    let kept : record c.set_hand.new.self { cactus = c.keep.new.self } ≡ c.set_hand.new.self = λ i. record c.set_hand.new.self { cactus = c.keep.ensures i } in
+    let end : (x : Run) → c.match-over.self ≡ x → NotesStalls (Step w) m k.cactus x.cactus true → NotesStalls (Step w) m k.cactus c.keep.new.self true =
+    λ x is h. subst (λ (y : Run). NotesStalls (Step w) m k.cactus y.cactus true) (sym (kept ∙ (c.set_hand.ensures ∙ (λ i. handed (is i) w over.parent)))) h in
     elim c.match-over.branch [
       | in-Some+in-Some-frame_mut b ↦ end _ b.self-is
           (end_notes prog places k c.args.slot over stands m shown w c.requires.hand mid c.args.slot removed b.in-Some.above b.take_result.new.self
@@ -111,8 +113,9 @@ returns-clause-follows c =
     let mid = c.pop_call-over.new.self in
     let removed = c.pop_call-over.ensures.rest in
     let none = removed_follows k.cactus mid c.args.slot removed in
-    let end : (x : Run) → c.match-over.self ≡ x → Follows k.cactus x.cactus → Follows k.cactus c.set_hand.new.self.cactus =
-    λ x is h. subst (λ (y : Run). Follows k.cactus y.cactus) (sym (c.set_hand.ensures ∙ (λ i. handed (is i) c.args.worker c.pop_call-over.result.parent))) h in
+    let kept : record c.set_hand.new.self { cactus = c.keep.new.self } ≡ c.set_hand.new.self = λ i. record c.set_hand.new.self { cactus = c.keep.ensures i } in
+    let end : (x : Run) → c.match-over.self ≡ x → Follows k.cactus x.cactus → Follows k.cactus c.keep.new.self =
+    λ x is h. subst (λ (y : Run). Follows k.cactus y.cactus) (sym (kept ∙ (c.set_hand.ensures ∙ (λ i. handed (is i) c.args.worker c.pop_call-over.result.parent)))) h in
     elim c.match-over.branch [
       | in-Some+in-Some-frame_mut b ↦ end _ b.self-is (end_follows k.cactus mid c.args.slot removed b.in-Some.above b.take_result.new.self)
       | in_default+then-is_some b ↦ end _ b.self-is none

@@ -2,7 +2,7 @@ use Rattle.std.proofs.Common.{◌≡◌, true, refl, sym, ap, ◌∙◌}
 use Rattle.std.specs.Option.{option_copied}
 use Rattle.schedule_workers.proofs.Lengths.{not_there}
 use Rattle.schedule_core.proofs.TasksShown.{low_lives}
-use Rattle.schedule_core.proofs.machine.Machine.ready_spot.Goals as goal
+use Rattle.schedule_core.proofs.machine.Machine.ready_ticket.Goals as goal
 
 pub returns-in_err-top-clause-none : goal.returns-in_err-top-clause-none
 returns-in_err-top-clause-none c tree = rw c.from_residual.ensures (λ ready. rw (sym c.node.ensures ∙ ap option_copied c.in_err-top.was) at ready)
