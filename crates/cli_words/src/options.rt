@@ -8,7 +8,7 @@ use crate::request::{
     Telling, Verb, WordsFault,
 };
 use clap::ArgMatches;
-use refusal::rule_text;
+use rule_words::is_rule;
 use std::alloc::{AllocError, Global};
 
 /// The words and options of a command as they are read: what is wrong first is kept, and all else is read as if it were not given.
@@ -237,14 +237,10 @@ impl<'m, 'a> Options<'m, 'a> {
             return None;
         }
         let number = word.parse::<u16>().unwrap_or(0);
-        let fault = match rule_text(self.alloc, number) {
-            Ok(Some(_)) => return Some(number),
-            Ok(None) => fault_with(format!(in self.alloc;
-                "error: no rule has the number {word}\n"
-            )),
-            Err(_) => WordsFault::OutOfMemory,
-        };
-        self.refuse(fault);
+        if is_rule(number) {
+            return Some(number);
+        }
+        self.refuse(fault_with(format!(in self.alloc; "error: no rule has the number {word}\n")));
         None
     }
 

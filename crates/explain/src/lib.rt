@@ -31,5 +31,4 @@ mod zone_text;
 pub use explain_facts::{Finding, line_at};
 pub use explaining::explain;
 pub use printing::told;
-pub use refusal::rule_text;
 pub use report::Explanation;

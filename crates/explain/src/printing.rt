@@ -3,28 +3,42 @@
 use crate::report::Explanation;
 use explain_facts::{Finding, line_at};
 use lists::{OutOfMemory, TextBuffer};
-use refusal::{push_heads, push_meanings, push_mends};
-use std::alloc::Global;
+use rule_words::{Rule, rule_of};
+use std::alloc::{AllocError, Global};
 
 /// How many faults others are compared with, to tell alike ones as one.
 const MOST_COMPARED: usize = 64;
 
-/// What is told of a fault: what it means that its line breaks the rule, of the rule's causes only the one that it is where that is known, and after the
-/// notes how to mend it.
-fn reasons_of(alloc: Global, text: &str, finding: &Finding) -> Result<String, OutOfMemory> {
+/// What a rule means, of its causes only the one that it is where that is known.
+fn push_meaning(out: &mut TextBuffer, number: u16, rule: &Rule, cause: Option<&str>) {
+    match cause {
+        Some(cause) => {
+            let head = rule.head();
+            writeln!(out, "  {number}: {head}");
+            writeln!(out, "  here: {cause}");
+        }
+        None => {
+            let means = rule.means;
+            writeln!(out, "  {number}: {means}");
+        }
+    }
+}
+
+/// What is told of a fault: what it means that its line breaks the rule, and after the notes how to mend it.
+fn reasons_of(alloc: Global, text: &str, finding: &Finding) -> Result<String, AllocError> {
     let number = finding.number;
     let broken = line_at(text, finding.line).unwrap_or("").trim();
-    let mut reasons = String::new(alloc);
-    match finding.cause {
-        Some(cause) => {
-            push_heads(&mut reasons, number, broken)?;
-            writeln!(reasons, "  here: {cause}")?;
-        }
-        None => push_meanings(&mut reasons, number, broken)?,
+    let rule = rule_of(number, broken);
+    let mut reasons = TextBuffer::new(alloc);
+    if let Some(rule) = rule {
+        push_meaning(&mut reasons, number, rule, finding.cause);
     }
-    reasons.push_str(finding.notes.as_str())?;
-    push_mends(&mut reasons, number, broken)?;
-    Ok(reasons)
+    reasons.push_str(finding.notes.as_str());
+    if let Some(rule) = rule {
+        let mend = rule.mend;
+        writeln!(reasons, "  mend: {mend}");
+    }
+    reasons.finish()
 }
 
 /// A fault with what is told of it, and the lines of later ones of its rule of which the same is told.

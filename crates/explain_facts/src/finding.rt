@@ -16,6 +16,13 @@ pub struct Finding {
     pub notes: String,
 }
 
+impl Finding {
+    /// Whether it is of this rule and this line.
+    pub(crate) fn is_of(&self, number: u16, line: u32) -> bool {
+        self.number == number && self.line == line
+    }
+}
+
 /// A module's text, and what its names are hashed with.
 #[derive(Clone, Copy)]
 pub struct Source<'a> {
@@ -26,7 +33,7 @@ pub struct Source<'a> {
 /// Adds a fault, or what there is to say of it to the last one, if that is the same. Both together follow from an earlier one only if each does.
 pub(crate) fn push_found(findings: &mut Vec<Finding>, found: Finding) -> Result<(), OutOfMemory> {
     if let Some(last) = findings.last_mut() {
-        if last.number == found.number && last.line == found.line {
+        if last.is_of(found.number, found.line) {
             last.notes.push_str(found.notes.as_str())?;
             last.follows = last.follows && found.follows;
             return Ok(());

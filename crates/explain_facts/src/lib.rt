@@ -4,7 +4,6 @@
 #![tactic(auto)]
 
 mod budgets;
-mod choices;
 mod compare;
 mod cost;
 mod finding;
@@ -15,6 +14,7 @@ mod lines;
 mod means;
 mod missing;
 mod missing_budget;
+mod number;
 mod rounds;
 mod scene;
 mod silent;
@@ -26,13 +26,13 @@ mod unknown;
 mod unmet;
 
 pub use budgets::push_budgets;
-pub use choices::number_findings;
 pub use cost::{cost_findings, told_cost_findings};
 pub use finding::{Finding, Source};
 pub use gap::{coefficient, is_against, raised, shortfall};
 pub use known::{Known, fact_lines, lack_of};
 pub use lines::{Put, line_at, with_line};
 pub use means::Means;
+pub use number::number_findings;
 pub use scene::Scene;
 pub use spelling::{plural, push_form};
 pub use trial::{Matched, match_text, taken};

@@ -17,7 +17,8 @@ use Rattle.ir_annotation.specs.Bounds.{is_no_sign}
 use Rattle.ir_annotation.specs.Canonical.{IsTerm}
 use Rattle.ir_annotation.specs.Limits.{within, past_limit, up_to}
 use Rattle.ir_lex.specs.Spelling.{begins_name, continues_name, is_name}
-use Rattle.ir_annotation.specs.Words.{is_numeral, small_value, number_of, name_of}
+use Rattle.ir_lex.specs.Numerals.{is_numeral, small_value}
+use Rattle.ir_annotation.specs.Words.{number_of, name_of}
 use Rattle.ir_annotation.specs.Forms.{SignedText, Cut, as_signed, cut_of, signed_texts, signed, is_no_star}
 use Rattle.ir_annotation.specs.Spelling.{sign_text, factor_text, term_text, constant_text, terms_text}
 use Rattle.ir_annotation.proofs.Adding.{plain_here}

@@ -1,8 +1,8 @@
 pub mod Adding
 pub mod Again
 pub mod AgainTerms
-pub mod Digits
 pub mod LinesAgain
 pub mod LinesRead
+mod Names
 pub mod Ordered
 mod Written

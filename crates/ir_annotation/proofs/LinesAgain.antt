@@ -20,7 +20,8 @@ use Rattle.ir_annotation.specs.declared.meaning.Annotation.{Annotation}
 use Rattle.ir_annotation.specs.declared.meaning.Annotation.TheVariants as annotation
 use Rattle.ir_annotation.specs.Limits.{within, past_limit, up_to}
 use Rattle.ir_annotation.specs.Reading.{made}
-use Rattle.ir_annotation.specs.Words.{small_value, number_of, name_of, register_of, object_of, relation_of, mode_of}
+use Rattle.ir_lex.specs.Numerals.{small_value}
+use Rattle.ir_annotation.specs.Words.{number_of, name_of, register_of, object_of, relation_of, mode_of}
 use Rattle.ir_annotation.specs.Spelling.{form_text, relation_text, mode_text, object_text}
 use Rattle.ir_annotation.specs.Lines.{inequality_of, zone_of, measure_of, budget_from_words, left_of, moded_zone_of, pending_of, as_line, annotation_behind, annotation_of}
 use Rattle.ir_annotation.specs.Annotations.{read_as, IsShortName, address_name, IsInequality, IsZone, IsPending, IsMeasure, IsBudget, IsLeft, IsKeptAnnotation, inequality_words, zone_words, moded_zone_words, annotation_words, inequality_on, zone_on, pending_on, measure_on, budget_on, left_on, annotation_on}

@@ -23,7 +23,8 @@ use Rattle.ir_annotation.specs.declared.meaning.Annotation.TheVariants as annota
 use Rattle.ir_annotation.specs.declared.meaning.AnnotationLine.{AnnotationLine}
 use Rattle.ir_annotation.specs.Limits.{within, past_limit, up_to}
 use Rattle.ir_annotation.specs.Reading.{◌>>=◌, made}
-use Rattle.ir_annotation.specs.Words.{is_numeral, small_value, number_of, name_of, register_of, object_of, relation_of, mode_of}
+use Rattle.ir_lex.specs.Numerals.{is_numeral, small_value}
+use Rattle.ir_annotation.specs.Words.{number_of, name_of, register_of, object_of, relation_of, mode_of}
 use Rattle.ir_annotation.specs.Keywords.{keyword_of}
 use Rattle.ir_annotation.specs.Forms.{form_of}
 use Rattle.ir_annotation.specs.Lines.{inequality_of, zone_of, measure_of, budget_from_words, left_of, moded_zone_of, pending_of, as_line, annotation_behind, behind_keyword, annotation_of}

@@ -1,28 +1,19 @@
 -- The words of an annotation but forms.
-use Rattle.std.specs.Prelude.{ℕ, Bool, false, ◌&&◌, ◌||◌, ◌==◌, nat_le, nat_lt, ◌^◌, List, [], ◌∷◌, length, codes}
-use Rattle.std.specs.Prelude.{Option, Some, None, Result, Ok}
-use Rattle.std.specs.Prelude.{Err, if◌then◌else◌}
+use Rattle.std.specs.Prelude.{ℕ, ◌==◌, nat_le, List, [], ◌∷◌, length, codes, Result, Ok, Err, if◌then◌else◌}
 use Rattle.std.specs.Str.{bytes_eq}
-use Rattle.std.specs.Str.Parse.{digits_value}
 use Rattle.syntax.specs.declared.annotation.Relation.{Relation}
 use Rattle.syntax.specs.declared.annotation.Relation.TheVariants.{AtMost, AtLeast}
 use Rattle.syntax.specs.declared.instruction.Address.{Address}
 use Rattle.syntax.specs.declared.instruction.Address.TheVariants as address
 use Rattle.syntax.specs.declared.operator.Mode.{Mode}
 use Rattle.syntax.specs.declared.operator.Mode.TheVariants.{Reads, Writes, Adds}
-use Rattle.ir_lex.specs.Spelling.{is_name, is_positive}
+use Rattle.ir_lex.specs.Numerals.{is_numeral, small_value}
+use Rattle.ir_lex.specs.Spelling.{is_name}
 use Rattle.ir_annotation.specs.declared.limits.Limited.{Limited}
 use Rattle.ir_annotation.specs.Reading.{◌>>=◌}
 use Rattle.ir_annotation.specs.Limits.{limited, up_to}
 
--- a number without sign
-abbrev pub is_numeral : List ℕ → Bool
-is_numeral [] = false
-is_numeral (b ∷ bs) = (b == 48 && length bs == 0) || is_positive (b ∷ bs)
-
-abbrev pub small_value : List ℕ → Option ℕ
-small_value digits = if nat_lt (digits_value 10 digits) (2 ^ 64) then Some (digits_value 10 digits) else None
-
+-- a number without sign, with its limit
 unfoldable pub number_of : ℕ → List ℕ → Result (Limited ℕ) ℕ
 number_of most word = if is_numeral word then Ok (up_to most (small_value word)) else Err 103
 

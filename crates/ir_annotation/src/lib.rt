@@ -23,4 +23,3 @@ pub use spelling::{
     push_budget, push_foot, push_form, push_inequality, push_left, push_measure, push_pending,
     push_zone, sign_text,
 };
-pub use words::{is_numeral, small_value};

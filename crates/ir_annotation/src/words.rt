@@ -1,11 +1,11 @@
 //! The words of an annotation but forms.
 
-ghost use Rattle.std.specs.Prelude.{◌≡◌, ◌≤◌, true, IfOk};
+ghost use Rattle.std.specs.Prelude.{◌≡◌, ◌≤◌, IfOk};
 ghost use Rattle.ir_annotation.specs.Answers.{Gives};
-ghost use Rattle.ir_annotation.specs.Words.{is_numeral, small_value, number_of, name_of, register_of, object_of, relation_of, mode_of};
+ghost use Rattle.ir_annotation.specs.Words.{number_of, name_of, register_of, object_of, relation_of, mode_of};
 
 use crate::limits::{Limited, NAME_MOST, up_to};
-use ir_lex::{is_name, is_positive, is_text};
+use ir_lex::{is_name, is_numeral, is_text, small_value};
 use lists::Name;
 use refusal::{Refused, rule};
 use std::alloc::Global;
@@ -18,30 +18,6 @@ pub fn unexpected(line: u32) -> Refused
     Refused::Fault {
         number: rule::MISPLACED_WORD,
         line,
-    }
-}
-
-/// Whether these are the digits of a number without leading zeros.
-pub fn is_numeral(bytes: &[u8]) -> bool
-    ensures { result ≡ is_numeral bytes.now }
-{
-    match bytes {
-        [] => false,
-        [first, rest @ ..] => (*first == b'0' && rest.is_empty()) || is_positive(bytes),
-    }
-}
-
-/// The value of digits, where it is below 2^64.
-pub fn small_value(digits: &[u8]) -> Option<u64>
-    requires { is_numeral digits.now ≡ true }
-    ensures { result ≡ small_value digits.now }
-{
-    match str::from_utf8(digits) {
-        Err(_) => None,
-        Ok(text) => match text.parse::<u64>() {
-            Err(_) => None,
-            Ok(value) => Some(value),
-        },
     }
 }
 

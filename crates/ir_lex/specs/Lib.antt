@@ -4,5 +4,6 @@ pub mod Lexemes
 pub mod Faults
 pub mod Scanning
 pub mod Words
+pub mod Numerals
 pub mod Texts
 pub mod Names

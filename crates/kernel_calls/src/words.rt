@@ -11,8 +11,9 @@ use crate::told::{
     NOT_ENDED, NOT_FOUND, OTHER_CELLS, OUT_OF_EFFORT, OUT_OF_FUEL, OUT_OF_MEMORY, REFUSED, STOPPED,
     WORK,
 };
-use explain::{Explanation, explain, rule_text, told};
+use explain::{Explanation, explain, told};
 use lists::OutOfMemory;
+use rule_words::rule_text;
 use std::alloc::Global;
 use std::hash::RandomState;
 

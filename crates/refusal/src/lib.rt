@@ -1,12 +1,10 @@
 //! Why a phase refuses a module: a rule that it breaks and the line, or want of memory; and which rule is named where several
-//! are broken. Every phase answers a [`Refused`], under a name of its own. `rule` has the numbers of the rules, `rules` what they say in words.
+//! are broken. Every phase answers a [`Refused`], under a name of its own. `rule` has the numbers of the rules.
 #![tactic(auto)]
 
 mod broken;
 mod refused;
 pub mod rule;
-mod rules;
 
 pub use broken::{Broken, lower};
 pub use refused::Refused;
-pub use rules::{push_heads, push_meanings, push_mends, rule_text};

@@ -1,4 +1,4 @@
-//! The numbers of the rules, in the order of the phases that judge by them. `rules` says of each what it means and how it is mended.
+//! The numbers of the rules, in the order of the phases that judge by them.
 
 // The text.
 pub const NOT_UTF8: u16 = 101;

@@ -4,7 +4,7 @@ use Rattle.std.specs.Char.{is_ascii_digit}
 use Rattle.std.specs.Str.{all_ascii_digits}
 use Rattle.std.proofs.lemmas.Bool.Decides.{nat_tests}
 use Rattle.std.proofs.lemmas.Bool.{and_parts}
-use Rattle.ir_annotation.proofs.Digits.{numeral_digits}
+use Rattle.ir_lex.proofs.Numerals.{numeral_digits}
 use Rattle.schedule_text.specs.ScheduleText.{IsNumeral}
 use Rattle.schedule_text.proofs.Cuts.{lacks}
 

@@ -11,9 +11,9 @@ use Rattle.std.proofs.lemmas.List.{length-replicate, length-drop}
 use Rattle.std.proofs.Math.Seq.{drop-append_seam}
 use Rattle.frame.specs.declared.event.Event.{Event}
 use Rattle.frame.specs.declared.event.Event.TheVariants.{Step, Steal}
-use Rattle.ir_annotation.specs.Words.{is_numeral}
+use Rattle.ir_lex.specs.Numerals.{is_numeral}
 use Rattle.ir_lex.proofs.Digits.{own}
-use Rattle.ir_annotation.proofs.Digits.{numeral_digits}
+use Rattle.ir_lex.proofs.Numerals.{numeral_digits}
 use Rattle.schedule_text.specs.declared.line.Line.{Line}
 use Rattle.schedule_text.specs.declared.line.Line.TheVariants.{Steps, Steals}
 use Rattle.schedule_text.specs.ScheduleText.{IsNumeral, AreChildren, IsSpelled, IsText, AreApart, IsSchedule, stepper, line_events, events_of, most}

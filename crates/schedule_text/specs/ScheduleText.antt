@@ -2,7 +2,7 @@
 use Rattle.std.specs.Prelude.{◌≡◌, ◌≢◌, ℕ, ◌<◌, ◌≤◌, List, [], ◌∷◌, ◌++◌, length, flat_map, codes, replicate, true, ◌+◌}
 use Rattle.std.specs.Prelude.{◌⊎◌, Option, Some, None}
 use Rattle.std.specs.Str.Parse.{digits_value}
-use Rattle.ir_annotation.specs.Words.{is_numeral}
+use Rattle.ir_lex.specs.Numerals.{is_numeral}
 use Rattle.frame.specs.declared.path.Path.{Path}
 use Rattle.frame.specs.declared.event.Event.{Event}
 use Rattle.frame.specs.declared.event.Event.TheVariants as event

@@ -3,7 +3,7 @@
 ghost use Rattle.std.specs.Prelude.{◌≡◌, ◌<◌, ◌≤◌, ◌^◌, ℕ, min, IfSome, IfNone};
 ghost use Rattle.schedule_text.specs.ScheduleText.{IsNumeral};
 
-use ir_annotation::{is_numeral, small_value};
+use ir_lex::{is_numeral, small_value};
 
 /// The number that a word spells; the greatest `u64` stands for each number above it.
 pub fn number_of(word: &[u8]) -> Option<u64>

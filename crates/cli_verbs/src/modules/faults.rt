@@ -2,12 +2,19 @@
 
 use cli_words::{Beside, Question};
 use explain::line_at;
-use lists::OutOfMemory;
-use refusal::push_heads;
+use rule_words::rule_of;
 
 /// The text, where it is UTF-8.
 pub(crate) fn utf8_of(text: &[u8]) -> &str {
     str::from_utf8(text).unwrap_or("")
+}
+
+/// What the rule of this number means that a line breaks, without its causes.
+pub(crate) fn head_of(number: u16, broken: &str) -> &'static str {
+    match rule_of(number, broken) {
+        Some(rule) => rule.head(),
+        None => "",
+    }
 }
 
 /// Says on which line of the file a rule is broken, and what the rule means. Where lines are put in, the text has the line at another place.
@@ -18,13 +25,10 @@ pub(crate) fn note_fault(
     number: u16,
     line: u32,
     beside: &mut Beside,
-) -> Result<(), OutOfMemory> {
+) {
     let broken = line_at(utf8_of(text), line).unwrap_or("").trim();
-    let mut heads = String::new(question.alloc);
-    push_heads(&mut heads, number, broken)?;
+    let head = head_of(number, broken);
     let file = question.request.file.as_str();
     let error = beside.error_word();
-    let heads = heads.as_str().trim();
-    writeln!(beside, "{file}:{own_line}: {error} rule {heads}");
-    Ok(())
+    writeln!(beside, "{file}:{own_line}: {error} rule {number}: {head}");
 }

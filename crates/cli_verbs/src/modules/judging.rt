@@ -74,7 +74,7 @@ fn refused(
     };
     let request = question.request;
     if let Verb::Verify = request.verb {
-        note_fault(question, line, text, number, line, beside)?;
+        note_fault(question, line, text, number, line, beside);
     }
     if request.is_json {
         let made = refusal_json(question.alloc, text, number, line)?;

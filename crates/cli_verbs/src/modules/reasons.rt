@@ -7,8 +7,9 @@ use crate::modules::json::{faults_json, remarks_json};
 use crate::modules::own_lines::with_own_lines;
 use annotate::NewLines;
 use cli_words::{Beside, Question, Status};
-use explain::{Explanation, explain, rule_text, told};
+use explain::{Explanation, explain, told};
 use lists::OutOfMemory;
+use rule_words::rule_text;
 use std::alloc::Global;
 use verifier::{Effort, Refused};
 
@@ -46,7 +47,7 @@ fn explained(
         Explanation::Accepted { .. } => Status::Done,
         Explanation::Refused { first, .. } => {
             let own_line = new.own_line(first.line);
-            note_fault(question, own_line, text, first.number, first.line, beside)?;
+            note_fault(question, own_line, text, first.number, first.line, beside);
             Status::Refused
         }
         Explanation::Undecided => return Err(Unanswered::Undecided),

@@ -4,7 +4,7 @@ use crate::modules::json::fault::push_broken;
 use crate::modules::json::list::{push_member, push_separator, push_text};
 use explain::{Finding, line_at};
 use lists::{OutOfMemory, TextBuffer};
-use refusal::push_mends;
+use rule_words::rule_of;
 use std::alloc::{AllocError, Global};
 
 /// What a line of a fault's notes begins with: what was to be shown, what is known, a line that would mend it. Each has the list that the line belongs to.
@@ -40,12 +40,16 @@ fn push_notes(alloc: Global, out: &mut TextBuffer, notes: &str) {
     }
 }
 
-/// The notes of a fault, with the mends of its rule behind its own.
-fn notes_of(alloc: Global, text: &str, finding: &Finding) -> Result<String, OutOfMemory> {
+/// The notes of a fault, with how its rule is mended behind them.
+fn notes_of(alloc: Global, text: &str, finding: &Finding) -> Result<String, AllocError> {
     let broken = line_at(text, finding.line).unwrap_or("").trim();
-    let mut notes = finding.notes.as_str().to_string(alloc)?;
-    push_mends(&mut notes, finding.number, broken)?;
-    Ok(notes)
+    let mut notes = TextBuffer::new(alloc);
+    notes.push_str(finding.notes.as_str());
+    if let Some(rule) = rule_of(finding.number, broken) {
+        let mend = rule.mend;
+        writeln!(notes, "  mend: {mend}");
+    }
+    notes.finish()
 }
 
 /// A fault.
@@ -54,10 +58,10 @@ fn push_fault(
     out: &mut TextBuffer,
     text: &str,
     finding: &Finding,
-) -> Result<(), OutOfMemory> {
+) -> Result<(), AllocError> {
     push_separator(out);
     out.push('{');
-    push_broken(alloc, out, text, finding.number, finding.line)?;
+    push_broken(alloc, out, text, finding.number, finding.line);
     if let Some(cause) = finding.cause {
         push_member(alloc, out, "cause", cause);
     }

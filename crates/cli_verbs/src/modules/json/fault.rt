@@ -1,10 +1,9 @@
 //! A broken rule.
 
-use crate::modules::faults::utf8_of;
+use crate::modules::faults::{head_of, utf8_of};
 use crate::modules::json::list::push_member;
 use explain::line_at;
 use lists::{OutOfMemory, TextBuffer};
-use refusal::push_heads;
 use std::alloc::Global;
 
 /// A line without its comment; an annotation is none.
@@ -29,24 +28,10 @@ fn push_place(alloc: Global, out: &mut TextBuffer, number: u16, line: u32, broke
 }
 
 /// Where a rule is broken, and what it means, in words, without its causes.
-pub(crate) fn push_broken(
-    alloc: Global,
-    out: &mut TextBuffer,
-    text: &str,
-    number: u16,
-    line: u32,
-) -> Result<(), OutOfMemory> {
+pub(crate) fn push_broken(alloc: Global, out: &mut TextBuffer, text: &str, number: u16, line: u32) {
     let broken = line_at(text, line).unwrap_or("");
     push_place(alloc, out, number, line, broken);
-    let mut heads = String::new(alloc);
-    push_heads(&mut heads, number, broken.trim())?;
-    let head = heads.as_str().trim();
-    let words = match head.split_once(": ") {
-        Some((_number, words)) => words,
-        None => head,
-    };
-    push_member(alloc, out, "words", words);
-    Ok(())
+    push_member(alloc, out, "words", head_of(number, broken.trim()));
 }
 
 /// The verdict on a module that is refused.
@@ -58,7 +43,7 @@ pub(crate) fn refusal_json(
 ) -> Result<String, OutOfMemory> {
     let mut out = TextBuffer::new(alloc);
     out.push_str("{\"verdict\":\"refused\",");
-    push_broken(alloc, &mut out, utf8_of(text), number, line)?;
+    push_broken(alloc, &mut out, utf8_of(text), number, line);
     out.push_str("}\n");
     Ok(out.finish()?)
 }

@@ -1,5 +1,5 @@
 use Rattle.std.proofs.Common.{rules}
-use Rattle.ir_annotation.proofs.Digits.{name_utf8}
+use Rattle.ir_annotation.proofs.Names.{name_utf8}
 use Rattle.ir_annotation.proofs.words.read_name.Goals as goal
 
 pub returns-in-Err : goal.returns-in-Err

@@ -1,5 +1,5 @@
-use Rattle.ir_annotation.proofs.Digits.{numeral_utf8, small_parsed, large_parsed}
-use Rattle.ir_annotation.proofs.words.small_value.Goals as goal
+use Rattle.ir_lex.proofs.Numerals.{numeral_utf8, small_parsed, large_parsed}
+use Rattle.ir_lex.proofs.numeral.small_value.Goals as goal
 
 pub returns-in-Err : goal.returns-in-Err
 returns-in-Err c = absurd (c.in-Err.ensures.cases.0 (numeral_utf8 c.args.digits.now c.requires))

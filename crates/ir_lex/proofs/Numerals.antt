@@ -1,4 +1,4 @@
--- A numeral is digits, a name is ASCII.
+-- A numeral is digits, and what parsing gives of it is its value.
 use Rattle.std.proofs.Common.{◌≡◌, ℕ, ◌^◌, ◌<◌, inl, inr, true, false, eqb, ltb, List, [], ◌∷◌, length, Some, None, Ok, Err, refl, sym, subst, ap, ◌∙◌, arith}
 use Rattle.std.specs.Prelude.{◌&&◌, nat_le, IsUtf8}
 use Rattle.std.specs.Char.{is_ascii_digit}
@@ -10,10 +10,8 @@ use Rattle.std.proofs.lemmas.Bool.Decides.{nat_tests}
 use Rattle.std.proofs.lemmas.Str.{IsUtf8-from_ascii}
 use Rattle.std.proofs.lemmas.Str.Parse.{parse_digits}
 use Rattle.std.proofs.lemmas.Fmt.{IsAscii-from_digits}
-use Rattle.ir_lex.specs.Spelling.{is_name}
+use Rattle.ir_lex.specs.Numerals.{is_numeral, small_value}
 use Rattle.ir_lex.proofs.Digits.{own, digits}
-use Rattle.ir_lex.proofs.Plain.{name_printed, printed_ascii}
-use Rattle.ir_annotation.specs.Words.{is_numeral, small_value}
 
 pub numeral_digits : (word : List ℕ) → is_numeral word ≡ true → all_ascii_digits word ≡ true
 numeral_digits [] h = absurd cc
@@ -54,8 +52,3 @@ large_parsed t word same h parsed =
     let none : ltb (digits_value 10 word) (2 ^ 64) ≡ false =
     false_from_ne_true (ltb (digits_value 10 word) (2 ^ 64)) (λ (l : ltb (digits_value 10 word) (2 ^ 64) ≡ true). never (ltb-true (digits_value 10 word) (2 ^ 64) l)) in
     rw none refl
-
--- ---- names
-
-pub name_utf8 : (name : List ℕ) → is_name name ≡ true → IsUtf8 name
-name_utf8 name h = IsUtf8-from_ascii name (printed_ascii name (name_printed name h))

@@ -85,14 +85,6 @@ fn push_asked_range(scene: &Scene<'_>, block: &Block, unmet: &Unmet, notes: &mut
     }
 }
 
-/// Whether a fault is at the line of the last finding, and breaks the same rule.
-fn is_of_last(findings: &[Finding], unmet: &Unmet) -> bool {
-    match findings.last() {
-        Some(last) => last.number == unmet.number && last.line == unmet.site.line,
-        None => false,
-    }
-}
-
 /// A text with faults of numbers, and what is told of them.
 #[derive(Clone, Copy)]
 struct Telling<'s, 'a> {
@@ -215,7 +207,10 @@ pub fn number_findings(
         forms: Vec::new(alloc),
     };
     for unmet in &all {
-        let is_more = is_of_last(findings.as_slice(), unmet);
+        let is_more = match findings.last() {
+            Some(last) => last.is_of(unmet.number, unmet.site.line),
+            None => false,
+        };
         let found = telling.finding_of(unmet, is_more, &mut missing);
         if push_found(&mut findings, found).is_err() {
             means.note(Unanswered::OutOfMemory);
