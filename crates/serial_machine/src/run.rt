@@ -12,8 +12,8 @@ ghost use Rattle.serial_machine.specs.SerialPromise.{EndsOrLacksMemory, EndsWith
 
 use crate::decoded::Decoded;
 use crate::places::{places_from, starts};
-use code_tables::{Tables, decode};
-use frame_engine::{Places, most_moves};
+use code_tables::{ProgramCode, decode};
+use frame_engine::most_moves;
 use lists::OutOfMemory;
 use program::Program;
 use std::alloc::Global;
@@ -29,41 +29,45 @@ pub enum Unfinished {
     OutOfFuel { memory: Memory },
 }
 
+/// The instructions that a run does at most, and those that it may do.
+#[derive(Clone, Copy)]
+struct Limits {
+    budget: u64,
+    fuel: u64,
+}
+
 /// The run of arguments that the program takes, over a row of the globals' numbers. Its answer has the memory, with the numbers that the run ends with. None
 /// where it does more instructions than the fuel allows: the memory is as it was then.
 fn run_in_places(
     alloc: Global,
-    program: &Program,
-    places: &Places,
-    tables: &Tables,
+    code: ProgramCode<'_>,
     arguments: &[i64],
     memory: &mut Memory,
-    budget: u64,
-    fuel: u64,
+    limits: Limits,
 ) -> Result<Option<Finished>, OutOfMemory>
-    requires accepted { IsAccepted program.now }
-    requires globals { places.now.globals ≡ starts_from 0 (sizes_of memory.old) }
-    requires allocas { places.now.allocas ≡ map (λ (f : Function). alloca_starts f.allocas) program.now.functions }
-    requires tables { AreTables program.now places.now tables.now }
-    requires taken { unmet_in program.now arguments.now ≡ None }
-    requires cells { HasGlobalCells program.now memory.old }
-    requires budget { budget ≡ budget_of program.now }
-    ensures ends { IfOk result (λ end. IfSome end (EndsWithinBudget program.now arguments.now memory.old)) }
-    ensures within { IfOk result (λ end. IfSome end (λ done. done.instructions ≤ fuel)) }
-    ensures beyond { IfOk result (λ end. IfNone end (TakesMore program.now arguments.now memory.old fuel)) }
+    requires accepted { IsAccepted code.program.now }
+    requires globals { code.places.now.globals ≡ starts_from 0 (sizes_of memory.old) }
+    requires allocas { code.places.now.allocas ≡ map (λ (f : Function). alloca_starts f.allocas) code.program.now.functions }
+    requires tables { AreTables code.program.now code.places.now code.tables.now }
+    requires taken { unmet_in code.program.now arguments.now ≡ None }
+    requires cells { HasGlobalCells code.program.now memory.old }
+    requires budget { limits.budget ≡ budget_of code.program.now }
+    ensures ends { IfOk result (λ end. IfSome end (EndsWithinBudget code.entry.program.now arguments.now memory.old)) }
+    ensures within { IfOk result (λ end. IfSome end (λ done. done.instructions ≤ limits.fuel)) }
+    ensures beyond { IfOk result (λ end. IfNone end (TakesMore code.entry.program.now arguments.now memory.old limits.fuel)) }
     ensures kept { IfOk result (λ end. IfNone end (memory.new ≡ memory.old)) }
 {
     let row = memory.row()?;
-    let (mut stack, start) = begin(alloc, program, tables, arguments, row)?;
-    let mut moves = vec![in alloc; 0; most_moves(program)]?;
+    let (mut stack, start) = begin(alloc, code.program, code.tables, arguments, row)?;
+    let mut moves = vec![in alloc; 0; most_moves(code.program)]?;
     let ended = run(
-        program,
-        places,
-        tables,
+        code.program,
+        code.places,
+        code.tables,
         &mut stack,
         moves.as_mut_slice(),
         start,
-        fuel.min(budget),
+        limits.fuel.min(limits.budget),
     )?;
     let Some(ended) = ended else {
         return Ok(None);
@@ -84,38 +88,36 @@ fn run_by(
     code: &Decoded,
     arguments: &[i64],
     memory: &mut Memory,
-    budget: u64,
-    fuel: u64,
+    limits: Limits,
 ) -> Result<Option<Finished>, OutOfMemory>
     requires accepted { IsAccepted program.now }
     requires code { IsCodeOf program.now code.now }
     requires taken { unmet_in program.now arguments.now ≡ None }
     requires cells { HasGlobalCells program.now memory.old }
-    requires budget { budget ≡ budget_of program.now }
+    requires budget { limits.budget ≡ budget_of program.now }
     ensures ends { IfOk result (λ end. IfSome end (EndsWithinBudget program.now arguments.now memory.old)) }
-    ensures within { IfOk result (λ end. IfSome end (λ done. done.instructions ≤ fuel)) }
-    ensures beyond { IfOk result (λ end. IfNone end (TakesMore program.now arguments.now memory.old fuel)) }
+    ensures within { IfOk result (λ end. IfSome end (λ done. done.instructions ≤ limits.fuel)) }
+    ensures beyond { IfOk result (λ end. IfNone end (TakesMore program.now arguments.now memory.old limits.fuel)) }
     ensures kept { IfOk result (λ end. IfNone end (memory.new ≡ memory.old)) }
 {
     let sizes = memory.sizes()?;
     let globals = starts(alloc, sizes.as_slice())?;
     if code.has_globals_at(globals.as_slice()) {
-        return run_in_places(
-            alloc,
+        let code = ProgramCode {
             program,
-            &code.places,
-            &code.tables,
-            arguments,
-            memory,
-            budget,
-            fuel,
-        );
+            places: &code.places,
+            tables: &code.tables,
+        };
+        return run_in_places(alloc, code, arguments, memory, limits);
     }
     let places = places_from(alloc, program, globals)?;
     let tables = decode(alloc, program, &places)?;
-    run_in_places(
-        alloc, program, &places, &tables, arguments, memory, budget, fuel,
-    )
+    let code = ProgramCode {
+        program,
+        places: &places,
+        tables: &tables,
+    };
+    run_in_places(alloc, code, arguments, memory, limits)
 }
 
 /// The same as [`serial_run_within`], by the module's code.
@@ -144,9 +146,12 @@ pub fn serial_run_within_by(
             memory,
         }));
     }
-    let budget = verified.budget();
+    let limits = Limits {
+        budget: verified.budget(),
+        fuel,
+    };
     let mut memory = memory;
-    match run_by(alloc, program, code, arguments, &mut memory, budget, fuel) {
+    match run_by(alloc, program, code, arguments, &mut memory, limits) {
         Ok(Some(finished)) => Ok(finished),
         Ok(None) => Err(Unfinished::OutOfFuel { memory }),
         Err(OutOfMemory) => Err(Unfinished::Fault(RunFault::OutOfMemory)),

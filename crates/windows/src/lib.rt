@@ -27,7 +27,7 @@ mod windows;
 pub use law::{borders_stand, borders_walk, segments_walk, slots_stand};
 pub use passing::Passed;
 pub use places::{CodePlace, code_places};
-pub use sites::{CallCodes, call_site, resolve};
+pub use sites::{CallCodes, CallText, call_site, resolve};
 pub use stack::WindowStack;
 pub use starts::function_starts;
 pub use windows::{CallSite, Saved, Windows};

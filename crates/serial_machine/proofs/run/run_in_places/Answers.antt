@@ -17,19 +17,19 @@ use Rattle.serial_machine.proofs.run.run_in_places.Goals as goal
 
 pub begin-requires-clause-room : goal.begin-requires-clause-room
 begin-requires-clause-room c =
-    room c.args.program.now c.requires.accepted c.args.arguments.now c.args.memory.now c.requires.taken c.requires.cells
+    room c.args.code.program.now c.requires.accepted c.args.arguments.now c.args.memory.now c.requires.taken c.requires.cells
 
 pub begin-requires-clause-tables : goal.begin-requires-clause-tables
 begin-requires-clause-tables c =
     let r = c.requires in
-    has_tables c.args.program.now r.accepted c.args.arguments.now c.args.memory.now r.taken r.cells c.args.places.now
-    r.globals r.allocas c.args.tables.now r.tables
+    has_tables c.args.code.program.now r.accepted c.args.arguments.now c.args.memory.now r.taken r.cells c.args.code.places.now
+    r.globals r.allocas c.args.code.tables.now r.tables
 
 pub run-requires : goal.run-requires
 run-requires c =
     let r = c.requires in
-    let program = c.args.program.now in
-    let tables = c.args.tables.now in
+    let program = c.args.code.program.now in
+    let tables = c.args.code.tables.now in
     let arguments = c.args.arguments.now in
     let m = c.args.memory.now in
     let k = c.in_ok-stack.stack in
@@ -41,19 +41,19 @@ run-requires c =
     subst (λ (xs : List ℤ). BeginsRun program tables arguments xs k place) c.in_ok-row.ensures
     c.in_ok-stack.ensures.begins in
     record {
-      safe = goes program r.accepted arguments m r.taken r.cells c.args.places.now r.globals r.allocas tables r.tables
+      safe = goes program r.accepted arguments m r.taken r.cells c.args.code.places.now r.globals r.allocas tables r.tables
           moves enough k place begun;
     }
 
 pub returns-in_default-clause-beyond : goal.returns-in_default-clause-beyond
 returns-in_default-clause-beyond c =
     let r = c.requires in
-    let program = c.args.program.now in
-    let places = c.args.places.now in
-    let tables = c.args.tables.now in
+    let program = c.args.code.program.now in
+    let places = c.args.code.places.now in
+    let tables = c.args.code.tables.now in
     let arguments = c.args.arguments.now in
     let m = c.args.memory.now in
-    let fuel = c.args.fuel in
+    let fuel = c.args.limits.fuel in
     let k = c.in_ok-stack.stack in
     let place = c.in_ok-stack.start in
     let moves = length c.as_mut_slice.result.now in
@@ -72,9 +72,9 @@ returns-in_default-clause-beyond c =
 pub returns-clause-ends : goal.returns-clause-ends
 returns-clause-ends c =
     let r = c.requires in
-    let program = c.args.program.now in
-    let places = c.args.places.now in
-    let tables = c.args.tables.now in
+    let program = c.args.code.program.now in
+    let places = c.args.code.places.now in
+    let tables = c.args.code.tables.now in
     let arguments = c.args.arguments.now in
     let m = c.args.memory.now in
     let k = c.in_ok-stack.stack in
