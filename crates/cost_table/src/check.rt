@@ -8,9 +8,7 @@ ghost use Rattle.cost_table.specs.Rules.{IsCostBroken};
 ghost use Rattle.cost_table.specs.Tables.{IsTable};
 
 use crate::callee::callee_of;
-use crate::judge::{
-    budget_fault, cost_fault, measure_fault, start_fault, step_fault, uncovered_fault,
-};
+use crate::judge::{BlockEnd, budget_fault, cost_fault, measure_fault, start_fault, step_fault};
 use crate::table::{Table, make_table};
 use crate::work::work_of;
 use linear::Fact;
@@ -23,30 +21,6 @@ use ranges::{
 use refusal::{Broken, lower};
 use std::alloc::Global;
 
-/// What is broken at the end of a block.
-fn ending_fault(
-    alloc: Global,
-    functions: &[Function],
-    function: &Function,
-    index: usize,
-    block: &Block,
-    table: &BlockFacts,
-    effort: &Effort,
-) -> Result<Option<Broken>, Unanswered>
-    ensures { IfOk result (IsEarliest
-        (IsEndingUncovered functions.now function.now index block.now table.now.facts (edges_in_table table.now) block.now.ending)) }
-{
-    match &block.ending {
-        Some(ending) => {
-            let work = work_of(functions, index, block);
-            let facts = table.facts.as_slice();
-            let edges = table.edges.as_slice();
-            uncovered_fault(alloc, function, block, work, facts, edges, ending, effort)
-        }
-        None => Ok(None),
-    }
-}
-
 /// Brings the index of what is known up to date where a step calls its own function, which alone asks.
 fn index_for(cursor: &mut FactCursor<'_>, index: usize, step: &Step) -> Result<(), OutOfMemory>
     ensures { cursor.new ≡ cursor.old }
@@ -55,76 +29,6 @@ fn index_for(cursor: &mut FactCursor<'_>, index: usize, step: &Step) -> Result<(
         cursor.index()?;
     }
     Ok(())
-}
-
-/// What is broken at the steps of a block.
-fn steps_fault(
-    alloc: Global,
-    function: &Function,
-    index: usize,
-    block: &Block,
-    table: &BlockFacts,
-    effort: &Effort,
-) -> Result<Option<Broken>, Unanswered>
-    ensures { IfOk result (IsEarliest (AreStepsNotFalling function.now index block.now (facts_in_table table.now))) }
-{
-    let mut named: Option<Broken> = None;
-    let mut cursor = FactCursor::new(alloc, table.facts.as_slice(), effort);
-    let steps = block.steps.as_slice();
-    for (place, step) in steps.iter().enumerate() {
-        cursor.seek(table.count_at(place));
-        index_for(&mut cursor, index, step)?;
-        let known = cursor.known();
-        let broken = step_fault(alloc, function, index, &known, step)?;
-        named = lower(named, broken);
-    }
-    Ok(named)
-}
-
-/// What is broken in a block, with what is known at its start, and what its table says is known behind it.
-fn block_fault(
-    alloc: Global,
-    functions: &[Function],
-    function: &Function,
-    index: usize,
-    block: &Block,
-    start: &[Fact],
-    table: &BlockFacts,
-    effort: &Effort,
-) -> Result<Option<Broken>, Unanswered>
-    ensures { IfOk result (IsEarliest
-        (IsBlockBrokenBy functions.now function.now index block.now start.now (facts_in_table table.now) table.now.facts (edges_in_table table.now))) }
-{
-    let at_start = start_fault(alloc, start, block)?;
-    let at_end = ending_fault(alloc, functions, function, index, block, table, effort)?;
-    let at_steps = steps_fault(alloc, function, index, block, table, effort)?;
-    Ok(lower(at_start, lower(at_end, at_steps)))
-}
-
-/// What is broken in the blocks of a function.
-fn blocks_fault(
-    alloc: Global,
-    functions: &[Function],
-    index: usize,
-    function: &Function,
-    facts: &FunctionFacts,
-    effort: &Effort,
-) -> Result<Option<Broken>, Unanswered>
-    requires { IsFunctionTable functions.now function.now facts.now }
-    ensures { IfOk result (IsEarliest (AreBlocksBroken functions.now index function.now)) }
-{
-    let mut named: Option<Broken> = None;
-    let tables = facts.blocks.as_slice();
-    let blocks = function.blocks.as_slice();
-    for (place, block) in blocks.iter().enumerate() {
-        let start = start_facts(alloc, function, place, block)?;
-        let table = &tables[place];
-        let broken = block_fault(
-            alloc, functions, function, index, block, &start, table, effort,
-        )?;
-        named = lower(named, broken);
-    }
-    Ok(named)
 }
 
 /// What is broken at the entry of a function.
@@ -142,22 +46,116 @@ fn entry_fault(alloc: Global, function: &Function) -> Result<Option<Broken>, Out
     }
 }
 
-/// What is broken in a function.
-fn function_fault(
-    alloc: Global,
-    functions: &[Function],
+/// A function that is judged, among those of its program, and the effort that is left for it.
+#[derive(Clone, Copy)]
+struct JudgedFunction<'a> {
+    functions: &'a [Function],
     index: usize,
-    function: &Function,
-    facts: &FunctionFacts,
-    effort: &Effort,
-) -> Result<Option<Broken>, Unanswered>
-    requires { IsFunctionTable functions.now function.now facts.now }
-    ensures { IfOk result (IsEarliest (IsFunctionBroken functions.now index function.now)) }
-{
-    let in_blocks = blocks_fault(alloc, functions, index, function, facts, effort)?;
-    let at_entry = entry_fault(alloc, function)?;
-    let whole = cost_fault(function);
-    Ok(lower(in_blocks, lower(at_entry, whole)))
+    function: &'a Function,
+    effort: &'a Effort,
+}
+
+impl JudgedFunction<'_> {
+    /// What is broken at the end of a block.
+    fn ending_fault(
+        &self,
+        alloc: Global,
+        block: &Block,
+        table: &BlockFacts,
+    ) -> Result<Option<Broken>, Unanswered>
+        ensures { IfOk result (IsEarliest (IsEndingUncovered self.now.functions.now self.now.function.now self.now.index block.now
+            table.now.facts (edges_in_table table.now) block.now.ending)) }
+    {
+        match &block.ending {
+            Some(ending) => {
+                let end = BlockEnd {
+                    function: self.function,
+                    block,
+                    work: work_of(self.functions, self.index, block),
+                    line: ending.line,
+                };
+                let facts = table.facts.as_slice();
+                let edges = table.edges.as_slice();
+                end.uncovered_fault(alloc, &ending.terminator, facts, edges, self.effort)
+            }
+            None => Ok(None),
+        }
+    }
+
+    /// What is broken at the steps of a block.
+    fn steps_fault(
+        &self,
+        alloc: Global,
+        block: &Block,
+        table: &BlockFacts,
+    ) -> Result<Option<Broken>, Unanswered>
+        ensures { IfOk result (IsEarliest (AreStepsNotFalling self.now.function.now self.now.index block.now (facts_in_table table.now))) }
+    {
+        let mut named: Option<Broken> = None;
+        let mut cursor = FactCursor::new(alloc, table.facts.as_slice(), self.effort);
+        let steps = block.steps.as_slice();
+        for (place, step) in steps.iter().enumerate() {
+            cursor.seek(table.count_at(place));
+            index_for(&mut cursor, self.index, step)?;
+            let known = cursor.known();
+            let broken = step_fault(alloc, self.function, self.index, &known, step)?;
+            named = lower(named, broken);
+        }
+        Ok(named)
+    }
+
+    /// What is broken in a block, with what is known at its start, and what its table says is known behind it.
+    fn block_fault(
+        &self,
+        alloc: Global,
+        block: &Block,
+        start: &[Fact],
+        table: &BlockFacts,
+    ) -> Result<Option<Broken>, Unanswered>
+        ensures { IfOk result (IsEarliest (IsBlockBrokenBy self.now.functions.now self.now.function.now self.now.index block.now start.now
+            (facts_in_table table.now) table.now.facts (edges_in_table table.now))) }
+    {
+        let at_start = start_fault(alloc, start, block)?;
+        let at_end = self.ending_fault(alloc, block, table)?;
+        let at_steps = self.steps_fault(alloc, block, table)?;
+        Ok(lower(at_start, lower(at_end, at_steps)))
+    }
+
+    /// What is broken in the blocks of the function.
+    fn blocks_fault(
+        &self,
+        alloc: Global,
+        facts: &FunctionFacts,
+    ) -> Result<Option<Broken>, Unanswered>
+        requires { IsFunctionTable self.now.functions.now self.now.function.now facts.now }
+        ensures { IfOk result (IsEarliest (AreBlocksBroken self.now.functions.now self.now.index self.now.function.now)) }
+    {
+        let mut named: Option<Broken> = None;
+        let tables = facts.blocks.as_slice();
+        let blocks = self.function.blocks.as_slice();
+        for (place, block) in blocks.iter().enumerate() {
+            let start = start_facts(alloc, self.function, place, block)?;
+            let table = &tables[place];
+            let broken = self.block_fault(alloc, block, &start, table)?;
+            named = lower(named, broken);
+        }
+        Ok(named)
+    }
+
+    /// What is broken in the function.
+    fn function_fault(
+        &self,
+        alloc: Global,
+        facts: &FunctionFacts,
+    ) -> Result<Option<Broken>, Unanswered>
+        requires { IsFunctionTable self.now.functions.now self.now.function.now facts.now }
+        ensures { IfOk result (IsEarliest (IsFunctionBroken self.now.functions.now self.now.index self.now.function.now)) }
+    {
+        let in_blocks = self.blocks_fault(alloc, facts)?;
+        let at_entry = entry_fault(alloc, self.function)?;
+        let whole = cost_fault(self.function);
+        Ok(lower(in_blocks, lower(at_entry, whole)))
+    }
 }
 
 /// What is broken in a program.
@@ -174,8 +172,13 @@ fn program_fault(
     let tables = facts.functions.as_slice();
     let functions = program.functions.as_slice();
     for (index, function) in functions.iter().enumerate() {
-        let table = &tables[index];
-        let broken = function_fault(alloc, functions, index, function, table, effort)?;
+        let judged = JudgedFunction {
+            functions,
+            index,
+            function,
+            effort,
+        };
+        let broken = judged.function_fault(alloc, &tables[index])?;
         named = lower(named, broken);
     }
     Ok(named)

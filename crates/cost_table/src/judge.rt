@@ -13,7 +13,7 @@ use crate::sum::{covers_both, covers_next, covers_work, is_at_least_zero, is_at_
 use crate::work::{Work, whole_cost};
 use linear::{Fact, Form};
 use lists::OutOfMemory;
-use program::{Argument, Block, BlockId, Ending, Function, Instruction, Step, Terminator};
+use program::{Argument, Block, BlockId, Function, Instruction, Step, Terminator};
 use ranges::{EdgeFacts, Effort, FactBranches, Known, Unanswered, argument_moves};
 use refusal::{Broken, lower, rule};
 use std::alloc::Global;
@@ -68,152 +68,143 @@ fn left_instructions<'a>(blocks: &'a [Block], block: BlockId, none: &'a Form) ->
     }
 }
 
-/// What is left of a block does not cover what it does and what is left behind an edge.
-fn edge_fault(
-    alloc: Global,
-    function: &Function,
-    block: &Block,
-    work: Work,
-    line: u32,
-    facts: &mut FactBranches<'_>,
-    edge: &EdgeFacts,
-) -> Result<Option<Broken>, Unanswered>
-    ensures lent { OnOk result (facts.new.0 ≡ facts.old.0) }
-    ensures fault { IfOk result (λ r. (functions : List Function) (f : ℕ) → IsWork functions f block.now work
-        → IsEarliest (IsEdgeUncovered functions function.now f block.now line (with_known facts.old.0 edge.now)) r) }
-{
-    let none = Form::from_constant(alloc, 0);
-    let left = &block.left;
-    let blocks = function.blocks.as_slice();
-    facts.switch_to(alloc, edge.facts.as_slice())?;
-    let known = facts.known();
-    let moves = edge.moves.as_slice();
-    let next = left_calls(blocks, edge.to, &none);
-    let calls = covers_next(alloc, &known, &left.self_calls, work.calls, moves, next)?;
-    let next = left_instructions(blocks, edge.to, &none);
-    let instructions = covers_next(
-        alloc,
-        &known,
-        &left.instructions,
-        work.instructions,
-        moves,
-        next,
-    )?;
-    Ok(fault_unless(calls, instructions, line, rule::LEFT_TOO_SMALL))
+/// The end of a block: what the block does up to there, and the line of its terminator.
+#[derive(Clone, Copy)]
+pub struct BlockEnd<'a> {
+    pub function: &'a Function,
+    pub block: &'a Block,
+    pub work: Work,
+    pub line: u32,
 }
 
-/// What is left of a block does not cover what it does and what is left behind one of its edges, where this is known at its end.
-fn edges_fault(
-    alloc: Global,
-    function: &Function,
-    block: &Block,
-    work: Work,
-    line: u32,
-    known: &[Fact],
-    edges: &[EdgeFacts],
-    effort: &Effort,
-) -> Result<Option<Broken>, Unanswered>
-    ensures { IfOk result (λ r. (functions : List Function) (f : ℕ) → IsWork functions f block.now work
-        → IsEarliest (λ (b : Broken). Any (λ e. IsEdgeUncovered functions function.now f block.now line e b) (all_with_known known.now edges.now)) r) }
-{
-    let mut named: Option<Broken> = None;
-    let mut facts = FactBranches::new(alloc, known, effort);
-    for edge in edges {
-        let broken = edge_fault(alloc, function, block, work, line, &mut facts, edge)?;
-        named = lower(named, broken);
-    }
-    Ok(named)
-}
-
-/// What is left of a block that detaches does not cover what it does and what is left in both its targets.
-fn fork_fault(
-    alloc: Global,
-    function: &Function,
-    block: &Block,
-    work: Work,
-    line: u32,
-    known: &[Fact],
-    body: BlockId,
-    continuation: BlockId,
-) -> Result<Option<Broken>, Unanswered>
-    ensures { IfOk result (λ r. (functions : List Function) (f : ℕ) → IsWork functions f block.now work
-        → IsEarliest (IsForkUncovered functions function.now f block.now line known.now body.0 continuation.0) r) }
-{
-    let none = Form::from_constant(alloc, 0);
-    let left = &block.left;
-    let blocks = function.blocks.as_slice();
-    let child = left_calls(blocks, body, &none);
-    let parent = left_calls(blocks, continuation, &none);
-    let calls = covers_both(alloc, known, &left.self_calls, work.calls, child, parent)?;
-    let child = left_instructions(blocks, body, &none);
-    let parent = left_instructions(blocks, continuation, &none);
-    let instructions = covers_both(
-        alloc,
-        known,
-        &left.instructions,
-        work.instructions,
-        child,
-        parent,
-    )?;
-    Ok(fault_unless(calls, instructions, line, rule::LEFT_TOO_SMALL))
-}
-
-/// What is left of a block at a `ret` or `reattach` does not cover what it does.
-fn end_fault(
-    alloc: Global,
-    block: &Block,
-    work: Work,
-    line: u32,
-    known: &[Fact],
-) -> Result<Option<Broken>, Unanswered>
-    ensures { IfOk result (λ r. (functions : List Function) (f : ℕ) → IsWork functions f block.now work
-        → IsEarliest (IsEndUncovered functions f block.now line known.now) r) }
-{
-    let left = &block.left;
-    let calls = covers_work(alloc, known, &left.self_calls, work.calls)?;
-    let instructions = covers_work(alloc, known, &left.instructions, work.instructions)?;
-    Ok(fault_unless(calls, instructions, line, rule::LEFT_TOO_SMALL))
-}
-
-/// What is left of a block does not cover what it does and what is left where it goes on.
-pub fn uncovered_fault(
-    alloc: Global,
-    function: &Function,
-    block: &Block,
-    work: Work,
-    known: &[Fact],
-    edges: &[EdgeFacts],
-    ending: &Ending,
-    effort: &Effort,
-) -> Result<Option<Broken>, Unanswered>
-    ensures { IfOk result (λ r. (functions : List Function) (f : ℕ) → IsWork functions f block.now work
-        → IsEarliest
-        (IsUncoveredAt functions function.now f block.now ending.now.line known.now (all_with_known known.now edges.now) ending.now.terminator) r) }
-{
-    let line = ending.line;
-    match &ending.terminator {
-        Terminator::Jump { .. }
-        | Terminator::Branch { .. }
-        | Terminator::Switch { .. }
-        | Terminator::Sync { .. } => edges_fault(
-            alloc, function, block, work, line, known, edges, effort,
-        ),
-        Terminator::Detach {
-            body,
-            continuation,
-            ..
-        } => fork_fault(
+impl BlockEnd<'_> {
+    /// What is left of the block does not cover what it does and what is left behind an edge.
+    fn edge_fault(
+        &self,
+        alloc: Global,
+        facts: &mut FactBranches<'_>,
+        edge: &EdgeFacts,
+    ) -> Result<Option<Broken>, Unanswered>
+        ensures lent { OnOk result (facts.new.0 ≡ facts.old.0) }
+        ensures fault { IfOk result (λ r. (functions : List Function) (f : ℕ) → IsWork functions f self.now.block.now self.now.work
+            → IsEarliest (IsEdgeUncovered functions self.now.function.now f self.now.block.now self.now.line (with_known facts.old.0 edge.now)) r) }
+    {
+        let none = Form::from_constant(alloc, 0);
+        let left = &self.block.left;
+        let blocks = self.function.blocks.as_slice();
+        facts.switch_to(alloc, edge.facts.as_slice())?;
+        let known = facts.known();
+        let moves = edge.moves.as_slice();
+        let next = left_calls(blocks, edge.to, &none);
+        let calls = covers_next(
             alloc,
-            function,
-            block,
-            work,
-            line,
+            &known,
+            &left.self_calls,
+            self.work.calls,
+            moves,
+            next,
+        )?;
+        let next = left_instructions(blocks, edge.to, &none);
+        let instructions = covers_next(
+            alloc,
+            &known,
+            &left.instructions,
+            self.work.instructions,
+            moves,
+            next,
+        )?;
+        Ok(fault_unless(calls, instructions, self.line, rule::LEFT_TOO_SMALL))
+    }
+
+    /// What is left of the block does not cover what it does and what is left behind one of its edges, where this is known at its end.
+    fn edges_fault(
+        &self,
+        alloc: Global,
+        known: &[Fact],
+        edges: &[EdgeFacts],
+        effort: &Effort,
+    ) -> Result<Option<Broken>, Unanswered>
+        ensures { IfOk result (λ r. (functions : List Function) (f : ℕ) → IsWork functions f self.now.block.now self.now.work
+            → IsEarliest (λ (b : Broken). Any (λ e. IsEdgeUncovered functions self.now.function.now f self.now.block.now self.now.line e b)
+            (all_with_known known.now edges.now)) r) }
+    {
+        let mut named: Option<Broken> = None;
+        let mut facts = FactBranches::new(alloc, known, effort);
+        for edge in edges {
+            let broken = self.edge_fault(alloc, &mut facts, edge)?;
+            named = lower(named, broken);
+        }
+        Ok(named)
+    }
+
+    /// What is left of a block that detaches does not cover what it does and what is left in both its targets.
+    fn fork_fault(
+        &self,
+        alloc: Global,
+        known: &[Fact],
+        body: BlockId,
+        continuation: BlockId,
+    ) -> Result<Option<Broken>, Unanswered>
+        ensures { IfOk result (λ r. (functions : List Function) (f : ℕ) → IsWork functions f self.now.block.now self.now.work
+            → IsEarliest (IsForkUncovered functions self.now.function.now f self.now.block.now self.now.line known.now body.0 continuation.0) r) }
+    {
+        let none = Form::from_constant(alloc, 0);
+        let left = &self.block.left;
+        let work = self.work;
+        let blocks = self.function.blocks.as_slice();
+        let child = left_calls(blocks, body, &none);
+        let parent = left_calls(blocks, continuation, &none);
+        let calls = covers_both(alloc, known, &left.self_calls, work.calls, child, parent)?;
+        let child = left_instructions(blocks, body, &none);
+        let parent = left_instructions(blocks, continuation, &none);
+        let instructions = covers_both(
+            alloc,
             known,
-            *body,
-            *continuation,
-        ),
-        Terminator::Return { .. } | Terminator::Reattach { .. } => {
-            end_fault(alloc, block, work, line, known)
+            &left.instructions,
+            work.instructions,
+            child,
+            parent,
+        )?;
+        Ok(fault_unless(calls, instructions, self.line, rule::LEFT_TOO_SMALL))
+    }
+
+    /// What is left of a block at a `ret` or `reattach` does not cover what it does.
+    fn end_fault(&self, alloc: Global, known: &[Fact]) -> Result<Option<Broken>, Unanswered>
+        ensures { IfOk result (λ r. (functions : List Function) (f : ℕ) → IsWork functions f self.now.block.now self.now.work
+            → IsEarliest (IsEndUncovered functions f self.now.block.now self.now.line known.now) r) }
+    {
+        let left = &self.block.left;
+        let calls = covers_work(alloc, known, &left.self_calls, self.work.calls)?;
+        let instructions = covers_work(alloc, known, &left.instructions, self.work.instructions)?;
+        Ok(fault_unless(calls, instructions, self.line, rule::LEFT_TOO_SMALL))
+    }
+
+    /// What is left of the block does not cover what it does and what is left where it goes on.
+    pub fn uncovered_fault(
+        &self,
+        alloc: Global,
+        terminator: &Terminator,
+        known: &[Fact],
+        edges: &[EdgeFacts],
+        effort: &Effort,
+    ) -> Result<Option<Broken>, Unanswered>
+        ensures { IfOk result (λ r. (functions : List Function) (f : ℕ) → IsWork functions f self.now.block.now self.now.work
+            → IsEarliest (IsUncoveredAt functions self.now.function.now f self.now.block.now self.now.line known.now
+            (all_with_known known.now edges.now) terminator.now) r) }
+    {
+        match terminator {
+            Terminator::Jump { .. }
+            | Terminator::Branch { .. }
+            | Terminator::Switch { .. }
+            | Terminator::Sync { .. } => self.edges_fault(alloc, known, edges, effort),
+            Terminator::Detach {
+                body,
+                continuation,
+                ..
+            } => self.fork_fault(alloc, known, *body, *continuation),
+            Terminator::Return { .. } | Terminator::Reattach { .. } => {
+                self.end_fault(alloc, known)
+            }
         }
     }
 }

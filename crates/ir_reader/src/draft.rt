@@ -140,222 +140,221 @@ fn put_in_function_head(
     }
 }
 
-fn annotate_block(
+/// A module with a function more that is not at its end.
+#[derive(Drop)]
+struct OpenFunction {
     whole: Module,
     function: Function,
-    head: BlockHead,
-    annotation: Annotation,
-) -> Result<Option<Draft>, OutOfMemory>
-    ensures { IfOk result (λ d. d ≡ placed_at_block whole function (annotated_block head annotation)) }
-{
-    match annotated_block(head, annotation) {
-        Ok(Some(head)) => Ok(Some(Draft {
-            whole,
-            place: LineContext::BlockHead(function, head),
-        })),
-        Ok(None) => {
-            drop((whole, function));
+}
+
+impl OpenFunction {
+    fn annotate_block(
+        self,
+        head: BlockHead,
+        annotation: Annotation,
+    ) -> Result<Option<Draft>, OutOfMemory>
+        ensures { IfOk result (λ d. d ≡ placed_at_block self.whole self.function (annotated_block head annotation)) }
+    {
+        match annotated_block(head, annotation) {
+            Ok(Some(head)) => Ok(Some(Draft {
+                whole: self.whole,
+                place: LineContext::BlockHead(self.function, head),
+            })),
+            Ok(None) => {
+                drop(self);
+                Ok(None)
+            }
+            Err(OutOfMemory) => {
+                drop(self);
+                Err(OutOfMemory)
+            }
+        }
+    }
+
+    /// A `shows` line more, behind which its instruction is waited for.
+    fn with_shows(
+        self,
+        block: Block,
+        mut shows: Seq<Inequality>,
+        inequality: Inequality,
+    ) -> Result<Option<Draft>, OutOfMemory>
+        ensures { IfOk result (λ d. d ≡ annotated_in_body self.whole self.function block shows (Shows inequality)) }
+    {
+        match shows.push(inequality) {
+            Ok(()) => Ok(Some(Draft {
+                whole: self.whole,
+                place: LineContext::Body(self.function, block, shows),
+            })),
+            Err(refused) => {
+                drop((self, block, shows));
+                Err(refused.into())
+            }
+        }
+    }
+
+    fn annotate_in_block_head(
+        self,
+        alloc: Global,
+        head: BlockHead,
+        annotation: Annotation,
+    ) -> Result<Option<Draft>, OutOfMemory>
+        ensures { IfOk result (λ d. d ≡ annotated_in_block_head self.whole self.function head annotation) }
+    {
+        match annotation {
+            Annotation::Shows(inequality) => {
+                self.with_shows(head.block, Seq::new(alloc), inequality)
+            }
+            annotation => self.annotate_block(head, annotation),
+        }
+    }
+
+    fn annotate_in_body(
+        self,
+        block: Block,
+        shows: Seq<Inequality>,
+        annotation: Annotation,
+    ) -> Result<Option<Draft>, OutOfMemory>
+        ensures { IfOk result (λ d. d ≡ annotated_in_body self.whole self.function block shows annotation) }
+    {
+        match annotation {
+            Annotation::Shows(inequality) => self.with_shows(block, shows, inequality),
+            other => {
+                drop(other);
+                drop((self, block, shows));
+                Ok(None)
+            }
+        }
+    }
+
+    fn put_in_ended(
+        self,
+        alloc: Global,
+        block: Block,
+        line: u32,
+        item: Item,
+    ) -> Result<Option<Draft>, OutOfMemory>
+        ensures { IfOk result (λ d. d ≡ placed_in_ended self.whole self.function block line item) }
+    {
+        match item {
+            Item::Label(label) => match with_block(self.function, block) {
+                Ok(function) => Ok(Some(Draft {
+                    whole: self.whole,
+                    place: new_place(alloc, function, line, label),
+                })),
+                Err(OutOfMemory) => {
+                    drop((self.whole, label));
+                    Err(OutOfMemory)
+                }
+            },
+            Item::Close => match with_block(self.function, block) {
+                Ok(function) => Ok(Some(Draft {
+                    whole: with_function(self.whole, function)?,
+                    place: LineContext::Outside,
+                })),
+                Err(OutOfMemory) => {
+                    drop(self.whole);
+                    Err(OutOfMemory)
+                }
+            },
+            other => {
+                drop(other);
+                drop((self, block));
+                Ok(None)
+            }
+        }
+    }
+
+    /// Ends the block, unless `shows` lines wait for an instruction.
+    fn put_behind(
+        self,
+        alloc: Global,
+        block: Block,
+        shows: Seq<Inequality>,
+        line: u32,
+        item: Item,
+    ) -> Result<Option<Draft>, OutOfMemory>
+        ensures { IfOk result (λ d. d ≡ placed_behind self.whole self.function block shows line item) }
+    {
+        if shows.is_empty() {
+            drop(shows);
+            self.put_in_ended(alloc, block, line, item)
+        } else {
+            drop(item);
+            drop((self, block, shows));
             Ok(None)
         }
-        Err(OutOfMemory) => {
-            drop((whole, function));
-            Err(OutOfMemory)
-        }
     }
-}
 
-/// A `shows` line more, behind which its instruction is waited for.
-fn with_shows(
-    whole: Module,
-    function: Function,
-    block: Block,
-    mut shows: Seq<Inequality>,
-    inequality: Inequality,
-) -> Result<Option<Draft>, OutOfMemory>
-    ensures { IfOk result (λ d. d ≡ annotated_in_body whole function block shows (Shows inequality)) }
-{
-    match shows.push(inequality) {
-        Ok(()) => Ok(Some(Draft {
-            whole,
-            place: LineContext::Body(function, block, shows),
-        })),
-        Err(refused) => {
-            drop((whole, function, block, shows));
-            Err(refused.into())
-        }
-    }
-}
-
-fn annotate_in_block_head(
-    alloc: Global,
-    whole: Module,
-    function: Function,
-    head: BlockHead,
-    annotation: Annotation,
-) -> Result<Option<Draft>, OutOfMemory>
-    ensures { IfOk result (λ d. d ≡ annotated_in_block_head whole function head annotation) }
-{
-    match annotation {
-        Annotation::Shows(inequality) => {
-            with_shows(whole, function, head.block, Seq::new(alloc), inequality)
-        }
-        annotation => annotate_block(whole, function, head, annotation),
-    }
-}
-
-fn annotate_in_body(
-    whole: Module,
-    function: Function,
-    block: Block,
-    shows: Seq<Inequality>,
-    annotation: Annotation,
-) -> Result<Option<Draft>, OutOfMemory>
-    ensures { IfOk result (λ d. d ≡ annotated_in_body whole function block shows annotation) }
-{
-    match annotation {
-        Annotation::Shows(inequality) => with_shows(whole, function, block, shows, inequality),
-        other => {
-            drop(other);
-            drop((whole, function, block, shows));
-            Ok(None)
-        }
-    }
-}
-
-fn put_in_ended(
-    alloc: Global,
-    whole: Module,
-    function: Function,
-    block: Block,
-    line: u32,
-    item: Item,
-) -> Result<Option<Draft>, OutOfMemory>
-    ensures { IfOk result (λ d. d ≡ placed_in_ended whole function block line item) }
-{
-    match item {
-        Item::Label(label) => match with_block(function, block) {
-            Ok(function) => Ok(Some(Draft {
-                whole,
-                place: new_place(alloc, function, line, label),
-            })),
-            Err(OutOfMemory) => {
-                drop((whole, label));
-                Err(OutOfMemory)
+    fn put_in_body(
+        self,
+        alloc: Global,
+        block: Block,
+        shows: Seq<Inequality>,
+        line: u32,
+        item: Item,
+    ) -> Result<Option<Draft>, OutOfMemory>
+        ensures { IfOk result (λ d. d ≡ placed_in_body self.whole self.function block shows line item) }
+    {
+        match item {
+            Item::Annotation(annotation) => self.annotate_in_body(block, shows, annotation),
+            Item::Instruction(instruction) => match with_step(block, line, shows, instruction) {
+                Ok(block) => Ok(Some(Draft {
+                    whole: self.whole,
+                    place: LineContext::Body(self.function, block, Seq::new(alloc)),
+                })),
+                Err(OutOfMemory) => {
+                    drop(self);
+                    Err(OutOfMemory)
+                }
+            },
+            Item::Terminator(terminator) => {
+                let block = with_ending(block, line, shows, terminator);
+                Ok(Some(Draft {
+                    whole: self.whole,
+                    place: LineContext::Ended(self.function, block),
+                }))
             }
-        },
-        Item::Close => match with_block(function, block) {
-            Ok(function) => Ok(Some(Draft {
-                whole: with_function(whole, function)?,
-                place: LineContext::Outside,
-            })),
-            Err(OutOfMemory) => {
-                drop(whole);
-                Err(OutOfMemory)
-            }
-        },
-        other => {
-            drop(other);
-            drop((whole, function, block));
-            Ok(None)
+            item => self.put_behind(alloc, block, shows, line, item),
         }
     }
-}
 
-/// Ends the block, unless `shows` lines wait for an instruction.
-fn put_behind(
-    alloc: Global,
-    whole: Module,
-    function: Function,
-    block: Block,
-    shows: Seq<Inequality>,
-    line: u32,
-    item: Item,
-) -> Result<Option<Draft>, OutOfMemory>
-    ensures { IfOk result (λ d. d ≡ placed_behind whole function block shows line item) }
-{
-    if shows.is_empty() {
-        drop(shows);
-        put_in_ended(alloc, whole, function, block, line, item)
-    } else {
-        drop(item);
-        drop((whole, function, block, shows));
-        Ok(None)
-    }
-}
-
-fn put_in_body(
-    alloc: Global,
-    whole: Module,
-    function: Function,
-    block: Block,
-    shows: Seq<Inequality>,
-    line: u32,
-    item: Item,
-) -> Result<Option<Draft>, OutOfMemory>
-    ensures { IfOk result (λ d. d ≡ placed_in_body whole function block shows line item) }
-{
-    match item {
-        Item::Annotation(annotation) => {
-            annotate_in_body(whole, function, block, shows, annotation)
+    fn put_in_phis(
+        self,
+        alloc: Global,
+        block: Block,
+        line: u32,
+        item: Item,
+    ) -> Result<Option<Draft>, OutOfMemory>
+        ensures { IfOk result (λ d. d ≡ placed_in_phis self.whole self.function block line item) }
+    {
+        match item {
+            Item::Phi(phi) => match with_phi(block, phi) {
+                Ok(block) => Ok(Some(Draft {
+                    whole: self.whole,
+                    place: LineContext::Phis(self.function, block),
+                })),
+                Err(OutOfMemory) => {
+                    drop(self);
+                    Err(OutOfMemory)
+                }
+            },
+            item => self.put_in_body(alloc, block, Seq::new(alloc), line, item),
         }
-        Item::Instruction(instruction) => match with_step(block, line, shows, instruction) {
-            Ok(block) => Ok(Some(Draft {
-                whole,
-                place: LineContext::Body(function, block, Seq::new(alloc)),
-            })),
-            Err(OutOfMemory) => {
-                drop((whole, function));
-                Err(OutOfMemory)
-            }
-        },
-        Item::Terminator(terminator) => Ok(Some(Draft {
-            whole,
-            place: LineContext::Ended(function, with_ending(block, line, shows, terminator)),
-        })),
-        item => put_behind(alloc, whole, function, block, shows, line, item),
     }
-}
 
-fn put_in_phis(
-    alloc: Global,
-    whole: Module,
-    function: Function,
-    block: Block,
-    line: u32,
-    item: Item,
-) -> Result<Option<Draft>, OutOfMemory>
-    ensures { IfOk result (λ d. d ≡ placed_in_phis whole function block line item) }
-{
-    match item {
-        Item::Phi(phi) => match with_phi(block, phi) {
-            Ok(block) => Ok(Some(Draft {
-                whole,
-                place: LineContext::Phis(function, block),
-            })),
-            Err(OutOfMemory) => {
-                drop((whole, function));
-                Err(OutOfMemory)
-            }
-        },
-        item => put_in_body(alloc, whole, function, block, Seq::new(alloc), line, item),
-    }
-}
-
-fn put_in_block_head(
-    alloc: Global,
-    whole: Module,
-    function: Function,
-    head: BlockHead,
-    line: u32,
-    item: Item,
-) -> Result<Option<Draft>, OutOfMemory>
-    ensures { IfOk result (λ d. d ≡ placed_in_block_head whole function head line item) }
-{
-    match item {
-        Item::Annotation(annotation) => {
-            annotate_in_block_head(alloc, whole, function, head, annotation)
+    fn put_in_block_head(
+        self,
+        alloc: Global,
+        head: BlockHead,
+        line: u32,
+        item: Item,
+    ) -> Result<Option<Draft>, OutOfMemory>
+        ensures { IfOk result (λ d. d ≡ placed_in_block_head self.whole self.function head line item) }
+    {
+        match item {
+            Item::Annotation(annotation) => self.annotate_in_block_head(alloc, head, annotation),
+            item => self.put_in_phis(alloc, head.block, line, item),
         }
-        item => put_in_phis(alloc, whole, function, head.block, line, item),
     }
 }
 
@@ -369,16 +368,16 @@ impl Draft {
             LineContext::Outside => put_outside(alloc, whole, line, item),
             LineContext::FunctionHead(head) => put_in_function_head(alloc, whole, head, line, item),
             LineContext::BlockHead(function, head) => {
-                put_in_block_head(alloc, whole, function, head, line, item)
+                OpenFunction { whole, function }.put_in_block_head(alloc, head, line, item)
             }
             LineContext::Phis(function, block) => {
-                put_in_phis(alloc, whole, function, block, line, item)
+                OpenFunction { whole, function }.put_in_phis(alloc, block, line, item)
             }
             LineContext::Body(function, block, shows) => {
-                put_in_body(alloc, whole, function, block, shows, line, item)
+                OpenFunction { whole, function }.put_in_body(alloc, block, shows, line, item)
             }
             LineContext::Ended(function, block) => {
-                put_in_ended(alloc, whole, function, block, line, item)
+                OpenFunction { whole, function }.put_in_ended(alloc, block, line, item)
             }
         }
     }

@@ -66,48 +66,6 @@ fn judged(reader: Reader, line: u32, is_within: bool, is_new: bool) -> Result<Re
     }
 }
 
-/// Puts the line's item behind what was read; counts and scope have it already.
-fn placed(
-    alloc: Global,
-    draft: Draft,
-    counts: Counts,
-    scope: Scope,
-    is_new: bool,
-    number: u32,
-    line: Line,
-) -> Result<Reader, Refused>
-    requires { (e : draft_type.Draft) → Some e ≡ placed draft number line.item → counts ≡ counts_of e }
-    ensures { Answered result (judged_place number (placed draft number line.item) line.is_within_limits is_new counts scope) }
-{
-    let Line {
-        item,
-        is_within_limits,
-    } = line;
-    match draft.put(alloc, number, item) {
-        Ok(Some(draft)) => judged(
-            Reader {
-                draft,
-                counts,
-                scope,
-            },
-            number,
-            is_within_limits,
-            is_new,
-        ),
-        Ok(None) => {
-            drop(scope);
-            Err(Refused::Fault {
-                number: rule::MISPLACED_WORD,
-                line: number,
-            })
-        }
-        Err(_) => {
-            drop(scope);
-            Err(Refused::Memory)
-        }
-    }
-}
-
 impl Reader {
     fn new(alloc: Global, state: RandomState) -> Result<Reader, OutOfMemory>
         ensures draft { IfOk result (λ r. r.draft ≡ start) }
@@ -127,24 +85,57 @@ impl Reader {
         })
     }
 
+    /// Puts the line's item behind what was read; counts and scope have it already.
+    fn placed(self, alloc: Global, number: u32, line: Line, is_new: bool) -> Result<Reader, Refused>
+        requires { (e : draft_type.Draft) → Some e ≡ placed self.draft number line.item → self.counts ≡ counts_of e }
+        ensures { Answered result (judged_place number (placed self.draft number line.item) line.is_within_limits is_new self.counts self.scope) }
+    {
+        let Reader {
+            draft,
+            counts,
+            scope,
+        } = self;
+        let Line {
+            item,
+            is_within_limits,
+        } = line;
+        match draft.put(alloc, number, item) {
+            Ok(Some(draft)) => judged(
+                Reader {
+                    draft,
+                    counts,
+                    scope,
+                },
+                number,
+                is_within_limits,
+                is_new,
+            ),
+            Ok(None) => {
+                drop(scope);
+                Err(Refused::Fault {
+                    number: rule::MISPLACED_WORD,
+                    line: number,
+                })
+            }
+            Err(_) => {
+                drop(scope);
+                Err(Refused::Memory)
+            }
+        }
+    }
+
     /// What was read, with the item of one more line. Of several faults the lowest number is named.
-    fn put(self, alloc: Global, number: u32, line: Line) -> Result<Reader, Refused>
+    fn put(mut self, alloc: Global, number: u32, line: Line) -> Result<Reader, Refused>
         requires { IsTracked self }
         ensures tracked { IfOk result IsTracked }
         ensures read { IfOk result (λ r. with_item self.draft number line ≡ Ok r.draft) }
         ensures fault { IfErr result (FailsAt number (with_item self.draft number line)) }
     {
-        let Reader {
-            draft,
-            counts,
-            mut scope,
-        } = self;
-        let counts = counts.with(&line.item);
-        match scope.define(alloc, &line.item) {
-            Ok(is_new) => placed(alloc, draft, counts, scope, is_new, number, line),
+        self.counts = self.counts.with(&line.item);
+        match self.scope.define(alloc, &line.item) {
+            Ok(is_new) => self.placed(alloc, number, line, is_new),
             Err(_) => {
-                drop(draft);
-                drop(scope);
+                drop(self);
                 drop(line);
                 Err(Refused::Memory)
             }

@@ -108,22 +108,22 @@ fn end_fault(ending: &Option<Ending>, is_open: bool) -> Option<Broken>
     }
 }
 
-/// 304: the ends of its task that a detach is open at.
+/// 304: the ends of its task that a block's detach is open at, if the block ends with one.
 fn open_ends(
     alloc: Global,
     bodies: &[Block],
     blocks: &[BlockEdges],
     tasks: &[Task],
     detach: usize,
-    region: RegisterId,
-    continuation: BlockId,
 ) -> Result<Option<Broken>, AllocError>
     requires tasks { AreTasks blocks.now tasks.now }
     requires size { length blocks.now ≡ length bodies.now }
     requires within { detach < length bodies.now }
-    requires detach { IsDetach (ending_at bodies.now detach) region continuation }
     ensures { IfOk result (IsEarliest (IsOpenEndOf bodies.now blocks.now detach)) }
 {
+    let Some((region, continuation)) = detach_of(bodies, detach) else {
+        return Ok(None);
+    };
     let marks = open_marks(alloc, bodies, blocks, region, continuation)?;
     let task = tasks[detach];
     let mut named: Option<Broken> = None;
@@ -149,18 +149,7 @@ pub fn unsynced_fault(
 {
     let mut named: Option<Broken> = None;
     for detach in 0..bodies.len() {
-        let broken = match detach_of(bodies, detach) {
-            Some((region, continuation)) => open_ends(
-                alloc,
-                bodies,
-                blocks,
-                tasks,
-                detach,
-                region,
-                continuation,
-            )?,
-            None => None,
-        };
+        let broken = open_ends(alloc, bodies, blocks, tasks, detach)?;
         named = lower(named, broken);
     }
     Ok(named)

@@ -6,13 +6,13 @@ use Rattle.ranges.specs.Sums.{shows}
 use Rattle.cost_table.specs.Rules.{left_behind, less_form}
 use Rattle.program.specs.Left.{left_calls, left_instructions}
 use Rattle.cost_table.proofs.Judging.{pair_named, shown_both}
-use Rattle.cost_table.proofs.judge.fork_fault.Goals as goal
+use Rattle.cost_table.proofs.judge.BlockEnd.fork_fault.Goals as goal
 
 pub returns : goal.returns
 returns c = λ functions f is.
-    let block = c.args.block.now in
-    let line = c.args.line in
-    let blocks = c.args.function.now.blocks in
+    let block = c.args.self.now.block.now in
+    let line = c.args.self.now.line in
+    let blocks = c.args.self.now.function.now.blocks in
     let facts = c.args.known.now in
     let calls = calls_done f block in
     let instructions = instructions_done functions f block in

@@ -6,7 +6,7 @@ use Rattle.refusal.specs.Earliest.{IsEarliest}
 use Rattle.refusal.proofs.Places.{Within, below_next, below_all}
 use Rattle.ranges.specs.Tables.{facts_in_table}
 use Rattle.cost_table.specs.Rules.{IsCallNotFalling}
-use Rattle.cost_table.proofs.check.steps_fault.Goals as goal
+use Rattle.cost_table.proofs.check.JudgedFunction.steps_fault.Goals as goal
 
 pub loop-place-preserved : goal.loop-place-preserved
 loop-place-preserved c =
@@ -18,13 +18,13 @@ loop-place-preserved c =
     ∙ ap (λ (x : List Fact × ℕ). take x.1 x.0) place
     ∙ ap (λ (n : ℕ). take n c.loop-place.cursor.0) c.count_at.ensures
     ∙ ap (take (slice_index_or table.counts c.loop-place.place 0)) c.loop-place.invariant.1 in (
-      below_next (λ (i : ℕ) (s : Step). IsCallNotFalling c.args.function.now c.args.index s.line (facts_in_table c.args.table.now i) s.instruction) c.as_slice-steps.result.now c.loop-place.place step _ _ _ c.loop-place-test.true c.index-steps-place.is c.loop-place.invariant.0
-          (subst (λ (fs : List Fact). IsEarliest (IsCallNotFalling c.args.function.now c.args.index step.line fs step.instruction) c.in_ok-broken.broken) known c.in_ok-broken.ensures)
+      below_next (λ (i : ℕ) (s : Step). IsCallNotFalling c.args.self.now.function.now c.args.self.now.index s.line (facts_in_table c.args.table.now i) s.instruction) c.as_slice-steps.result.now c.loop-place.place step _ _ _ c.loop-place-test.true c.index-steps-place.is c.loop-place.invariant.0
+          (subst (λ (fs : List Fact). IsEarliest (IsCallNotFalling c.args.self.now.function.now c.args.self.now.index step.line fs step.instruction) c.in_ok-broken.broken) known c.in_ok-broken.ensures)
           c.lower-named.ensures,
       ap (λ (x : List Fact × ℕ). x.0) place ∙ c.loop-place.invariant.1,
     )
 
 pub returns : goal.returns
 returns c =
-    subst (λ (steps : List Step). IsEarliest (Within (λ (i : ℕ) (s : Step). IsCallNotFalling c.args.function.now c.args.index s.line (facts_in_table c.args.table.now i) s.instruction) steps) c.loop-place.named) c.as_slice-steps.ensures
-    (below_all (λ (i : ℕ) (s : Step). IsCallNotFalling c.args.function.now c.args.index s.line (facts_in_table c.args.table.now i) s.instruction) c.as_slice-steps.result.now _ _ c.loop-place-test.false c.loop-place.invariant.0)
+    subst (λ (steps : List Step). IsEarliest (Within (λ (i : ℕ) (s : Step). IsCallNotFalling c.args.self.now.function.now c.args.self.now.index s.line (facts_in_table c.args.table.now i) s.instruction) steps) c.loop-place.named) c.as_slice-steps.ensures
+    (below_all (λ (i : ℕ) (s : Step). IsCallNotFalling c.args.self.now.function.now c.args.self.now.index s.line (facts_in_table c.args.table.now i) s.instruction) c.as_slice-steps.result.now _ _ c.loop-place-test.false c.loop-place.invariant.0)

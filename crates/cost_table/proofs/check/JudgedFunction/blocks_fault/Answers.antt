@@ -6,13 +6,13 @@ use Rattle.refusal.proofs.Places.{Within, below_next, below_all, read_in}
 use Rattle.ranges.specs.Tables.{facts_in_table, edges_in_table}
 use Rattle.cost_table.specs.Rules.{IsBlockBrokenBy, IsBlockBroken}
 use Rattle.cost_table.proofs.ByTables.{block_by_table}
-use Rattle.cost_table.proofs.check.blocks_fault.Goals as goal
+use Rattle.cost_table.proofs.check.JudgedFunction.blocks_fault.Goals as goal
 
 pub loop-place-preserved : goal.loop-place-preserved
 loop-place-preserved c =
-    let functions = c.args.functions.now in
-    let function = c.args.function.now in
-    let f = c.args.index in
+    let functions = c.args.self.now.functions.now in
+    let function = c.args.self.now.function.now in
+    let f = c.args.self.now.index in
     let i = c.loop-place.place in
     let block = c.index-blocks-place.result in
     let table = c.index-tables-place.result in
@@ -26,5 +26,5 @@ loop-place-preserved c =
 
 pub returns : goal.returns
 returns c =
-    subst (λ (blocks : List Block). IsEarliest (Within (λ (b : ℕ) (x : Block). IsBlockBroken c.args.functions.now c.args.function.now c.args.index b x) blocks) c.loop-place.named) c.as_slice-blocks.ensures
-    (below_all (λ (b : ℕ) (x : Block). IsBlockBroken c.args.functions.now c.args.function.now c.args.index b x) c.as_slice-blocks.result.now _ _ c.loop-place-test.false c.loop-place.invariant)
+    subst (λ (blocks : List Block). IsEarliest (Within (λ (b : ℕ) (x : Block). IsBlockBroken c.args.self.now.functions.now c.args.self.now.function.now c.args.self.now.index b x) blocks) c.loop-place.named) c.as_slice-blocks.ensures
+    (below_all (λ (b : ℕ) (x : Block). IsBlockBroken c.args.self.now.functions.now c.args.self.now.function.now c.args.self.now.index b x) c.as_slice-blocks.result.now _ _ c.loop-place-test.false c.loop-place.invariant)

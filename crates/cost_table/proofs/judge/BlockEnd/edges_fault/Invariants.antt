@@ -6,10 +6,10 @@ use Rattle.refusal.specs.Earliest.{IsEarliest}
 use Rattle.ranges.specs.Tables.{with_known}
 use Rattle.cost_table.specs.Doing.{IsWork}
 use Rattle.cost_table.specs.Rules.{IsEdgeUncovered}
-use Rattle.cost_table.proofs.judge.edges_fault.Given as goal
+use Rattle.cost_table.proofs.judge.BlockEnd.edges_fault.Given as goal
 
 abbrev pub invariant-loop-edge : goal.invariant-loop-edge
 invariant-loop-edge l =
     (l.facts.0 ≡ l.known)
-    × ((functions : List Function) (f : ℕ) → IsWork functions f l.block l.work
-    → IsEarliest (λ (b : Broken). Any (λ e. IsEdgeUncovered functions l.function f l.block l.line (with_known l.known e) b) (take l.edge-index l.edges)) l.named)
+    × ((functions : List Function) (f : ℕ) → IsWork functions f l.self.block.now l.self.work
+    → IsEarliest (λ (b : Broken). Any (λ e. IsEdgeUncovered functions l.self.function.now f l.self.block.now l.self.line (with_known l.known e) b) (take l.edge-index l.edges)) l.named)
