@@ -1,7 +1,6 @@
 -- Cells for which there is a place: an array store to them is not refused.
 use Rattle.std.proofs.Common.{◌≡◌, ◌≢◌, ◌∙◌, ℕ, ◌<◌, zero, suc, refl, ap, sym, subst, Bool, true, false, ℤ, pos, ◌+ℤ◌, Option, Some, None}
 use Rattle.std.specs.Prelude.{IsSome}
-use Rattle.std.specs.Option.{option_map}
 use Rattle.std.specs.Ordering.{int_eq}
 use Rattle.std.proofs.lemmas.Bool.Decides.{Decides-int_eq}
 use Rattle.semantics.specs.Arithmetic.{wrapped}
@@ -9,35 +8,24 @@ use Rattle.syntax.specs.declared.operator.Width.TheVariants.{Bits64}
 use Rattle.program.specs.declared.function.Program.{Program}
 use Rattle.frame_engine.specs.Access.{Stores}
 use Rattle.frame_engine.specs.Accesses.{Zeroed, ZeroingRefused}
-use Rattle.frame_engine.specs.Shows.{Layout, address}
+use Rattle.frame_engine.specs.Shows.{Layout}
 use Rattle.frame_engine.specs.declared.activation.Places.{Places}
 use Rattle.strand.specs.frame_strand.declared.cells.Change.TheVariants.{Stored}
 use Rattle.strand.specs.frame_strand.declared.cells.CellStop.{CellStop}
 use Rattle.strand_pages.specs.Logs.{IsWider, Log, is_open}
 use Rattle.strand_pages.specs.Tables.{Table, log_of}
 use Rattle.strand_pages.proofs.Opening.{has_place_open, open_changed}
-use Rattle.laws_strands.specs.stacks.Footprint.{Footprint}
 use Rattle.laws_strands.specs.stacks.Strands as strands
-use Rattle.strand.specs.CellsKept.{ShowsLog, write_of}
 use Rattle.strand.specs.Layouts.{Segment}
 use Rattle.strand.specs.OwnCells.{CanStore, CellsDo, CellsRefuse, DoBy, RefuseBy, own_cell}
 use Rattle.strand.specs.Spans.{ShowsOwn, ShowsSpan}
 use Rattle.strand.specs.Steps.{GoesOn}
 use Rattle.strand.specs.declared.cells.StrandCells.{StrandCells}
 use Rattle.strand.specs.declared.strand.Strand.{Strand}
+use Rattle.strand.proofs.Logged.{wider_log}
 use Rattle.strand.proofs.Shown.{with_cells}
 
 -- ---- pages that were put in use
-
-wider_log : (l : Layout) (f : Footprint) (b c : Log) → IsWider b c → ShowsLog l f b → ShowsLog l f c
-wider_log l f b c wide h = record {
-  reads = λ x inside. h.reads x inside ∙ ap (λ r. r (address l x)) (sym wide.reads);
-  writes = λ x inside. h.writes x inside ∙ ap (λ r. option_map write_of (r (address l x))) (sym wide.writes);
-  read_there = λ a v e. h.read_there a v (ap (λ r. r a) (sym wide.reads) ∙ e);
-  written_there = λ a u e. h.written_there a u (ap (λ r. r a) (sym wide.writes) ∙ e);
-  near = λ a v e. ap (λ r. r a) wide.near ∙ h.near a v (ap (λ r. r a) (sym wide.reads) ∙ e);
-  deltas = λ a z e. ap (λ r. r a) wide.reads ∙ h.deltas a z (ap (λ r. r a) (sym wide.writes) ∙ e);
-}
 
 wider_own : (l : Layout) (prog : Program) (s : Segment) (d : strands.Strand) (b : StrandCells) (end : ℕ) (log : Table) → IsWider (log_of b.log) (log_of log) → ShowsOwn l prog s d b end → ShowsOwn l prog s d (record b { log = log }) end
 wider_own l prog s d b end log wide h = record {

@@ -15,10 +15,11 @@ use Rattle.strand.specs.frame_strand.Buffers.{raised_change}
 use Rattle.strand.specs.frame_strand.Showing.{AreApart}
 use Rattle.strand.specs.frame_strand.declared.cells.Change.{Change}
 use Rattle.strand.specs.frame_strand.declared.cells.Change.TheVariants.{Stored, Delta}
-use Rattle.strand_pages.specs.Doing.{IsChanged}
+use Rattle.strand_pages.specs.Doing.{IsChanged, IsKept}
 use Rattle.strand_pages.specs.Known.{at_address, first_of, read_after, settled_change, value_of}
-use Rattle.strand_pages.specs.Logs.{Log, empty_log, filled_log, loaded_log, place_of, same_page, value_at}
+use Rattle.strand_pages.specs.Logs.{IsWider, Log, empty_log, filled_log, loaded_log, place_of, same_page, value_at, with_change}
 use Rattle.strand_pages.proofs.Addresses.{address_tells}
+use Rattle.strand_pages.proofs.Opening.{changed_kept}
 use Rattle.strand.specs.CellsKept.{ShowsLog, write_of}
 
 at_here : {X : Type 0} (a : ℤ) (n : X) (g : ℤ → X) → at_address a n g a ≡ n
@@ -70,6 +71,17 @@ off_logged l f g b same s = record {
   deltas = s.deltas;
 }
 
+-- more pages are in use
+pub wider_log : (l : Layout) (f : Footprint) (b c : Log) → IsWider b c → ShowsLog l f b → ShowsLog l f c
+wider_log l f b c wide h = record {
+  reads = λ x inside. h.reads x inside ∙ ap (λ r. r (address l x)) (sym wide.reads);
+  writes = λ x inside. h.writes x inside ∙ ap (λ r. option_map write_of (r (address l x))) (sym wide.writes);
+  read_there = λ a v e. h.read_there a v (ap (λ r. r a) (sym wide.reads) ∙ e);
+  written_there = λ a u e. h.written_there a u (ap (λ r. r a) (sym wide.writes) ∙ e);
+  near = λ a v e. ap (λ r. r a) wide.near ∙ h.near a v (ap (λ r. r a) (sym wide.reads) ∙ e);
+  deltas = λ a z e. ap (λ r. r a) wide.reads ∙ h.deltas a z (ap (λ r. r a) (sym wide.writes) ∙ e);
+}
+
 -- ---- a cell is written
 
 raised_unread : (z : ℤ) (u : Option Change) (r : Option ℤ) → ((y : ℤ) → u ≡ Some (Delta y) → r ≡ None) → (w : ℤ) → raised_change z u r ≡ Delta w → r ≡ None
@@ -86,9 +98,9 @@ raised_is z (Some (Delta y)) r = refl
 
 module _ (l : Layout) (apart : AreApart l) (f : Footprint) (b after : Log) (s : ShowsLog l f b) (c : Cell) (here : IsIn l c) where
   -- what is kept of this cell becomes a change, and of no other
-  put_logged : (g : Footprint) (u : Change) → IsChanged b (address l c) u after → ((w : ℤ) → u ≡ Delta w → b.reads (address l c) ≡ None) →
+  put_logged : (g : Footprint) (u : Change) → IsKept b (address l c) u after → ((w : ℤ) → u ≡ Delta w → b.reads (address l c) ≡ None) →
       g.reads ≡ f.reads → g.writes c ≡ Some (write_of u) → ((d : Cell) → same_cell c d ≡ false → g.writes d ≡ f.writes d) → ShowsLog l g after
-  put_logged g u done unread same mine others = subst (ShowsLog l g) (sym done.is) (record {
+  put_logged g u kept unread same mine others = wider_log l g (with_change b (address l c) u) after kept (record {
     reads = λ d in_l. ap (λ (r : Cell → Option ℤ). r d) same ∙ s.reads d in_l;
     writes = λ d in_l. elim (same_cell_tells c d) [
       | inl q ↦
@@ -118,12 +130,12 @@ module _ (l : Layout) (apart : AreApart l) (f : Footprint) (b after : Log) (s : 
 
   pub stores_logged : (h : Frame) (z : ℤ) → IsChanged b (address l c) (Stored z) after → ShowsLog l (with_writes f (stores h c z).writes (stores h c z).adds) after
   stores_logged h z done =
-      put_logged (with_writes f (stores h c z).writes (stores h c z).adds) (Stored z) done (λ w e. absurd cc) refl
+      put_logged (with_writes f (stores h c z).writes (stores h c z).adds) (Stored z) (changed_kept b (address l c) (Stored z) after done.is) (λ w e. absurd cc) refl
       (ap (λ (t : Bool). stored (cond {A = Option (Option ℤ)} t (Some (Some z)) None) (f.writes c)) (same_cell_itself c))
       (λ d off. ap (λ (t : Bool). stored (cond {A = Option (Option ℤ)} t (Some (Some z)) None) (f.writes d)) off)
 
   pub adds_logged : (writes : Cell → Option (Option ℤ)) (adds : Cell → Option ℤ) (z : ℤ) → ((x : Cell) → writes x ≡ None) → ((x : Cell) → adds x ≡ cond (same_cell c x) (Some z) None) →
-      IsChanged b (address l c) (raised_change z (b.writes (address l c)) (b.reads (address l c))) after → ShowsLog l (with_writes f writes adds) after
+      IsKept b (address l c) (raised_change z (b.writes (address l c)) (b.reads (address l c))) after → ShowsLog l (with_writes f writes adds) after
   adds_logged writes adds z none is done =
       put_logged (with_writes f writes adds) (raised_change z (b.writes (address l c)) (b.reads (address l c))) done
       (raised_unread z (b.writes (address l c)) (b.reads (address l c)) (s.deltas (address l c))) refl

@@ -15,7 +15,7 @@ use Rattle.frame_engine.specs.Shows.{Layout, IsIn, address}
 use Rattle.strand.specs.frame_strand.Buffers.{raised_change}
 use Rattle.strand.specs.frame_strand.Showing.{AreApart}
 use Rattle.strand.specs.frame_strand.declared.cells.Change.TheVariants.{Stored}
-use Rattle.strand_pages.specs.Doing.{IsChanged}
+use Rattle.strand_pages.specs.Doing.{IsChanged, IsKept}
 use Rattle.strand_pages.specs.Tables.{Table, log_of}
 use Rattle.strand.specs.CellsKept.{HoldsOwn, ShowsKept, ShowsLog}
 use Rattle.strand.specs.OwnCells.{IsOwnPut, own_cell}
@@ -60,7 +60,7 @@ module _ (l k : Layout) (first : Cell → ℤ) (start end : ℕ) (over : LiesOve
       (stores_logged l apart_below f (log_of x.log) (log_of after.log) s.log c here h z done)
 
   pub adds_kept : (writes : Cell → Option (Option ℤ)) (adds : Cell → Option ℤ) (z : ℤ) → ((y : Cell) → writes y ≡ None) → ((y : Cell) → adds y ≡ cond (same_cell c y) (Some z) None) →
-      IsChanged (log_of x.log) (address l c) (raised_change z ((log_of x.log).writes (address l c)) ((log_of x.log).reads (address l c))) (log_of after.log) → ShowsKept l k first (with_writes f writes adds) after
+      IsKept (log_of x.log) (address l c) (raised_change z ((log_of x.log).writes (address l c)) ((log_of x.log).reads (address l c))) (log_of after.log) → ShowsKept l k first (with_writes f writes adds) after
   adds_kept writes adds z none is done =
       logged_kept (with_writes f writes adds)
       (λ d off. (refl, (λ i. added_to (is d i) (stored (none d i) (f.writes d)) (f.reads d)) ∙ ap (λ (t : Bool). added_to (cond {A = Option ℤ} t (Some z) None) (f.writes d) (f.reads d)) off))

@@ -1,5 +1,4 @@
 -- A strand that is shown, with parts of its machine's exchanged.
-use Rattle.std.proofs.Common.{◌≡◌, refl, ap, sym}
 use Rattle.program.specs.declared.function.Program.{Program}
 use Rattle.frame_engine.specs.Shows.{Layout}
 use Rattle.frame_engine.specs.declared.activation.Places.{Places}

@@ -10,7 +10,7 @@ use Rattle.strand_pages.specs.Committing.{Agrees, IsPutInto, PageAgrees, PageDif
 use Rattle.strand_pages.specs.Known.{put_change}
 use Rattle.strand_pages.specs.Pages.{Kept}
 use Rattle.strand_pages.specs.Paging.{kept_of}
-use Rattle.strand_pages.specs.Tables.{IsTable, Table, entry_of, log_of, told}
+use Rattle.strand_pages.specs.Tables.{IsTable, PageTable, entry_of, pages_log, told}
 use Rattle.strand_pages.specs.declared.page.Page.{Page}
 use Rattle.strand_pages.proofs.Keeping.{below_tells}
 use Rattle.strand_pages.proofs.Paged.{told_at, untold}
@@ -21,14 +21,14 @@ some_there (x ∷ xs) zero lt e = let bad = e in cc
 some_there (x ∷ xs) (suc i) lt e = some_there xs i (omega (arith, lt)) e
 
 -- what is kept of the number's cell, where its page comes before this one
-abbrev pub change_upto : Table → ℕ → ℕ → Option Change
-change_upto t i n = cond (nat_le (slice_index t.directory (n / 64)) i) ((log_of t).writes (pos n)) None
+abbrev pub change_upto : PageTable → ℕ → ℕ → Option Change
+change_upto t i n = cond (nat_le (slice_index t.directory (n / 64)) i) ((pages_log t).writes (pos n)) None
 
-pub record PutUpTo (t : Table) (old new : List ℤ) (i : ℕ) : Type 0 where
+pub record PutUpTo (t : PageTable) (old new : List ℤ) (i : ℕ) : Type 0 where
   pub long : length new ≡ length old
   pub cells : (n : ℕ) → slice_get new n ≡ put_change (change_upto t i n) (slice_get old n)
 
-module _ (t : Table) (ok : IsTable t) where
+module _ (t : PageTable) (ok : IsTable t) where
   -- the address of a page's cell leads to the page
   module _ (s : ℕ) (p : Page) (used : s < t.used) (is : slice_get t.pages s ≡ Some p) (k : ℕ) (lt : k < 64) where
     pub leads : entry_of t.directory (pos (p.number * 64 + k)) ≡ suc s
@@ -64,7 +64,7 @@ module _ (t : Table) (ok : IsTable t) where
   abbrev pub PagesAgree : List ℤ → ℕ → Type 0
   PagesAgree row n = (s : ℕ) (p : Page) → s < n → slice_get t.pages s ≡ Some p → PageAgrees (kept_of p) row
 
-  pub table_agrees : (row : List ℤ) → PagesAgree row t.used → Agrees (log_of t) row
+  pub table_agrees : (row : List ℤ) → PagesAgree row t.used → Agrees (pages_log t) row
   table_agrees row all (negsuc n) v e = absurd (let none = untold (λ (x : Kept). x.reads) t (negsuc n) refl in let bad = sym none ∙ e in cc)
   table_agrees row all (pos n) v e = from (slice_index t.directory (n / 64)) refl
     where
@@ -75,13 +75,13 @@ module _ (t : Table) (ok : IsTable t) where
           ap (slice_get row) (sym (whole n s p at is)) ∙
           all s p (ok.slots (n / 64) s at) is (n % 64) v (mod_below n 64 (omega arith)) (sym (told_at (λ (x : Kept). x.reads) t (pos n) s p at is) ∙ e)
 
-  pub table_differs : (row : List ℤ) (s : ℕ) (p : Page) → s < t.used → slice_get t.pages s ≡ Some p → PageDiffers (kept_of p) row → Agrees (log_of t) row → ⊥
+  pub table_differs : (row : List ℤ) (s : ℕ) (p : Page) → s < t.used → slice_get t.pages s ≡ Some p → PageDiffers (kept_of p) row → Agrees (pages_log t) row → ⊥
   table_differs row s p used is d agrees =
       d.other (agrees (pos (p.number * 64 + d.place)) d.value (tells s p used is d.place d.within (λ (x : Kept). x.reads) ∙ d.read))
 
   -- ---- what was written
 
-  pub written_within : (old mid : List ℤ) → length mid ≡ length old → ((a : ℤ) → (log_of t).writes a ≢ None → IsTrue (is_cell old a)) → (s : ℕ) (p : Page) → s < t.used → slice_get t.pages s ≡ Some p →
+  pub written_within : (old mid : List ℤ) → length mid ≡ length old → ((a : ℤ) → (pages_log t).writes a ≢ None → IsTrue (is_cell old a)) → (s : ℕ) (p : Page) → s < t.used → slice_get t.pages s ≡ Some p →
       (k : ℕ) → k < 64 → (kept_of p).writes k ≢ None → p.number * 64 + k < length mid
   written_within old mid long inside s p used is k lt some =
       let there : IsTrue (nat_lt (p.number * 64 + k) (length old)) = inside (pos (p.number * 64 + k)) (λ e. some (sym (tells s p used is k lt (λ (x : Kept). x.writes)) ∙ e)) in
@@ -96,8 +96,8 @@ module _ (t : Table) (ok : IsTable t) where
     cells = λ n. elim (leb_tells (slice_index t.directory (n / 64)) 0) [
       | inl q ↦
           let none : slice_index t.directory (n / 64) ≡ 0 = let le = q.1 in omega (arith, le) in
-          sym (ap (λ (b : Bool). put_change (cond b ((log_of t).writes (pos n)) None) (slice_get row n)) q.0 ∙ ap (λ (u : Option Change). put_change u (slice_get row n)) (untold (λ (x : Kept). x.writes) t (pos n) none))
-      | inr q ↦ sym (ap (λ (b : Bool). put_change (cond b ((log_of t).writes (pos n)) None) (slice_get row n)) q.0)
+          sym (ap (λ (b : Bool). put_change (cond b ((pages_log t).writes (pos n)) None) (slice_get row n)) q.0 ∙ ap (λ (u : Option Change). put_change u (slice_get row n)) (untold (λ (x : Kept). x.writes) t (pos n) none))
+      | inr q ↦ sym (ap (λ (b : Bool). put_change (cond b ((pages_log t).writes (pos n)) None) (slice_get row n)) q.0)
     ];
   }
 
@@ -109,10 +109,10 @@ module _ (t : Table) (ok : IsTable t) where
         let lt = mod_below n 64 (omega arith) in
         let fresh : change_upto t i n ≡ None = elim (leb_tells (slice_index t.directory (n / 64)) i) [
           | inl q ↦ absurd (let le = q.1 in omega (arith, le, at))
-          | inr q ↦ ap (λ (b : Bool). cond b ((log_of t).writes (pos n)) None) q.0
+          | inr q ↦ ap (λ (b : Bool). cond b ((pages_log t).writes (pos n)) None) q.0
         ] in
         let whole_now : change_upto t (i + 1) n ≡ (kept_of p).writes (n % 64) = elim (leb_tells (slice_index t.directory (n / 64)) (i + 1)) [
-          | inl q ↦ ap (λ (b : Bool). cond b ((log_of t).writes (pos n)) None) q.0 ∙ told_at (λ (x : Kept). x.writes) t (pos n) i p at is
+          | inl q ↦ ap (λ (b : Bool). cond b ((pages_log t).writes (pos n)) None) q.0 ∙ told_at (λ (x : Kept). x.writes) t (pos n) i p at is
           | inr q ↦ absurd (let gt = q.1 in omega (arith, gt, at))
         ] in
         ap (slice_get new) (sym full) ∙ now.here (n % 64) lt ∙ ap (put_change ((kept_of p).writes (n % 64))) (ap (slice_get mid) full ∙ before.cells n ∙ ap (λ (u : Option Change). put_change u (slice_get old n)) fresh) ∙
@@ -131,7 +131,7 @@ module _ (t : Table) (ok : IsTable t) where
             | inr r ↦ q.0 ∙ sym r.0
           ]
         ] in
-        now.others n off ∙ before.cells n ∙ ap (λ (b : Bool). put_change (cond b ((log_of t).writes (pos n)) None) (slice_get old n)) same
+        now.others n off ∙ before.cells n ∙ ap (λ (b : Bool). put_change (cond b ((pages_log t).writes (pos n)) None) (slice_get old n)) same
 
     pub put_page : PutUpTo t old new (i + 1)
     put_page = record {
@@ -139,19 +139,19 @@ module _ (t : Table) (ok : IsTable t) where
       cells = λ n. elim (eqb_tells (n / 64) p.number) [ inl q ↦ in_page n q.1 | inr q ↦ elsewhere n q.1 ];
     }
 
-  pub put_pages : (old new : List ℤ) → PutUpTo t old new t.used → IsPutInto (log_of t) old new
+  pub put_pages : (old new : List ℤ) → PutUpTo t old new t.used → IsPutInto (pages_log t) old new
   put_pages old new all = record { long = all.long; cells = cell }
     where
-      cell : (a : ℤ) → cell_in new a ≡ put_change ((log_of t).writes a) (cell_in old a)
+      cell : (a : ℤ) → cell_in new a ≡ put_change ((pages_log t).writes a) (cell_in old a)
       cell (negsuc n) = sym (ap (λ (u : Option Change). put_change u None) (untold (λ (x : Kept). x.writes) t (negsuc n) refl))
       cell (pos n) = all.cells n ∙ ap (λ (u : Option Change). put_change u (slice_get old n)) (full (slice_index t.directory (n / 64)) refl)
         where
-          full : (j : ℕ) → slice_index t.directory (n / 64) ≡ j → change_upto t t.used n ≡ (log_of t).writes (pos n)
+          full : (j : ℕ) → slice_index t.directory (n / 64) ≡ j → change_upto t t.used n ≡ (pages_log t).writes (pos n)
           full zero at = elim (leb_tells (slice_index t.directory (n / 64)) t.used) [
-            | inl q ↦ ap (λ (b : Bool). cond b ((log_of t).writes (pos n)) None) q.0
+            | inl q ↦ ap (λ (b : Bool). cond b ((pages_log t).writes (pos n)) None) q.0
             | inr q ↦ absurd (let gt = q.1 in omega (arith, gt, at))
           ]
           full (suc s) at = elim (leb_tells (slice_index t.directory (n / 64)) t.used) [
-            | inl q ↦ ap (λ (b : Bool). cond b ((log_of t).writes (pos n)) None) q.0
+            | inl q ↦ ap (λ (b : Bool). cond b ((pages_log t).writes (pos n)) None) q.0
             | inr q ↦ absurd (let gt = q.1 in let lt = ok.slots (n / 64) s at in omega (arith, gt, at, lt))
           ]

@@ -10,12 +10,12 @@ use Rattle.frame_strand.specs.declared.cells.Change.{Change}
 use Rattle.frame_strand.specs.declared.cells.Change.TheVariants.{Stored, Delta}
 use Rattle.frame_strand.specs.declared.cells.CellStop.{CellStop}
 use Rattle.strand_pages.specs.Bits.{is_set}
-use Rattle.strand_pages.specs.Doing.{IsChanged, IsLoaded, may_hold}
+use Rattle.strand_pages.specs.Doing.{IsChanged, IsKept, IsLoaded, may_hold}
 use Rattle.strand_pages.specs.Known.{settled_change, value_of}
 use Rattle.strand_pages.specs.Logs.{Log, changed_log, loaded_log, place_of, value_at}
 use Rattle.strand_pages.specs.Pages.{Kept}
 use Rattle.strand_pages.specs.Paging.{kept_of, near_by, number_at, number_if}
-use Rattle.strand_pages.specs.Tables.{Table, entry_of, log_of, page_in, told_by}
+use Rattle.strand_pages.specs.Tables.{PageTable, Table, entry_of, log_of, page_in, pages_log, told_by}
 use Rattle.strand_pages.specs.declared.page.Page.{Page}
 use Rattle.strand_pages.proofs.Addresses.{address_tells}
 use Rattle.strand_pages.proofs.Keeping.{below_is}
@@ -29,7 +29,7 @@ read_page p k v e = from (is_set p.read k) refl e
     from true on h = ap (λ (t : Bool). number_if t (number_at p.values k)) (below_is k p.filled (p.read_near k on)) ∙ h
     from false on h = absurd cc
 
-pub table_sound : (t : Table) (a v : ℤ) → (log_of t).reads a ≡ Some v → (log_of t).near a ≡ Some v
+table_sound : (t : PageTable) (a v : ℤ) → (pages_log t).reads a ≡ Some v → (pages_log t).near a ≡ Some v
 table_sound t a v e = from (page_in t.pages (entry_of t.directory a)) e
   where
     from : (o : Option Page) → told_by (λ (x : Kept). x.reads) o (place_of a) ≡ Some v → told_by (λ (x : Kept). x.near) o (place_of a) ≡ Some v
@@ -69,7 +69,7 @@ changed_there x a u b off = elim (address_tells b a) [
 joined : (n y z : ℤ) → (n +ℤ y) +ℤ z ≡ n +ℤ (y +ℤ z)
 joined n y z = omega (arith, ints)
 
-sums_join : (n y z : ℤ) → cell_sum (cell_sum n y) z ≡ cell_sum n (cell_sum y z)
+pub sums_join : (n y z : ℤ) → cell_sum (cell_sum n y) z ≡ cell_sum n (cell_sum y z)
 sums_join n y z = int_wrap-add_left w64 (n +ℤ y) z ∙ (ap (λ x. int_wrap w64 x) (joined n y z) ∙ sym (int_wrap-add_right w64 n (y +ℤ z)))
 
 summed : (n : ℤ) (u : Option Change) (near read : Option ℤ) → ((v : ℤ) → read ≡ Some v → near ≡ Some v) → (z : ℤ) → ((v : ℤ) → value_of u near ≡ Some v → v ≡ z) →
@@ -96,8 +96,23 @@ module _ (x y : Table) where
   others_stay (Ok i) a u done same b z old off v h = old v (sym (changed_there (log_of x) a u b off) ∙ ap (λ (l : Log). value_at l b) (sym done.is) ∙ h)
   others_stay (Err s) a u done same b z old off v h = old v (ap (λ (t : Table). value_at (log_of t) b) (sym same) ∙ h)
 
-  pub added_here : (r : Result (Unit {0}) CellStop) (a n : ℤ) → OnOk r (IsChanged (log_of x) a (raised_change n ((log_of x).writes a) ((log_of x).reads a)) (log_of y)) →
+  -- what is kept of a cell changed, whatever became of its page
+  module _ (a : ℤ) (u : Change) (kept : IsKept (log_of x) a u (log_of y)) where
+    value_kept : (b : ℤ) → value_at (log_of y) b ≡ value_at (changed_log (log_of x) a u) b
+    value_kept b = λ i. value_of (kept.writes i b) (kept.near i b)
+
+    kept_here : value_at (log_of y) a ≡ value_of (Some u) ((log_of x).near a)
+    kept_here = value_kept a ∙ changed_here (log_of x) a u
+
+    kept_there : (b z : ℤ) → may_hold (log_of x) b z → b ≢ a → may_hold (log_of y) b z
+    kept_there b z old off v h = old v (sym (changed_there (log_of x) a u b off) ∙ sym (value_kept b) ∙ h)
+
+  pub others_kept : (r : Result (Unit {0}) CellStop) (a : ℤ) (u : Change) → OnOk r (IsKept (log_of x) a u (log_of y)) → OnErr r (y ≡ x) → (b z : ℤ) → may_hold (log_of x) b z → b ≢ a → may_hold (log_of y) b z
+  others_kept (Ok i) a u kept same b z old off v h = kept_there a u kept b z old off v h
+  others_kept (Err s) a u kept same b z old off v h = old v (ap (λ (t : Table). value_at (log_of t) b) (sym same) ∙ h)
+
+  pub added_here : (r : Result (Unit {0}) CellStop) (a n : ℤ) → OnOk r (IsKept (log_of x) a (raised_change n ((log_of x).writes a) ((log_of x).reads a)) (log_of y)) →
       OnOk r ((z : ℤ) → may_hold (log_of x) a z → may_hold (log_of y) a (cell_sum z n))
-  added_here (Ok i) a n done = λ z old v h. summed n ((log_of x).writes a) ((log_of x).near a) ((log_of x).reads a) (table_sound x a) z old v
-      (sym (changed_here (log_of x) a (raised_change n ((log_of x).writes a) ((log_of x).reads a))) ∙ ap (λ (l : Log). value_at l a) (sym done.is) ∙ h)
-  added_here (Err s) a n done = tt
+  added_here (Ok i) a n kept = λ z old v h. summed n ((log_of x).writes a) ((log_of x).near a) ((log_of x).reads a) (table_sound x.pages a) z old v
+      (sym (kept_here a (raised_change n ((log_of x).writes a) ((log_of x).reads a)) kept) ∙ h)
+  added_here (Err s) a n kept = tt

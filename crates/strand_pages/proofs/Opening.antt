@@ -3,7 +3,8 @@ use Rattle.std.proofs.Common.{◌≡◌, ◌∙◌, ℕ, ℤ, pos, negsuc, ◌/�
 use Rattle.std.proofs.lemmas.Bool.{and_parts}
 use Rattle.std.proofs.lemmas.Bool.Decides.{nat_tests}
 use Rattle.frame_strand.specs.declared.cells.Change.{Change}
-use Rattle.strand_pages.specs.Logs.{IsWider, Log, changed_log, has_place, is_open, with_page}
+use Rattle.strand_pages.specs.Doing.{IsKept}
+use Rattle.strand_pages.specs.Logs.{IsWider, Log, changed_log, has_place, is_open, with_change, with_page}
 use Rattle.strand_pages.specs.Tables.{Table, log_of}
 
 same_number : (n : ℕ) → nat_eq n n ≡ true
@@ -57,3 +58,13 @@ open_changed x a u b e = by b (still_open x a b e)
 pub reserved_wider : (r : Bool) (x y : Table) (a : ℤ) → (r ≡ true → log_of y ≡ with_page (log_of x) a) → (r ≡ false → y ≡ x) → IsWider (log_of x) (log_of y)
 reserved_wider true x y a put same = subst (IsWider (log_of x)) (sym (put refl)) (with_page_wider (log_of x) a)
 reserved_wider false x y a put same = subst (λ (t : Table). IsWider (log_of x) (log_of t)) (sym (same refl)) (same_wider (log_of x))
+
+open_put : (x : Log) (a : ℤ) (u : Change) (b : ℤ) → is_open (with_change x a u) b ≡ true → is_open (changed_log x a u) b ≡ true
+open_put x a u b e = open_changed x a u b (by b e)
+  where
+    by : (c : ℤ) → is_open (with_change x a u) c ≡ true → is_open x c ≡ true
+    by (pos m) h = h
+    by (negsuc m) h = h
+
+pub changed_kept : (x : Log) (a : ℤ) (u : Change) (after : Log) → after ≡ changed_log x a u → IsKept x a u after
+changed_kept x a u after is = subst (IsKept x a u) (sym is) (record { near = refl; reads = refl; writes = refl; in_use = λ b e. open_put x a u b e })

@@ -10,26 +10,26 @@ use Rattle.strand_pages.specs.Known.{at_address, at_place, first_of, read_after,
 use Rattle.strand_pages.specs.Logs.{Log, empty_log, has_place, loaded_log, place_of, same_page, value_at, with_change, with_page, with_values}
 use Rattle.strand_pages.specs.Pages.{Kept, blank_page, changed_page, filled_page, loaded_page}
 use Rattle.strand_pages.specs.Paging.{kept_of}
-use Rattle.strand_pages.specs.Tables.{IsTable, Table, entry_of, log_of, page_in, told, told_by}
+use Rattle.strand_pages.specs.Tables.{IsTable, PageTable, entry_of, pages_log, page_in, told, told_by}
 use Rattle.strand_pages.specs.declared.page.Page.{Page}
 use Rattle.strand_pages.proofs.Addresses.{address_tells, get_set_other, get_set_same, same_number}
 use Rattle.strand_pages.proofs.Keeping.{below_is, below_tells}
 
 -- ---- what a table tells
 
-pub told_at : {X : Type 0} (f : Kept → ℕ → Option X) (t : Table) (a : ℤ) (s : ℕ) (p : Page) → entry_of t.directory a ≡ suc s → slice_get t.pages s ≡ Some p → told f t a ≡ f (kept_of p) (place_of a)
+pub told_at : {X : Type 0} (f : Kept → ℕ → Option X) (t : PageTable) (a : ℤ) (s : ℕ) (p : Page) → entry_of t.directory a ≡ suc s → slice_get t.pages s ≡ Some p → told f t a ≡ f (kept_of p) (place_of a)
 told_at f t a s p at is = ap (λ (n : ℕ). told_by f (page_in t.pages n) (place_of a)) at ∙ ap (λ (o : Option Page). told_by f o (place_of a)) is
 
-pub untold : {X : Type 0} (f : Kept → ℕ → Option X) (t : Table) (a : ℤ) → entry_of t.directory a ≡ 0 → told f t a ≡ None
+pub untold : {X : Type 0} (f : Kept → ℕ → Option X) (t : PageTable) (a : ℤ) → entry_of t.directory a ≡ 0 → told f t a ≡ None
 untold f t a none = ap (λ (n : ℕ). told_by f (page_in t.pages n) (place_of a)) none
 
-abbrev near_told : Table → ℤ → Option ℤ
+abbrev near_told : PageTable → ℤ → Option ℤ
 near_told t = told (λ (x : Kept). x.near) t
 
-pub value_absent : (t : Table) (a : ℤ) → entry_of t.directory a ≡ 0 → value_at (log_of t) a ≡ None
+pub value_absent : (t : PageTable) (a : ℤ) → entry_of t.directory a ≡ 0 → value_at (pages_log t) a ≡ None
 value_absent t a none = λ i. value_of (untold (λ p. p.writes) t a none i) (untold (λ p. p.near) t a none i)
 
-pub place_there : (t : Table) (a : ℤ) (s : ℕ) → entry_of t.directory a ≡ suc s → has_place (log_of t) a ≡ true
+pub place_there : (t : PageTable) (a : ℤ) (s : ℕ) → entry_of t.directory a ≡ suc s → has_place (pages_log t) a ≡ true
 place_there t (negsuc n) s at = absurd cc
 place_there t (pos n) s at =
     let within : n / 64 < length t.directory = elim (below_tells (n / 64) (length t.directory)) [
@@ -38,20 +38,20 @@ place_there t (pos n) s at =
     ] in
     (λ i. below_is (n / 64) (length t.directory) within i && (nat_lt 0 (at i) || nat_lt t.used 512)) ∙ ap (λ (b : Bool). true && (b || nat_lt t.used 512)) (below_is 0 (suc s) (omega arith))
 
-pub slot_used : (t : Table) → IsTable t → (a : ℤ) (s : ℕ) → entry_of t.directory a ≡ suc s → s < t.used
+pub slot_used : (t : PageTable) → IsTable t → (a : ℤ) (s : ℕ) → entry_of t.directory a ≡ suc s → s < t.used
 slot_used t ok (pos n) s at = ok.slots (n / 64) s at
 slot_used t ok (negsuc n) s at = absurd cc
 
-pub slot_within : (t : Table) → IsTable t → (a : ℤ) (s : ℕ) → entry_of t.directory a ≡ suc s → s < length t.pages
+pub slot_within : (t : PageTable) → IsTable t → (a : ℤ) (s : ℕ) → entry_of t.directory a ≡ suc s → s < length t.pages
 slot_within t ok a s at = let lt = slot_used t ok a s at in let made = ok.made in omega (arith, lt, made)
 
 -- two cells with one slot and one place are one
-same_cell : (t : Table) → IsTable t → (a b : ℤ) (s : ℕ) (p : Page) → slice_get t.pages s ≡ Some p → entry_of t.directory a ≡ suc s → entry_of t.directory b ≡ suc s → place_of b ≡ place_of a → b ≡ a
+same_cell : (t : PageTable) → IsTable t → (a b : ℤ) (s : ℕ) (p : Page) → slice_get t.pages s ≡ Some p → entry_of t.directory a ≡ suc s → entry_of t.directory b ≡ suc s → place_of b ≡ place_of a → b ≡ a
 same_cell t ok (pos m) (pos n) s p is at also e = ap (λ (k : ℕ). pos k) (same_number m n (sym (ok.numbered (m / 64) s p at is) ∙ ok.numbered (n / 64) s p also is) e)
 same_cell t ok (pos m) (negsuc n) s p is at also e = absurd cc
 same_cell t ok (negsuc m) b s p is at also e = absurd cc
 
-same_page_tells : (t : Table) → IsTable t → (a b : ℤ) (s : ℕ) (p : Page) → slice_get t.pages s ≡ Some p → entry_of t.directory a ≡ suc s →
+same_page_tells : (t : PageTable) → IsTable t → (a b : ℤ) (s : ℕ) (p : Page) → slice_get t.pages s ≡ Some p → entry_of t.directory a ≡ suc s →
     ((same_page a b ≡ true) × (entry_of t.directory b ≡ suc s)) ⊎ ((same_page a b ≡ false) × (entry_of t.directory b ≢ suc s))
 same_page_tells t ok (pos m) (pos n) s p is at = elim (eqb_tells (n / 64) (m / 64)) [
   | inl q ↦ inl (q.0, ap (λ (k : ℕ). slice_index t.directory k) q.1 ∙ at)
@@ -68,8 +68,8 @@ index_within xs n s e = elim (below_tells n (length xs)) [
 
 -- ---- a page changes
 
-module _ (t : Table) (ok : IsTable t) (s : ℕ) (p q : Page) (is : slice_get t.pages s ≡ Some p) where
-  abbrev pub repaged : Table
+module _ (t : PageTable) (ok : IsTable t) (s : ℕ) (p q : Page) (is : slice_get t.pages s ≡ Some p) where
+  abbrev pub repaged : PageTable
   repaged = record t { pages = set t.pages s q }
 
   within : s < length t.pages
@@ -144,16 +144,16 @@ module _ (t : Table) (ok : IsTable t) (s : ℕ) (p q : Page) (is : slice_get t.p
     reads_at : told (λ (x : Kept). x.reads) t a ≡ (kept_of p).reads k
     reads_at = told_at (λ (x : Kept). x.reads) t a s p at is
 
-    pub value_here : value_of ((kept_of p).writes k) ((kept_of p).near k) ≡ value_at (log_of t) a
+    pub value_here : value_of ((kept_of p).writes k) ((kept_of p).near k) ≡ value_at (pages_log t) a
     value_here = sym (λ i. value_of (writes_at i) (near_at i))
 
-    pub raised_here : (n : ℤ) → raised_change n ((kept_of p).writes k) ((kept_of p).reads k) ≡ raised_change n ((log_of t).writes a) ((log_of t).reads a)
+    pub raised_here : (n : ℤ) → raised_change n ((kept_of p).writes k) ((kept_of p).reads k) ≡ raised_change n ((pages_log t).writes a) ((pages_log t).reads a)
     raised_here n = sym (λ i. raised_change n (writes_at i) (reads_at i))
 
     abbrev log_with : (ℤ → Option ℤ) → (ℤ → Option ℤ) → (ℤ → Option Change) → Log
-    log_with near reads writes = record (log_of t) { near = near; reads = reads; writes = writes }
+    log_with near reads writes = record (pages_log t) { near = near; reads = reads; writes = writes }
 
-    pub loaded_table : kept_of q ≡ loaded_page (kept_of p) k → IsTable repaged × (log_of repaged ≡ loaded_log (log_of t) a)
+    pub loaded_table : kept_of q ≡ loaded_page (kept_of p) k → IsTable repaged × (pages_log repaged ≡ loaded_log (pages_log t) a)
     loaded_table e = (
       kept (ap (λ (x : Kept). x.number) e),
       λ i. log_with
@@ -164,7 +164,7 @@ module _ (t : Table) (ok : IsTable t) (s : ℕ) (p q : Page) (is : slice_get t.p
           ap (λ o. at_address a o (told (λ (x : Kept). x.writes) t)) (sym (λ j. settled_change (writes_at j) (near_at j)))) i),
     )
 
-    pub changed_table : (u : Change) → kept_of q ≡ changed_page (kept_of p) k u → IsTable repaged × (log_of repaged ≡ with_change (log_of t) a u)
+    pub changed_table : (u : Change) → kept_of q ≡ changed_page (kept_of p) k u → IsTable repaged × (pages_log repaged ≡ with_change (pages_log t) a u)
     changed_table u e = (
       kept (ap (λ (x : Kept). x.number) e),
       λ i. log_with
@@ -173,7 +173,7 @@ module _ (t : Table) (ok : IsTable t) (s : ℕ) (p q : Page) (is : slice_get t.p
           (told_changed (λ (x : Kept). x.writes) (Some u) (ap (λ (x : Kept). x.writes) e) i),
     )
 
-    pub filled_table : (values : List ℤ) → kept_of q ≡ filled_page (kept_of p) values → IsTable repaged × (log_of repaged ≡ with_values (log_of t) a values)
+    pub filled_table : (values : List ℤ) → kept_of q ≡ filled_page (kept_of p) values → IsTable repaged × (pages_log repaged ≡ with_values (pages_log t) a values)
     filled_table values e = (
       kept (ap (λ (x : Kept). x.number) e),
       λ i. log_with
@@ -194,11 +194,11 @@ module _ (t : Table) (ok : IsTable t) (s : ℕ) (p q : Page) (is : slice_get t.p
 
 -- ---- a page is put into use
 
-module _ (t : Table) (ok : IsTable t) (n : ℕ) (room : t.used < 512) (inside : n / 64 < length t.directory) (free : slice_index t.directory (n / 64) ≡ 0)
+module _ (t : PageTable) (ok : IsTable t) (n : ℕ) (room : t.used < 512) (inside : n / 64 < length t.directory) (free : slice_index t.directory (n / 64) ≡ 0)
     (pages : List Page) (q : Page) (page_now : slice_get pages t.used ≡ Some q) (earlier : (j : ℕ) → j < t.used → slice_get pages j ≡ slice_get t.pages j) (blank : kept_of q ≡ blank_page (n / 64))
     (v u : ℕ) (entry : v ≡ suc t.used) (one_more : u ≡ suc t.used)
   where
-    abbrev pub opened : Table
+    abbrev pub opened : PageTable
     opened = record { directory = set t.directory (n / 64) v; pages = pages; used = u }
 
     entry_now : slice_index (set t.directory (n / 64) v) (n / 64) ≡ suc t.used
@@ -275,7 +275,7 @@ module _ (t : Table) (ok : IsTable t) (n : ℕ) (room : t.used < 512) (inside : 
       | inr h ↦ ap (λ (x : ℕ). nat_lt 0 x) (entry_else m h.1) ∙ sym (ap (λ (x : Bool). cond x true (nat_lt 0 (slice_index t.directory m))) h.0)
     ]
 
-    pub opened_log : log_of opened ≡ with_page (log_of t) (pos n)
+    pub opened_log : pages_log opened ≡ with_page (pages_log t) (pos n)
     opened_log = λ i. record {
       pages = length-set t.directory (n / 64) v i;
       used = (one_more ∙ sym (ap (λ (x : ℕ). cond (nat_lt 0 x) t.used (suc t.used)) free)) i;
@@ -286,11 +286,11 @@ module _ (t : Table) (ok : IsTable t) (n : ℕ) (room : t.used < 512) (inside : 
     }
 
 -- the page is in use already
-pub opened_before : (t : Table) (a : ℤ) (s : ℕ) → entry_of t.directory a ≡ suc s → log_of t ≡ with_page (log_of t) a
+pub opened_before : (t : PageTable) (a : ℤ) (s : ℕ) → entry_of t.directory a ≡ suc s → pages_log t ≡ with_page (pages_log t) a
 opened_before t (negsuc n) s at = absurd cc
 opened_before t (pos n) s at =
     let on : nat_lt 0 (slice_index t.directory (n / 64)) ≡ true = ap (λ (x : ℕ). nat_lt 0 x) at ∙ below_is 0 (suc s) (omega arith) in
-    λ i. record (log_of t) {
+    λ i. record (pages_log t) {
       used = sym (ap (λ (x : Bool). cond x t.used (suc t.used)) on) i;
       has_page = λ m. has_same on m i;
     }
@@ -307,7 +307,7 @@ pub zero_everywhere : (xs : List ℕ) → ((k : ℕ) → k < length xs → slice
 zero_everywhere xs all k = elim (below_tells k (length xs)) [ inl q ↦ all k q.1 | inr q ↦ get_or_past xs k 0 q.1 ]
 
 module _ (directory : List ℕ) (pages : List Page) (none : (n : ℕ) → slice_index directory n ≡ 0) where
-  abbrev pub unused : Table
+  abbrev pub unused : PageTable
   unused = record { directory = directory; pages = pages; used = 0 }
 
   pub unused_table : length directory ≤ 144115188075855872 → IsTable unused
@@ -324,7 +324,7 @@ module _ (directory : List ℕ) (pages : List Page) (none : (n : ℕ) → slice_
   none_for (pos n) = none (n / 64)
   none_for (negsuc n) = refl
 
-  pub unused_log : (count : ℕ) → length directory ≡ count → log_of unused ≡ empty_log count
+  pub unused_log : (count : ℕ) → length directory ≡ count → pages_log unused ≡ empty_log count
   unused_log count long = λ i. record {
     pages = long i;
     used = 0;
@@ -347,8 +347,8 @@ same_index old new kept added k = elim (below_tells k (length old)) [
   ]
 ]
 
-module _ (t : Table) (ok : IsTable t) (directory : List ℕ) (same : (n : ℕ) → slice_index directory n ≡ slice_index t.directory n) where
-  abbrev pub wider : Table
+module _ (t : PageTable) (ok : IsTable t) (directory : List ℕ) (same : (n : ℕ) → slice_index directory n ≡ slice_index t.directory n) where
+  abbrev pub wider : PageTable
   wider = record t { directory = directory }
 
   pub wider_table : length directory ≤ 144115188075855872 → IsTable wider
@@ -368,8 +368,8 @@ module _ (t : Table) (ok : IsTable t) (directory : List ℕ) (same : (n : ℕ) �
   same_told : {X : Type 0} (f : Kept → ℕ → Option X) (a : ℤ) → told f wider a ≡ told f t a
   same_told f a = ap (λ (e : ℕ). told_by f (page_in t.pages e) (place_of a)) (same_entry a)
 
-  pub wider_log : (count : ℕ) → length directory ≡ count → log_of wider ≡ record (log_of t) { pages = count }
-  wider_log count long = λ i. record (log_of t) {
+  pub wider_log : (count : ℕ) → length directory ≡ count → pages_log wider ≡ record (pages_log t) { pages = count }
+  wider_log count long = λ i. record (pages_log t) {
     pages = long i;
     has_page = λ n. nat_lt 0 (same n i);
     near = λ a. same_told (λ (x : Kept). x.near) a i;

@@ -1,15 +1,18 @@
 //! What a worker keeps of the cells that it read and wrote apart from the board, by pages of 64 cells.
 //!
-//! - `PageLog`: the pages in use, and a directory that leads from a cell's page to them. No call but `new` and `widen` takes memory.
+//! - `PageLog`: the pages in use (`Pages`, with a directory that leads from a cell's page to them), and a list of adds to cells far from one another.
+//!   No call but `new` and `widen` takes memory.
 //! - `page_around`: the cells of a page as the board has them.
 #![tactic(auto)]
 
 mod access;
+mod added;
 mod bits;
 mod log;
 mod page;
 mod row;
+mod table;
 
 pub use frame_strand::{CellStop, copy_frame};
-pub use log::{PAGES, PageLog};
+pub use log::PageLog;
 pub use row::page_around;

@@ -1,99 +1,44 @@
-ghost use Rattle.std.specs.Prelude.{◌≡◌, ◌≢◌, ◌<◌, ◌≤◌, ◌/◌, ℕ, ℤ, pos, suc, true, false, max, length, slice_get, slice_index, vec_capacity};
-ghost use Rattle.std.specs.Prelude.{IfErr, IfNone, IfOk, IfSome, IsTrue, None, OnErr, OnOk, OnSome, Some, ◌↔◌};
+ghost use Rattle.std.specs.Prelude.{◌≡◌, ◌≢◌, ◌≤◌, ℤ, true, false, max, length};
+ghost use Rattle.std.specs.Prelude.{IfErr, IfOk, IsTrue, OnErr, OnOk, None, Some, ◌↔◌};
 ghost use Rattle.frame_engine.specs.Flat.{is_cell};
 ghost use Rattle.frame_strand.specs.Buffers.{raised_change};
 ghost use Rattle.strand_pages.specs.Committing.{Agrees, IsPutInto};
-ghost use Rattle.strand_pages.specs.Doing.{IsChanged, IsLoaded, IsMissing, LacksPlace};
-ghost use Rattle.strand_pages.specs.Logs.{empty_log, filled_log, has_place, is_open, loaded_log, pages_of, place_of, value_at, with_change, with_page};
-ghost use Rattle.strand_pages.specs.Pages.{blank_page};
-ghost use Rattle.strand_pages.specs.Paging.{kept_of};
-ghost use Rattle.strand_pages.specs.Tables.{IsTable, entry_of, log_of};
-ghost use Rattle.strand_pages.specs.declared.page.Page.{Page};
+ghost use Rattle.strand_pages.specs.Doing.{IsChanged, IsKept, IsLoaded, IsMissing, LacksPlace};
+ghost use Rattle.strand_pages.specs.Logs.{empty_log, filled_log, has_place, is_open, pages_of, value_at, with_page};
+ghost use Rattle.strand_pages.specs.Tables.{log_of, pages_log};
 
-use crate::page::{CELLS, Page};
+use crate::added::AddList;
+use crate::page::CELLS;
+use crate::table::Pages;
 use frame_strand::{CellStop, Change};
 use lists::OutOfMemory;
 use std::alloc::Global;
 use std::marker::Model;
 
-/// The most pages in use.
-pub const PAGES: usize = 512;
+const REMAINDERS: usize = 256;
 
-/// The cells that a worker read and wrote, and those that it may yet read, in at most 512 pages. An address is the cell's index on the board.
+/// The cells that a worker read and wrote, and those that it may yet read. An address is the cell's index on the board.
 #[derive(Drop)]
 pub struct PageLog {
-    /// For each page of the board one more than its slot, or 0.
-    directory: Vec<u32>,
-    /// Those that were in use at some time. There is room for the most, so that one more takes no memory; what is never used is never touched.
-    pages: Vec<Page>,
-    used: usize,
+    pages: Pages,
+    /// Adds to cells whose pages were not in use then. A page takes those to its cells when it is put in use, and they count here no more.
+    list: AddList,
+    /// Of the pages with the same remainder the one that an add went to most lately: a page that is added to again soon is put in use.
+    lately: Vec<usize>,
+    /// Where the last add went.
+    last: u64,
 }
 
 impl Model for PageLog {
-    ghost use Rattle.std.specs.Prelude.{◌≤◌, vec_capacity};
-    ghost use Rattle.strand_pages.specs.Tables.{IsTable, Table};
-    ghost use Rattle.strand_pages.specs.Holding.{table_of};
+    ghost use Rattle.std.specs.Prelude.{◌≡◌, length};
+    ghost use Rattle.strand_pages.specs.Tables.{Table};
+    ghost use Rattle.strand_pages.specs.Listing.{table_of};
 
     ghost Value = { Table };
 
     ghost view = { table_of };
 
-    ghost invariant = { λ x. IsTable (table_of x) × (512 ≤ vec_capacity x.pages) };
-}
-
-/// What the directory says of the page that has the cell.
-#[inline(always)]
-fn entry(directory: &[u32], at: &i64) -> u32
-    requires { length directory.now ≤ 144115188075855872 }
-    ensures { result ≡ entry_of directory.now at.now }
-{
-    // An address below 0 is, without its sign, one past any directory.
-    let number = (at.cast_unsigned() / CELLS as u64) as usize;
-    directory.get(number).copied().unwrap_or(0)
-}
-
-/// The place of a cell in its page.
-#[inline(always)]
-fn place(at: &i64) -> usize
-    ensures is { result ≡ place_of at.now }
-    ensures within { result < 64 }
-{
-    (at.cast_unsigned() % CELLS as u64) as usize
-}
-
-/// No page stands in the directory any more.
-fn forget(directory: &mut [u32], pages: &[Page], used: usize)
-    requires { IsTable (record { directory = directory.old; pages = pages.now; used = used }) }
-    ensures long { length directory.new ≡ length directory.old }
-    ensures none { (n : ℕ) → slice_index directory.new n ≡ 0 }
-{
-    for slot in 0..used {
-        let number = pages[slot].number();
-        directory[number] = 0;
-    }
-}
-
-/// The pages of so many cells.
-fn page_count(cells: usize) -> usize
-    ensures { result ≡ pages_of cells }
-{
-    cells.min(i64::MAX as usize) / CELLS + 1
-}
-
-/// Keeps nothing of the page of this number, at the slot behind those in use.
-fn begin(pages: &mut Vec<Page>, slot: usize, number: usize)
-    requires next { slot ≤ length pages.old.items }
-    requires room { slot < vec_capacity pages.old }
-    ensures made { slot < length pages.new.items }
-    ensures blank { (page : Page) × (slice_get pages.new.items slot ≡ Some page) × (kept_of page ≡ blank_page number) }
-    ensures others { (other : ℕ) → other < slot → slice_get pages.new.items other ≡ slice_get pages.old.items other }
-    ensures room { vec_capacity pages.new ≡ vec_capacity pages.old }
-{
-    if slot < pages.len() {
-        pages[slot].restart(number);
-    } else {
-        pages.push_reserved(Page::new(number));
-    }
+    ghost invariant = { λ x. length x.lately.items ≡ 256 };
 }
 
 impl PageLog {
@@ -101,10 +46,13 @@ impl PageLog {
     pub fn new(alloc: Global) -> Result<PageLog, OutOfMemory>
         ensures { IfOk result (λ made. log_of made ≡ empty_log 0) }
     {
+        let mut lately = Vec::new(alloc);
+        lately.resize(REMAINDERS, usize::MAX)?;
         Ok(PageLog {
-            directory: Vec::new(alloc),
-            pages: Vec::with_capacity(alloc, PAGES)?,
-            used: 0,
+            pages: Pages::new(alloc)?,
+            list: AddList::new(alloc)?,
+            lately,
+            last: 0,
         })
     }
 
@@ -113,84 +61,15 @@ impl PageLog {
         ensures wide { OnOk result (log_of self.new ≡ record (log_of self.old) { pages = max (log_of self.old).pages (pages_of cells) }) }
         ensures refused { OnErr result (log_of self.new ≡ log_of self.old) }
     {
-        let count = page_count(cells);
-        if count > self.directory.len() {
-            self.directory.resize(count, 0)?;
-        }
-        Ok(())
+        self.pages.widen(cells)
     }
 
     /// Forgets all cells.
     pub fn clear(&mut self)
         ensures { log_of self.new ≡ empty_log (log_of self.old).pages }
     {
-        forget(
-            self.directory.as_mut_slice(),
-            self.pages.as_slice(),
-            self.used,
-        );
-        self.used = 0;
-    }
-
-    /// The number of the cell's page, which is not in use, where one more page may be.
-    fn next_page(&self, at: &i64) -> Option<usize>
-        requires { entry_of self.now.directory at.now ≡ 0 }
-        ensures some { IfSome result (λ number. (has_place (log_of self.now) at.now ≡ true) × (self.now.used < 512)) }
-        ensures number { IfSome result (λ number. (number < length self.now.directory) × ((n : ℕ) → at.now ≡ pos n → number ≡ n / 64)) }
-        ensures real { IfSome result (λ number. (n : ℕ) × (at.now ≡ pos n)) }
-        ensures none { IfNone result (has_place (log_of self.now) at.now ≡ false) }
-    {
-        if *at < 0 {
-            return None;
-        }
-        let number = *at as usize / CELLS;
-        if number >= self.directory.len() {
-            return None;
-        }
-        if self.used >= PAGES {
-            return None;
-        }
-        Some(number)
-    }
-
-    /// The slot of a page that is not in use, once it was put after those that are.
-    #[cold]
-    #[inline(never)]
-    fn open_next(&mut self, at: &i64) -> Option<usize>
-        requires { entry_of self.old.directory at.now ≡ 0 }
-        ensures found { IfSome result (λ slot. entry_of self.new.directory at.now ≡ suc slot) }
-        ensures place { OnSome result (has_place (log_of self.old) at.now ≡ true) }
-        ensures opened { OnSome result (log_of self.new ≡ with_page (log_of self.old) at.now) }
-        ensures none { IfNone result (has_place (log_of self.old) at.now ≡ false) }
-        ensures unchanged { IfNone result (self.new ≡ self.old) }
-    {
-        match self.next_page(at) {
-            Some(number) => {
-                let slot = self.used;
-                begin(&mut self.pages, slot, number);
-                self.directory[number] = slot as u32 + 1;
-                self.used = slot + 1;
-                Some(slot)
-            }
-            None => None,
-        }
-    }
-
-    /// The slot of the cell's page, which is put after those in use if it is not among them.
-    #[inline(always)]
-    fn open(&mut self, at: &i64) -> Option<usize>
-        ensures found { IfSome result (λ slot. entry_of self.new.directory at.now ≡ suc slot) }
-        ensures place { OnSome result (has_place (log_of self.old) at.now ≡ true) }
-        ensures opened { OnSome result (log_of self.new ≡ with_page (log_of self.old) at.now) }
-        ensures none { IfNone result (has_place (log_of self.old) at.now ≡ false) }
-        ensures unchanged { IfNone result (self.new ≡ self.old) }
-    {
-        let entry = entry(self.directory.as_slice(), at);
-        if entry > 0 {
-            Some(entry as usize - 1)
-        } else {
-            self.open_next(at)
-        }
+        self.pages.clear();
+        self.list.clear();
     }
 
     /// Puts the cell's page in use, if that may be; whether it is.
@@ -200,34 +79,14 @@ impl PageLog {
         ensures none { result ≡ false → has_place (log_of self.old) at.now ≡ false }
         ensures unchanged { result ≡ false → self.new ≡ self.old }
     {
-        match self.open(at) {
-            Some(_) => true,
-            None => false,
+        if self.pages.has_page(at) {
+            return true;
         }
-    }
-
-    /// What a cell in a page in use holds, if that is at hand.
-    #[inline(always)]
-    fn load_from(&mut self, slot: usize, at: &i64) -> Option<i64>
-        requires { entry_of self.old.directory at.now ≡ suc slot }
-        ensures value { result ≡ value_at (log_of self.old) at.now }
-        ensures done { log_of self.new ≡ loaded_log (log_of self.old) at.now }
-        ensures unchanged { IfNone result (self.new ≡ self.old) }
-    {
-        self.pages[slot].load(place(at))
-    }
-
-    /// Why a cell whose page is not in use cannot be loaded.
-    #[cold]
-    #[inline(never)]
-    fn missing(&self, at: &i64) -> CellStop
-        requires { entry_of self.now.directory at.now ≡ 0 }
-        ensures { IsMissing (log_of self.now) at.now result }
-    {
-        match self.next_page(at) {
-            Some(_) => CellStop::Need { at: *at },
-            None => CellStop::Full,
+        if !self.pages.reserve(at) {
+            return false;
         }
+        self.list.give(&mut self.pages, at);
+        true
     }
 
     /// What the cell holds, if that is at hand.
@@ -238,41 +97,22 @@ impl PageLog {
         ensures refused { IfErr result (λ stop. IsMissing (log_of self.old) at.now stop) }
         ensures unchanged { OnErr result (self.new ≡ self.old) }
     {
-        let entry = entry(self.directory.as_slice(), at);
-        if entry == 0 {
-            return Err(self.missing(at));
-        }
-        match self.load_from(entry as usize - 1, at) {
-            Some(number) => Ok(number),
-            None => Err(CellStop::Need { at: *at }),
-        }
+        self.pages.load_at(at)
     }
 
-    /// The cell in a page in use is to hold the number.
-    #[inline(always)]
-    fn store_in(&mut self, slot: usize, at: &i64, number: &i64)
-        requires { entry_of self.old.directory at.now ≡ suc slot }
-        ensures { log_of self.new ≡ with_change (log_of self.old) at.now (Change.Stored number.now) }
-    {
-        self.pages[slot].store(place(at), number);
-    }
-
-    /// The cell, whose page is not in use, is to hold the number.
+    /// The cell, whose page may not be in use, is to hold the number.
     #[cold]
     #[inline(never)]
     fn store_first(&mut self, at: &i64, number: &i64) -> Result<(), CellStop>
-        requires { entry_of self.old.directory at.now ≡ 0 }
         ensures done { OnOk result (IsChanged (log_of self.old) at.now (Change.Stored number.now) (log_of self.new)) }
         ensures refused { IfErr result (λ stop. LacksPlace (log_of self.old) at.now stop) }
         ensures unchanged { OnErr result (self.new ≡ self.old) }
     {
-        match self.open_next(at) {
-            Some(slot) => {
-                self.store_in(slot, at, number);
-                Ok(())
-            }
-            None => Err(CellStop::Full),
+        if !self.reserve(at) {
+            return Err(CellStop::Full);
         }
+        self.pages.store_at(at, number);
+        Ok(())
     }
 
     /// The cell is to hold the number.
@@ -282,39 +122,71 @@ impl PageLog {
         ensures refused { IfErr result (λ stop. LacksPlace (log_of self.old) at.now stop) }
         ensures unchanged { OnErr result (self.new ≡ self.old) }
     {
-        let entry = entry(self.directory.as_slice(), at);
-        if entry == 0 {
-            return self.store_first(at, number);
+        if self.pages.store_at(at, number) {
+            return Ok(());
         }
-        self.store_in(entry as usize - 1, at, number);
-        Ok(())
+        self.store_first(at, number)
     }
 
-    /// The number is added to what a cell in a page in use holds.
-    #[inline(always)]
-    fn add_in(&mut self, slot: usize, at: &i64, number: &i64)
-        requires { entry_of self.old.directory at.now ≡ suc slot }
-        ensures { log_of self.new ≡ with_change (log_of self.old) at.now
-            (raised_change number.now ((log_of self.old).writes at.now) ((log_of self.old).reads at.now)) }
+    /// Whether the add before went far from this cell, and none lately to its page.
+    fn is_far(&mut self, at: &i64) -> bool
+        ensures { self.new ≡ self.old }
     {
-        self.pages[slot].add(place(at), number);
+        let address = at.cast_unsigned();
+        let number = address as usize / CELLS;
+        let place = number % REMAINDERS;
+        let far = self.lately[place] != number && address.abs_diff(self.last) >= CELLS as u64;
+        self.lately[place] = number;
+        self.last = address;
+        far
+    }
+
+    /// Puts the number to be added into the list, if there is room; whether there is.
+    fn put_aside(&mut self, at: &i64, number: &i64) -> bool
+        requires { is_open (pages_log self.old.pages) at.now ≡ false }
+        ensures done { result ≡ true → IsKept (log_of self.old) at.now
+            (raised_change number.now ((log_of self.old).writes at.now) ((log_of self.old).reads at.now)) (log_of self.new) }
+        ensures unchanged { result ≡ false → self.new ≡ self.old }
+    {
+        self.list.push(at, number)
+    }
+
+    /// The number is added to what the cell holds, whose page is not in use.
+    #[cold]
+    #[inline(never)]
+    fn add_first(&mut self, at: &i64, number: &i64) -> Result<(), CellStop>
+        requires { is_open (pages_log self.old.pages) at.now ≡ false }
+        ensures done { OnOk result (IsKept (log_of self.old) at.now
+            (raised_change number.now ((log_of self.old).writes at.now) ((log_of self.old).reads at.now)) (log_of self.new)) }
+        ensures refused { IfErr result (λ stop. LacksPlace (log_of self.old) at.now stop) }
+        ensures unchanged { OnErr result (self.new ≡ self.old) }
+    {
+        if self.is_far(at) && self.put_aside(at, number) {
+            return Ok(());
+        }
+        if self.reserve(at) {
+            self.pages.add_at(at, number);
+            return Ok(());
+        }
+        if self.put_aside(at, number) {
+            return Ok(());
+        }
+        Err(CellStop::Full)
     }
 
     /// The number is added to what the cell holds.
     #[inline(always)]
     pub(crate) fn add_at(&mut self, at: &i64, number: &i64) -> Result<(), CellStop>
-        ensures done { OnOk result (IsChanged (log_of self.old) at.now
+        ensures done { OnOk result (IsKept (log_of self.old) at.now
             (raised_change number.now ((log_of self.old).writes at.now) ((log_of self.old).reads at.now)) (log_of self.new)) }
         ensures refused { IfErr result (λ stop. LacksPlace (log_of self.old) at.now stop) }
         ensures unchanged { OnErr result (self.new ≡ self.old) }
     {
-        match self.open(at) {
-            Some(slot) => {
-                self.add_in(slot, at, number);
-                Ok(())
-            }
-            None => Err(CellStop::Full),
+        if self.pages.add_at(at, number) {
+            self.last = at.cast_unsigned();
+            return Ok(());
         }
+        self.add_first(at, number)
     }
 
     /// The cells of the address's page hold these values, from its first cell on, if it is or may be in use; whether it is.
@@ -324,13 +196,11 @@ impl PageLog {
         ensures none { result ≡ false → has_place (log_of self.old) at.now ≡ false }
         ensures unchanged { result ≡ false → self.new ≡ self.old }
     {
-        match self.open(at) {
-            Some(slot) => {
-                self.pages[slot].fill(values);
-                true
-            }
-            None => false,
+        if !self.reserve(at) {
+            return false;
         }
+        self.pages.fill(at, values);
+        true
     }
 
     /// The cells of the address's page hold these values, from its first cell on; the last page may have fewer than 64.
@@ -348,26 +218,21 @@ impl PageLog {
         ensures filled { result ≡ true → log_of self.new ≡ filled_log (log_of self.old) at.now values.now }
         ensures unchanged { result ≡ false → self.new ≡ self.old }
     {
-        self.used < PAGES / 2 && self.fill_page(at, values)
+        self.pages.has_half() && self.fill_page(at, values)
     }
 
     /// Whether the cell's page is in use.
     pub fn has_page(&self, at: &i64) -> bool
         ensures { result ≡ is_open (log_of self.now) at.now }
     {
-        entry(self.directory.as_slice(), at) > 0
+        self.pages.has_page(at)
     }
 
     /// Whether the row of the board's cells holds what was read of it.
     pub fn reads_agree(&self, row: &[i64]) -> bool
         ensures { IsTrue result ↔ Agrees (log_of self.now) row.now }
     {
-        for slot in 0..self.used {
-            if !self.pages[slot].agrees(row) {
-                return false;
-            }
-        }
-        true
+        self.pages.reads_agree(row)
     }
 
     /// Puts what was written into the row of the board's cells.
@@ -375,8 +240,7 @@ impl PageLog {
         requires { (a : ℤ) → (log_of self.now).writes a ≢ None → IsTrue (is_cell row.old a) }
         ensures { IsPutInto (log_of self.now) row.old row.new }
     {
-        for slot in 0..self.used {
-            self.pages[slot].write_into(row);
-        }
+        self.pages.write_into(row);
+        self.list.write_into(&self.pages, row);
     }
 }

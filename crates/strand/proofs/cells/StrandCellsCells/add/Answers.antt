@@ -6,11 +6,11 @@ use mir.Val.{to_z, of_z}
 use Rattle.semantics.specs.Arithmetic.{cell_sum}
 use Rattle.frame_engine.specs.Access.{Adds}
 use Rattle.strand.specs.frame_strand.declared.cells.CellStop.{CellStop}
-use Rattle.strand_pages.specs.Accessing.{CellHolds}
+use Rattle.strand_pages.specs.Accessing.{CellHolds, TableDoes}
 use Rattle.strand_pages.specs.Tables.{Table}
-use Rattle.strand.specs.OwnCells.{IsOwnPut, may_be, own_cell}
+use Rattle.strand.specs.OwnCells.{CellsDo, IsOwnPut, may_be, own_cell}
 use Rattle.strand.specs.declared.cells.StrandCells.{StrandCells}
-use Rattle.strand.proofs.Putting.{log_holds, log_others, log_value, own_does, own_place, own_put, own_sum, put_others}
+use Rattle.strand.proofs.Putting.{log_does, log_holds, log_others, log_value, own_does, own_place, own_put, own_sum, put_others}
 use Rattle.strand.proofs.cells.StrandCellsCells.add.Goals as goal
 
 abbrev after : goal.After-self-1 → StrandCells
@@ -55,3 +55,13 @@ returns-in-None-clause-here c =
 
 pub returns-in-None-clause-others : goal.returns-in-None-clause-others
 returns-in-None-clause-others c = λ a z may other. log_others c.args.self.now c.add.new.self a z (λ h. c.add.ensures.others a z h (subst (λ (y : ℤ). a ≢ y) (sym (to_z-of_z w64 c.args.at c.ranges.at)) other)) may
+
+does : (x : StrandCells) (b : Table) (a z : ℤ) {T : Type 0} (r : Result T CellStop) → own_cell x a ≡ None → OnOk r (TableDoes x.log (Adds a z) b) → OnOk r (CellsDo x (Adds a z) (record x { log = b }))
+does x b a z (Ok t) none is = log_does x b (Adds a z) none is
+does x b a z (Err e) none is = tt
+
+pub returns-in-None-clause-does : goal.returns-in-None-clause-does
+returns-in-None-clause-does c =
+    subst (λ (z : ℤ). OnOk c.add.result (CellsDo c.args.self.now (Adds c.args.at z) (record c.args.self.now { log = c.add.new.self }))) (to_z-of_z w64 c.args.number c.ranges.number)
+    (subst (λ (a : ℤ). OnOk c.add.result (CellsDo c.args.self.now (Adds a (to_z w64 (of_z w64 c.args.number))) (record c.args.self.now { log = c.add.new.self }))) (to_z-of_z w64 c.args.at c.ranges.at)
+    (does c.args.self.now c.add.new.self (to_z w64 (of_z w64 c.args.at)) (to_z w64 (of_z w64 c.args.number)) c.add.result c.in-None.ensures.absent c.add.ensures.does))

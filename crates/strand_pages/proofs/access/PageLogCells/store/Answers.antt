@@ -13,6 +13,9 @@ done c =
     subst (λ (z : ℤ). OnOk c.store_at.result (IsChanged (log_of c.args.self.now) z (Stored c.args.number) (log_of c.store_at.new.self))) (to_z-of_z w64 c.args.at c.ranges.at)
     (subst (λ (z : ℤ). OnOk c.store_at.result (IsChanged (log_of c.args.self.now) (to_z w64 (of_z w64 c.args.at)) (Stored z) (log_of c.store_at.new.self))) (to_z-of_z w64 c.args.number c.ranges.number) c.store_at.ensures.done)
 
+pub returns-clause-does : goal.returns-clause-does
+returns-clause-does c = done c
+
 pub returns-clause-here : goal.returns-clause-here
 returns-clause-here c = stored_here c.args.self.now c.store_at.new.self c.store_at.result c.args.at c.args.number (done c)
 
