@@ -25,6 +25,14 @@ pub struct World<'a> {
     pub named: &'a [NamedGlobals],
 }
 
+/// What the blocks of a function are judged against.
+#[derive(Clone, Copy)]
+pub struct FunctionContext<'a> {
+    pub world: World<'a>,
+    pub scope: &'a Scope,
+    pub result_type: ResultType,
+}
+
 /// A call as the text writes it.
 #[derive(Clone, Copy)]
 pub struct CallText<'a> {
@@ -289,19 +297,18 @@ fn pass(
 /// A call of a known function from the one at `caller`.
 fn resolve_known(
     alloc: Global,
-    world: &World,
-    scope: &Scope,
+    context: &FunctionContext,
     caller: usize,
     call: &CallText,
     id: FunctionId,
     callee: &Function,
 ) -> Result<ResolvedCall, Refused>
     ensures { Gives result
-        (spec.known_call world.now.items.now world.now.named.now scope.now caller
+        (spec.known_call context.now.world.items.now context.now.world.named.now context.now.scope.now caller
         call.now.line call.now.has_result id callee.now call.now.arguments.now) }
 {
-    let arguments = fitting_arguments(alloc, world.items, scope, call, callee)?;
-    told(pass(world.named, caller, call.line, id, arguments))
+    let arguments = fitting_arguments(alloc, context.world.items, context.scope, call, callee)?;
+    told(pass(context.world.named, caller, call.line, id, arguments))
 }
 
 /// A call whose callee is none: its arguments are judged all the same.
@@ -326,20 +333,21 @@ fn refuse_call(
 /// A call from the function at `caller`.
 pub fn resolve_call(
     alloc: Global,
-    world: &World,
-    scope: &Scope,
+    context: &FunctionContext,
     caller: usize,
     call: &CallText,
 ) -> Result<ResolvedCall, Refused>
     ensures { Gives result
-        (spec.call_of world.now.items.now world.now.functions.now world.now.named.now scope.now caller
+        (spec.call_of context.now.world.items.now context.now.world.functions.now context.now.world.named.now
+        context.now.scope.now caller
         call.now.line call.now.has_result call.now.callee.now call.now.arguments.now) }
 {
+    let world = context.world;
     match resolve_function(world.items, call.line, call.callee) {
-        Err(fault) => refuse_call(alloc, world.items, scope, call, fault),
+        Err(fault) => refuse_call(alloc, world.items, context.scope, call, fault),
         Ok(id) => match world.functions.get(id.0) {
             None => told(Err(unknown_name(call.line))),
-            Some(callee) => resolve_known(alloc, world, scope, caller, call, id, callee),
+            Some(callee) => resolve_known(alloc, context, caller, call, id, callee),
         },
     }
 }

@@ -6,7 +6,7 @@ ghost use Rattle.types.specs.names.Told.{Gives};
 ghost use Rattle.types.specs.Function as spec;
 
 use crate::block::resolve_blocks;
-use crate::call::{World, parameter_of};
+use crate::call::{FunctionContext, World, parameter_of};
 use crate::names::{
     AnnotationPlace, Layout, Refused, Scope, both_answers, joined, resolve_first_zones,
     resolve_inequalities, resolve_measure, resolve_zones,
@@ -130,8 +130,13 @@ fn resolve_function(
     let layout = Layout::of(alloc, state, function)?;
     let result_type = function.result_type;
     let head = resolve_head(alloc, world, &layout, result_type, &function.notes);
+    let context = FunctionContext {
+        world: *world,
+        scope: &layout.scope,
+        result_type,
+    };
     let blocks = function.blocks.as_slice();
-    let blocks = resolve_blocks(alloc, world, &layout.scope, place, result_type, blocks);
+    let blocks = resolve_blocks(alloc, &context, place, blocks);
     let signature = signature_of(alloc, function);
     let ((head, blocks), (name, parameters)) = both_answers(both_answers(head, blocks), signature)?;
     Ok(Function {

@@ -5,7 +5,7 @@ ghost use Rattle.types.specs.names.Told.{Gives};
 ghost use Rattle.program.specs.Widths.{source_width};
 ghost use Rattle.types.specs.Instruction as spec;
 
-use crate::call::{CallText, World, resolve_call};
+use crate::call::{CallText, FunctionContext, World, resolve_call};
 use crate::names::{
     AnnotationPlace, Holding, Refused, Scope, TypeFault, both, both_answers, joined,
     pointer_misuse, resolve_address, resolve_inequalities, resolve_label, resolve_object,
@@ -25,6 +25,14 @@ pub struct Spot {
     pub function: usize,
     pub block: usize,
     pub line: u32,
+}
+
+/// The two operands of an instruction, which are of one width.
+#[derive(Clone, Copy)]
+struct OperandPair<'a> {
+    width: Width,
+    left: &'a syntax::Operand,
+    right: &'a syntax::Operand,
 }
 
 /// The register that an instruction defines.
@@ -97,15 +105,14 @@ fn resolve_binary(
     line: u32,
     register: &Name,
     operator: BinaryOperator,
-    width: Width,
-    left: &syntax::Operand,
-    right: &syntax::Operand,
+    operands: &OperandPair,
 ) -> Result<Instruction, TypeFault>
-    ensures { result ≡ spec.binary_of scope.now line register.now operator width left.now right.now }
+    ensures { result ≡ spec.binary_of scope.now line register.now operator operands.now.width operands.now.left.now operands.now.right.now }
 {
+    let width = operands.width;
     let register = defined_register(scope, line, register);
-    let left = resolve_operand(scope, line, width, left);
-    let right = resolve_operand(scope, line, width, right);
+    let left = resolve_operand(scope, line, width, operands.left);
+    let right = resolve_operand(scope, line, width, operands.right);
     let (register, (left, right)) = both(register, both(left, right))?;
     Ok(Instruction::Binary {
         register,
@@ -121,15 +128,14 @@ fn resolve_compare(
     line: u32,
     register: &Name,
     predicate: Predicate,
-    width: Width,
-    left: &syntax::Operand,
-    right: &syntax::Operand,
+    operands: &OperandPair,
 ) -> Result<Instruction, TypeFault>
-    ensures { result ≡ spec.compare_of scope.now line register.now predicate width left.now right.now }
+    ensures { result ≡ spec.compare_of scope.now line register.now predicate operands.now.width operands.now.left.now operands.now.right.now }
 {
+    let width = operands.width;
     let register = defined_register(scope, line, register);
-    let left = resolve_operand(scope, line, width, left);
-    let right = resolve_operand(scope, line, width, right);
+    let left = resolve_operand(scope, line, width, operands.left);
+    let right = resolve_operand(scope, line, width, operands.right);
     let (register, (left, right)) = both(register, both(left, right))?;
     Ok(Instruction::Compare {
         register,
@@ -299,16 +305,15 @@ fn call_register(
 
 fn resolve_call_step(
     alloc: Global,
-    world: &World,
-    scope: &Scope,
+    context: &FunctionContext,
     spot: Spot,
     register: &Option<Name>,
     callee: &Name,
     arguments: &Seq<syntax::Argument>,
 ) -> Result<Instruction, Refused>
     ensures { Gives result
-        (spec.call_step_of world.now.items.now world.now.functions.now world.now.named.now scope.now
-        spot.function spot.line register.now callee.now arguments.now) }
+        (spec.call_step_of context.now.world.items.now context.now.world.functions.now context.now.world.named.now
+        context.now.scope.now spot.function spot.line register.now callee.now arguments.now) }
 {
     let line = spot.line;
     let text = CallText {
@@ -317,8 +322,8 @@ fn resolve_call_step(
         callee,
         arguments: arguments.as_slice(),
     };
-    let register = told(call_register(scope, line, register));
-    let call = resolve_call(alloc, world, scope, spot.function, &text);
+    let register = told(call_register(context.scope, line, register));
+    let call = resolve_call(alloc, context, spot.function, &text);
     let (register, call) = both_answers(register, call)?;
     Ok(Instruction::Call {
         register,
@@ -336,13 +341,16 @@ fn resolve_region_start(scope: &Scope, line: u32, register: &Name) -> Result<Ins
 
 fn resolve_instruction(
     alloc: Global,
-    world: &World,
-    scope: &Scope,
+    context: &FunctionContext,
     spot: Spot,
     instruction: &Text,
 ) -> Result<Instruction, Refused>
-    ensures { Gives result (spec.instruction_of world.now.items.now world.now.functions.now world.now.named.now scope.now spot instruction.now) }
+    ensures { Gives result
+        (spec.instruction_of context.now.world.items.now context.now.world.functions.now context.now.world.named.now
+        context.now.scope.now spot instruction.now) }
 {
+    let world = &context.world;
+    let scope = context.scope;
     let line = spot.line;
     match instruction {
         Text::Binary {
@@ -351,14 +359,28 @@ fn resolve_instruction(
             width,
             left,
             right,
-        } => told(resolve_binary(scope, line, register, *operator, *width, left, right)),
+        } => {
+            let operands = OperandPair {
+                width: *width,
+                left,
+                right,
+            };
+            told(resolve_binary(scope, line, register, *operator, &operands))
+        }
         Text::Compare {
             register,
             predicate,
             width,
             left,
             right,
-        } => told(resolve_compare(scope, line, register, *predicate, *width, left, right)),
+        } => {
+            let operands = OperandPair {
+                width: *width,
+                left,
+                right,
+            };
+            told(resolve_compare(scope, line, register, *predicate, &operands))
+        }
         Text::Convert {
             register,
             conversion,
@@ -382,20 +404,21 @@ fn resolve_instruction(
             register,
             callee,
             arguments,
-        } => resolve_call_step(alloc, world, scope, spot, register, callee, arguments),
+        } => resolve_call_step(alloc, context, spot, register, callee, arguments),
         Text::StartRegion { register } => told(resolve_region_start(scope, line, register)),
     }
 }
 
 fn resolve_step(
     alloc: Global,
-    world: &World,
-    scope: &Scope,
+    context: &FunctionContext,
     function: usize,
     block: usize,
     step: &syntax::Step,
 ) -> Result<Step, Refused>
-    ensures { Gives result (spec.step_of world.now.items.now world.now.functions.now world.now.named.now scope.now function block step.now) }
+    ensures { Gives result
+        (spec.step_of context.now.world.items.now context.now.world.functions.now context.now.world.named.now
+        context.now.scope.now function block step.now) }
 {
     let line = step.line;
     let spot = Spot {
@@ -403,8 +426,9 @@ fn resolve_step(
         block,
         line,
     };
-    let shows = resolve_inequalities(alloc, scope, AnnotationPlace::Body, step.shows.as_slice());
-    let instruction = resolve_instruction(alloc, world, scope, spot, &step.instruction);
+    let shows = step.shows.as_slice();
+    let shows = resolve_inequalities(alloc, context.scope, AnnotationPlace::Body, shows);
+    let instruction = resolve_instruction(alloc, context, spot, &step.instruction);
     let (shows, instruction) = both_answers(shows, instruction)?;
     Ok(Step {
         line,
@@ -416,19 +440,20 @@ fn resolve_step(
 /// The instructions of a block that are neither phis nor its terminator.
 pub fn resolve_steps(
     alloc: Global,
-    world: &World,
-    scope: &Scope,
+    context: &FunctionContext,
     function: usize,
     block: usize,
     steps: &[syntax::Step],
 ) -> Result<Seq<Step>, Refused>
-    ensures { Gives result (spec.steps_of world.now.items.now world.now.functions.now world.now.named.now scope.now function block steps.now) }
+    ensures { Gives result
+        (spec.steps_of context.now.world.items.now context.now.world.functions.now context.now.world.named.now
+        context.now.scope.now function block steps.now) }
 {
     let mut resolved = Ok(Seq::new(alloc));
     for step in steps {
         resolved = joined(
             resolved,
-            resolve_step(alloc, world, scope, function, block, step),
+            resolve_step(alloc, context, function, block, step),
         );
     }
     resolved

@@ -14,6 +14,15 @@ use program::{Case, Ending, Terminator, Width};
 use std::alloc::Global;
 use syntax::ResultType;
 
+/// A switch as the text writes it.
+#[derive(Clone, Copy)]
+struct SwitchText<'a> {
+    width: Width,
+    value: &'a syntax::Operand,
+    default: &'a Name,
+    cases: &'a [syntax::Case],
+}
+
 fn resolve_branch(
     scope: &Scope,
     line: u32,
@@ -68,16 +77,14 @@ fn resolve_switch(
     alloc: Global,
     scope: &Scope,
     line: u32,
-    width: Width,
-    value: &syntax::Operand,
-    default: &Name,
-    cases: &[syntax::Case],
+    text: &SwitchText,
 ) -> Result<Terminator, Refused>
-    ensures { Gives result (spec.switch_of scope.now line width value.now default.now cases.now) }
+    ensures { Gives result (spec.switch_of scope.now line text.now.width text.now.value.now text.now.default.now text.now.cases.now) }
 {
-    let value = told(resolve_operand(scope, line, width, value));
-    let default = told(resolve_label(scope, line, default));
-    let cases = resolve_cases(alloc, scope, line, width, cases);
+    let width = text.width;
+    let value = told(resolve_operand(scope, line, width, text.value));
+    let default = told(resolve_label(scope, line, text.default));
+    let cases = resolve_cases(alloc, scope, line, width, text.cases);
     let (value, (default, cases)) = both_answers(value, both_answers(default, cases))?;
     Ok(Terminator::Switch {
         width,
@@ -190,7 +197,15 @@ fn resolve_terminator(
             value,
             default,
             cases,
-        } => resolve_switch(alloc, scope, line, *width, value, default, cases.as_slice()),
+        } => {
+            let text = SwitchText {
+                width: *width,
+                value,
+                default,
+                cases: cases.as_slice(),
+            };
+            resolve_switch(alloc, scope, line, &text)
+        }
         syntax::Terminator::Return { value } => told(resolve_return(
             scope,
             line,

@@ -4,4 +4,4 @@ use Rattle.types.specs.Block as spec
 use Rattle.types.proofs.block.resolve_blocks.Given as goal
 
 abbrev pub invariant-loop-place : goal.invariant-loop-place
-invariant-loop-place l = Gives l.resolved (spec.blocks_of l.world.items.now l.world.functions.now l.world.named.now l.scope l.function l.result_type (take l.place l.blocks))
+invariant-loop-place l = Gives l.resolved (spec.blocks_of l.context.world.items.now l.context.world.functions.now l.context.world.named.now l.context.scope.now l.function l.context.result_type (take l.place l.blocks))

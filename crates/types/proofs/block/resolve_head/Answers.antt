@@ -10,8 +10,8 @@ pub returns-in_err-keeps : goal.returns-in_err-keeps
 returns-in_err-keeps c =
     let p = err_from_is_err_and c.from_residual.result c.from_residual.ensures.1 in
     rw (p.1, p.2) (bad_made _ c.both_answers-3.result _ c.in_err-keeps.field-0.0 c.in_err-keeps.was (
-    let items = c.args.world.now.items.now in
-    let scope = c.args.scope.now in
+    let items = c.args.context.now.world.items.now in
+    let scope = c.args.context.now.scope.now in
     let block = c.args.block in
     four_give _ _ _ _ _ _ _ _ c.both_answers.result c.both_answers-2.result c.both_answers-3.result c.both_answers.ensures c.both_answers-2.ensures c.both_answers-3.ensures
     (gives_from (inequalities_of scope (place.Start block)) c.resolve_inequalities-keeps.result c.as_slice.result.now c.args.notes.now.keeps c.as_slice.ensures c.resolve_inequalities-keeps.ensures)
@@ -22,8 +22,8 @@ returns-in_err-keeps c =
 pub returns : goal.returns
 returns c =
     good _ c.both_answers-3.result _ _ c.in_ok-keeps.was (
-    let items = c.args.world.now.items.now in
-    let scope = c.args.scope.now in
+    let items = c.args.context.now.world.items.now in
+    let scope = c.args.context.now.scope.now in
     let block = c.args.block in
     four_give _ _ _ _ _ _ _ _ c.both_answers.result c.both_answers-2.result c.both_answers-3.result c.both_answers.ensures c.both_answers-2.ensures c.both_answers-3.ensures
     (gives_from (inequalities_of scope (place.Start block)) c.resolve_inequalities-keeps.result c.as_slice.result.now c.args.notes.now.keeps c.as_slice.ensures c.resolve_inequalities-keeps.ensures)
