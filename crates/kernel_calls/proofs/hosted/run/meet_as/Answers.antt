@@ -1,0 +1,15 @@
+use Rattle.semantics.specs.Events.{Machine}
+use Rattle.shared_run.specs.Story.{Origin, origin, reached}
+use Rattle.kernel_calls.proofs.hosted.Standing.{ended_here, stands, told_here}
+use Rattle.kernel_calls.proofs.hosted.run.meet_as.Goals as goal
+
+pub returns-clause-told : goal.returns-clause-told
+returns-clause-told g c =
+    let o : Origin = origin g.L.Bench.code g.L.Bench.arguments g.L.Bench.memory g.L.Bench.crew in
+    let events = c.rest.result.history.events in
+    let m : Machine = reached o events in
+    let b = c.match-told.board in
+    told_here c.end-ended.result c.instructions-instructions.result c.args.fuel c.told-met.result m c.told-met.ensures.told
+    (ended_here b.start o b.events events c.end-ended.result c.end-ended.ensures c.machine-2.ensures.start c.rest.ensures.events)
+    (c.instructions-instructions.ensures m
+    (stands b.start o b.events events b.stage c.machine-2.result.now.stage c.machine-2.ensures.legal c.machine-2.ensures.start c.rest.ensures.events c.machine-2.ensures.stage))
