@@ -26,6 +26,18 @@ def named(text=None):
     return {name: line.partition(":")[2].split() for name, line in lines(text).items()}
 
 
+def layers():
+    """The headings of crates.txt, each with its crates, lowest first."""
+    found = []
+    for line in (TOP / "crates.txt").read_text().splitlines()[1:]:
+        head, parted, _ = line.partition(":")
+        if line.startswith("# "):
+            found.append((line[2:], []))
+        elif parted:
+            found[-1][1].append(head.split()[0])
+    return found
+
+
 def below(name, crates):
     """The crates of the repository that a crate stands on."""
     found = set()

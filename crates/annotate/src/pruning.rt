@@ -1,3 +1,5 @@
+//! Takes annotations out of an accepted text that it can do without (`pruned`), and judges that it stays accepted.
+
 ghost use Rattle.std.specs.Prelude.{◌≡◌, IfErr, IfOk};
 ghost use Rattle.annotate.specs.Kept.{IsAcceptedText, IsAnnotated};
 ghost use Rattle.verifier.specs.Accepted.{IsUnverified};

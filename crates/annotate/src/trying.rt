@@ -1,3 +1,5 @@
+//! Puts annotations into a text (`annotated`), and sees to it that what was accepted still is (annotation inference).
+
 ghost use Rattle.std.specs.Prelude.{◌≡◌, IfErr, IfOk};
 ghost use Rattle.annotate.specs.Kept.{IsAnnotated, IsReadable, StaysAccepted};
 ghost use Rattle.ir_reader.specs.Reading.{IsFaultOfText};

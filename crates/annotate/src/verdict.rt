@@ -1,4 +1,4 @@
-//! The verdict on a text.
+//! The verifier's verdict on a text that is tried: accepted, or the error that it is refused by.
 
 ghost use Rattle.std.specs.Prelude.{IfErr, IfOk};
 ghost use Rattle.annotate.specs.Kept.{IsAcceptedText};

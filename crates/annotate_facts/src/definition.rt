@@ -1,4 +1,4 @@
-//! What instructions and phis make of registers.
+//! What instructions and phis make of registers, as sums (symbolic evaluation).
 
 use crate::edge::{definition_in, phi_value, register_of};
 use crate::heap::Heap;

@@ -1,4 +1,4 @@
-//! The ways from block to block, by the labels of the text.
+//! The edges from block to block by the labels of a text, and where registers are used and defined (successors, uses).
 
 use crate::heap::Heap;
 use lists::Name;

@@ -1,4 +1,4 @@
-//! What inequalities, and the conditions of branches, say.
+//! The facts that a function's text states: inequalities, and the conditions of branches.
 
 use crate::definition::{put_in, sum_before};
 use crate::edge::{Edge, Way, block_at, is_used_beside, register_of};

@@ -1,4 +1,4 @@
-//! What is known wherever a block begins, because all ways to it bring it along.
+//! What is known wherever a block begins, because all ways to it bring it along (data flow, meet over predecessors).
 
 use crate::bound::lesser_of;
 use crate::definition::moved_before;

@@ -1,4 +1,4 @@
-//! What instructions make known of the registers that they define.
+//! What instructions make known of the registers that they define (transfer functions).
 
 use crate::definition::{Equation, definition_of, is_exact, put_in};
 use crate::edge::register_of;

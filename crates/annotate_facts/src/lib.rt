@@ -3,6 +3,10 @@
 //! A fact is a sum of registers that is at least 0. Here are sums, with their bounds, the facts that add up to one, and how it is spelled; what instructions
 //! make of registers; the edges from block to block, by the labels of the text; and the heap that all that is made on. [`known_of`] takes what the text states,
 //! the outcomes of branches and what instructions make, and if asked what may be so of counters; of these it finds what all ways to a block bring along.
+//!
+//! Sums: `sum` (affine expressions), `bound`, `search` (facts that add up to one). Text: `edge` (successors, uses),
+//! `definition` and `learned` (what instructions make), `live`, `fact` (what the text states). Over blocks: `keep`
+//! (what holds at each block's start), `guess` and `balance` (what may hold of phis; dominators). `heap`: memory.
 #![tactic(auto)]
 
 mod balance;

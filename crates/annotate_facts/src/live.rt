@@ -1,4 +1,4 @@
-//! Where registers are used later on, so that a line about them may serve.
+//! Where registers are used later on, so that a line about them may serve (liveness).
 
 use crate::edge::{Edge, block_at, block_uses, defines, is_register, phi_takes};
 use crate::heap::Heap;

@@ -1,4 +1,4 @@
-//! The search for facts that add up to a sum.
+//! The search for facts that add up to a sum (entailment of linear inequalities).
 
 use crate::heap::Heap;
 use crate::sum::Sum;

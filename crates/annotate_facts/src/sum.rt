@@ -1,4 +1,4 @@
-//! Sums of registers, for reckoning.
+//! Sums of registers, for reckoning (affine expressions): added, multiplied, substituted.
 
 use crate::heap::Heap;
 use lists::TextBuffer;

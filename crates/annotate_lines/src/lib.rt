@@ -5,6 +5,10 @@
 //! instructions and edges ask; at a function's head its `budget`, by what is left at its entry. [`with_lines`] tries them by the functions of the verifier's
 //! phases, and takes out again what these refuse; [`without_needless`] takes out what an accepted text can do without. Nothing is judged here: whether a text is
 //! accepted is for the verifier to say.
+//!
+//! Proposed: `proposal`, with `derived`, `wanted` and `step`; `plain` (lines that say nothing new). Tried: `tries`,
+//! `trial`; `needless` (what can be left out). Texts: `order` (in which blocks are gone through), `new_lines`, `limits`
+//! (what was not looked at).
 #![tactic(auto)]
 
 mod derived;

@@ -1,4 +1,4 @@
-//! The limits of what is looked at that a text meets.
+//! The limits of what is looked at that a text meets, each with its line and words.
 
 use crate::proposal::{MOST_LINES, put_all_in_order};
 use annotate_facts::{

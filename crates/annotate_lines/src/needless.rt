@@ -1,4 +1,4 @@
-//! Annotations that an accepted text can do without.
+//! Annotations that an accepted text can do without, each tried by itself (redundant ones).
 
 use explain_facts::Means;
 use lists::{ListBuffer, TextBuffer};

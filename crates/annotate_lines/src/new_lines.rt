@@ -1,4 +1,4 @@
-//! The lines of a text, of which some were put in.
+//! The lines of a text, of which some were put in, and which of those are refused.
 
 use explain_facts::Means;
 use lists::{ListBuffer, TextBuffer};

@@ -1,4 +1,4 @@
-//! Lines that say no more than another one of their block.
+//! Lines that say no more than another one of their block (subsumed inequalities).
 
 use explain_facts::Means;
 use linear::Form;

@@ -1,4 +1,4 @@
-//! The lines that are put in.
+//! The lines that are put in (`keeps`, `pending`, `left`, `shows`, `budget`): which are proposed, kind by kind.
 
 use crate::derived::{derived, ends_of};
 use crate::order::put_in_order;

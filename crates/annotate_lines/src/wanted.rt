@@ -1,4 +1,4 @@
-//! Facts that would show what a block asks and its facts do not show: tried where their registers are made, and on the ways there.
+//! Facts that would show what a block asks and its facts do not show: tried where their registers are made.
 
 use annotate_facts::{
     Edge, Extra, Heap, Sum, block_at, dominators_of, is_above, moved_before, names_made, names_own,

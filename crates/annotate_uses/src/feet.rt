@@ -1,5 +1,4 @@
-//! The zones of children and functions that say nothing of what they touch: the cells of their instructions and calls, by registers that have their values
-//! where the zones stand.
+//! Zones of children and functions that state none, by the cells that their instructions touch (effect inference).
 
 use crate::cells::{Cells, is_same_object};
 use crate::goal::Scope;

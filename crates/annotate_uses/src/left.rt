@@ -1,4 +1,4 @@
-//! What a block needs, from its own instructions and from what is left behind it.
+//! What a block needs in self calls and instructions, with what is left behind it (backward cost analysis).
 
 use crate::reserve::reserves_of;
 use crate::ring::{Ring, along, fall_of, names_inner, ring_of};

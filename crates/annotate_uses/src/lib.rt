@@ -4,6 +4,9 @@
 //! made of them: of children and functions that say nothing of what they touch ([`zones_from`]), of what the rounds of a loop may still touch at its head
 //! ([`hulls_of`]), and of what is handed on from block to block ([`handed_of`]). [`needs_of`] reckons what is left, in self calls and instructions, from the ends
 //! of a function back, and counts the rounds of loops by their counters; by that a function has its budget ([`Total`]).
+//!
+//! Zones: `cells`, `feet` (of children and functions), `hull` (of loops), `pending`. Numbers: `goal`. Costs: `left` (of
+//! blocks), `ring` and `reserve` (of loops), `total` (budgets).
 #![tactic(auto)]
 
 mod cells;

@@ -1,4 +1,4 @@
-//! The zones that children may still touch where a block begins, because they are handed on to it.
+//! Zones that children may still touch where a block begins, handed on along edges (data flow of pending effects).
 
 use crate::cells::{Cells, is_same_object};
 use crate::hull::Hull;

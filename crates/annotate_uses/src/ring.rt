@@ -1,4 +1,4 @@
-//! Loops that a counter leads round: what falls each time, and what a round needs.
+//! Loops that a counter leads round: what falls each time, and what a round needs (ranking function, loop bound).
 
 use annotate_facts::{
     Edge, Known, Sum, block_at, greatest_apart, greatest_number, is_phi, last_of, moved,

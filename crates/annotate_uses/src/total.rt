@@ -1,4 +1,4 @@
-//! What a function may use in all, by what is left at its entry.
+//! What a function may use in all (its `budget`), by what is left at its entry.
 
 use crate::left::Need;
 use annotate_facts::{Heap, Sum, greatest_shown};

@@ -1,3 +1,5 @@
+//! The living frames in slots that are used again, and how frames are made, found and removed (a slab of frames).
+
 ghost use Rattle.std.specs.Prelude.{count_by, is_some, option_and_then, IsSomeAnd, IfSome, IfNone, length, ◌≡◌, ◌+◌, ◌<◌, ◌^◌, ◌++◌, ◌∷◌, [], Some, None};
 ghost use Rattle.std.specs.Prelude.{IsSome, IfOk, OnOk, OnErr, option_copied};
 ghost use Rattle.std.specs.Option.{option_copied_mut, option_map};

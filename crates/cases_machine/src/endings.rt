@@ -1,4 +1,4 @@
-//! What is asked of a run that has ended.
+//! What a run that has ended comes to, compared with what is expected.
 
 use shared_run::{Finished, Machine};
 

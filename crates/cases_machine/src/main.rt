@@ -1,6 +1,8 @@
 //! Cases of what the program does not print. `cases_machine WORD..` answers the cases of each word: `boards` are runs at boards whose calls seeds draw,
 //! `refused` a few of these, and `threads` runs on threads. The program prints a line for each case and fails if an answer is not the expected one, which is
 //! worked out by hand, or is what a replay or the serial run comes to. The last line names the call at a board that was refused memory last.
+//!
+//! Beside the cases: `modules` (their files), `endings` (what runs come to), `report` (what is printed).
 #![tactic(auto)]
 
 mod boards;

@@ -1,4 +1,4 @@
-//! The modules of files, and the want of memory.
+//! The modules of the cases, read from files and verified; and the want of memory.
 
 use lists::OutOfMemory;
 use std::hash::RandomState;

@@ -1,3 +1,5 @@
+//! Lines of cases with their numbers, and whether all are as expected (a test's report).
+
 use lists::TextBuffer;
 use std::alloc::{AllocError, Global};
 use std::process::ExitCode;

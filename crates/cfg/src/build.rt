@@ -1,3 +1,5 @@
+//! Makes the graph of a program (control-flow graph), or names the rule of the lowest line that is broken.
+
 ghost use Rattle.std.specs.Prelude.{◌≡◌, IfOk, IfErr};
 ghost use Rattle.refusal.specs.Named.{NamesEarliest};
 ghost use Rattle.cfg.specs.Rules.{IsGraphRight, IsGraphBroken};

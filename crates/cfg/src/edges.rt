@@ -1,3 +1,5 @@
+//! The edges at the end of each block (its successors), with the moves of the phis that are made on them.
+
 ghost use Rattle.std.specs.Prelude.{◌≡◌, ◌++◌, OnOk, IfOk, ℕ};
 ghost use Rattle.std.specs.List.{flat_map};
 ghost use Rattle.cfg.specs.Edges.{value_from, moves_from, edge_to, edges_along, edges_at_end, graph_of};

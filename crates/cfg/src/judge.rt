@@ -1,3 +1,5 @@
+//! The rules 211 to 213: a phi's entries match the predecessors, each block is reachable and has a terminator.
+
 ghost use Rattle.std.specs.Prelude.{◌≡◌, ◌<◌, ◌↔◌, ◌==◌, ℕ, if◌then◌else◌, length, true, false, map, count_by, IsTrue, IsSome, IfOk, IfErr, slice_index_or};
 ghost use Rattle.std.specs.List.{list_any};
 ghost use Rattle.cfg.specs.Edges.{graph_of};

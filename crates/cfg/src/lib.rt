@@ -6,6 +6,10 @@
 //! | 211 | a phi has exactly one entry for each predecessor of its block, and no other |
 //! | 212 | the entry block has no predecessor, and each block is on a path |
 //! | 213 | each block has a terminator |
+//!
+//! - `structure`: edges, and the ways along them. `program_graph`: a program with its edges (`Graph`).
+//! - `edges`: the edges and moves of a function. `judge`: the rules. `build`: both of a whole program (`graph`).
+//! - `reach`: the blocks that a path leads to.
 #![tactic(auto)]
 
 mod build;

@@ -1,3 +1,5 @@
+//! A program with the edges of its functions, of which contracts know that it keeps the rules 211 to 213.
+
 ghost use Rattle.std.specs.Prelude.{◌≡◌};
 ghost use Rattle.cfg.specs.Edges.{graphs_of};
 ghost use Rattle.cfg.specs.Rules.{IsGraphRight};

@@ -1,3 +1,5 @@
+//! What a control-flow graph is: edges, the way that a path takes along each, and parallel moves of phis.
+
 use lists::Seq;
 use program::{BlockId, Operand, RegisterId};
 

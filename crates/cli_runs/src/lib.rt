@@ -13,11 +13,16 @@
 //!
 //! - `watching`: a run of which each event gives a `Moment` of `views` (`Watch`).
 //! - `course`: where the events come from. `random`: events that a seed draws. `dice`: its numbers.
-//! - `items`: what an instruction is about to set. `objects`: what a word means that is a pointer.
+//! - `items`: what stands at a frame's place, and what it is about to set. `objects`: what a word means that is a
+//!   pointer.
 //!
 //! The dialogues of `tapirvm debug`:
 //!
 //! - `debug`: what is answered while somebody goes through a schedule. It has a map of its own.
+//! - `dialogue`, `word`, `command`, `help`: a line is read, done and answered. `session`, `going`: stepping and
+//!   breakpoints.
+//! - `showing`: tasks, frames, cells. `registers`: a frame's registers with what they hold, pointers by their objects.
+//!   `values`: which registers have values. `source`, `paint`: lines of the module, colours.
 #![tactic(auto)]
 
 mod answers;

@@ -1,4 +1,4 @@
-//! What the program answers about runs, but one on threads.
+//! What the program answers about runs (`serial`, `replay` and the like), but for those on threads.
 //!
 //! A [`Job`] is a module that is to run, with what was asked for: the serial run, a schedule that is replayed (`running`), and what is told of a run by a
 //! list of events, beside its answer: lines of a trace, lines of JSON, a picture, a page and figures. `telling` runs the module once more, event by event,

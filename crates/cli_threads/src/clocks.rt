@@ -1,3 +1,5 @@
+//! How long ago something was, in microseconds (elapsed time).
+
 use std::io;
 use std::time::{Clock, Instant};
 

@@ -1,4 +1,4 @@
-//! Runs on threads of which more is told than the answer.
+//! Runs on threads of which more is told than the answer: their events are recorded.
 
 use crate::clocks::microseconds_since;
 use crate::strands::{Told as Replayed, run_again};

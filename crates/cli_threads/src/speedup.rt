@@ -1,4 +1,4 @@
-//! How long runs on threads take by the number of their workers.
+//! How long runs on threads take by the number of their workers (`--speedup`: a benchmark).
 
 use crate::clocks::microseconds_since;
 use cli_runs::{Finished, Halt, Job, prepared, print_finished};

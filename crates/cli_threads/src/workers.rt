@@ -1,3 +1,5 @@
+//! A run on worker threads, as the command line asks for it, with the answer that is printed.
+
 use crate::recorded::run_told;
 use crate::speedup::run_speedup;
 use cli_runs::{Halt, Job, is_told, prepared, print_finished};

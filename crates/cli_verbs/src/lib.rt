@@ -11,7 +11,8 @@
 //! - `annotations`: lines put in, or taken out. `own_lines`: what is then told, by the lines of the text without them.
 //!   `limits`: what was not looked at for them.
 //! - `answer`: what is answered, and why there is no answer.
-//! - `json`: answers as JSON, as `docs/FORMATS.md` tells.
+//! - `json`: answers as JSON, as `docs/FORMATS.md` tells: of an accepted module (`known`), of a broken rule (`fault`),
+//!   of explanations and remarks (`explanation`), all by `list`.
 //!
 //! The program as one call, for a page:
 //!

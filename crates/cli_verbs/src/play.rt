@@ -1,4 +1,4 @@
-//! The program as one call.
+//! The program as one call, for a page: words and texts in, all that it prints and writes out.
 
 use crate::answers::answer;
 use crate::framed::framed;

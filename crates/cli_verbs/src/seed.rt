@@ -1,3 +1,5 @@
+//! Two numbers that nobody who writes a text knows, with which its names are hashed (seed of the hash tables).
+
 use std::io;
 use std::random::RandomSource;
 

@@ -1,3 +1,5 @@
+//! Whether a text is a name (an identifier) as a module's text has it.
+
 /// Whether a text is a name by the rules of the module's text, without its sigil.
 pub fn is_name(text: &str) -> bool {
     for byte in text.as_bytes() {

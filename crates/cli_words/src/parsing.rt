@@ -1,4 +1,4 @@
-//! From words to a request.
+//! From the words of a command line to a request (argument parser).
 
 ghost use Rattle.std.specs.Prelude.{◌≡◌, IfOk, IfSome, map};
 ghost use Rattle.cli_words.specs.Asked.{IsAsked, word_of};

@@ -1,3 +1,5 @@
+//! What a command line asks for: the verb with all its options (parsed arguments).
+
 ghost use Rattle.std.specs.Prelude.{◌≡◌};
 ghost use Rattle.cli_words.specs.Asked.{word_of};
 

@@ -1,3 +1,5 @@
+//! What `--version` prints.
+
 /// The program's version.
 pub const VERSION: &str = "1.1";
 

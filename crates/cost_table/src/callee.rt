@@ -1,3 +1,5 @@
+//! The function that an instruction calls.
+
 ghost use Rattle.std.specs.Prelude.{◌≡◌};
 ghost use Rattle.program.specs.Calls.{callee_of};
 

@@ -1,3 +1,5 @@
+//! The rules 701 to 705 over a program: each block is judged at its start, its steps and its end.
+
 ghost use Rattle.std.specs.Prelude.{◌≡◌, Some, IfOk, IfErr, OnOk, slice_get};
 ghost use Rattle.refusal.specs.declared.broken.Broken.{Broken};
 ghost use Rattle.refusal.specs.Earliest.{IsEarliest};

@@ -1,3 +1,5 @@
+//! How deep calls reach: the deepest callee, the frames of detaches, and those under a self call (stack bound).
+
 ghost use Rattle.std.specs.Prelude.{◌≡◌, ◌≤◌, ◌+◌, suc, length};
 ghost use Rattle.program.specs.declared.instruction.Step.{Step};
 ghost use Rattle.program.specs.Calls.{callee_of};

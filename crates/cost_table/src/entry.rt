@@ -1,3 +1,5 @@
+//! A function's greatest cost and greatest depth, by its measure: its row of the table (bounds of work and stack).
+
 ghost use Rattle.std.specs.Prelude.{◌≡◌, ◌+◌, suc};
 ghost use Rattle.program.specs.declared.annotation.Budget.{Budget};
 ghost use Rattle.cost_table.specs.Cost.{cost_below};

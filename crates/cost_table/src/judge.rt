@@ -1,3 +1,5 @@
+//! Names what is broken of costs: `left` at starts and ends of blocks, measures of self calls, budgets.
+
 ghost use Rattle.std.specs.Prelude.{◌≡◌, ℕ, List, Any, false, IfOk, OnOk, slice_get, pos};
 ghost use Rattle.linear.specs.Terms.{constant_form};
 ghost use Rattle.program.specs.declared.function.Function.{Function};

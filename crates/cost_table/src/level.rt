@@ -1,3 +1,5 @@
+//! Within how many detaches a block stands.
+
 ghost use Rattle.std.specs.Prelude.{◌≡◌, ◌≤◌, length};
 ghost use Rattle.ranges.specs.region_match.Tasks.{task_at};
 ghost use Rattle.cost_table.specs.Depth.{detaches_around};

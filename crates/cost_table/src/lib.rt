@@ -11,6 +11,12 @@
 //! | 705 | no call costs over a million million |
 //!
 //! The table that it answers has the costs and depths of all functions, exact for each measure within its bound.
+//!
+//! - `check`: the rules over a program. `judge`: what is broken at one place. `sum`: whether what is left covers what
+//!   is done.
+//! - `work`: what a block does. `level`: within how many detaches it stands. `callee`: whom an instruction calls.
+//! - `entry`: what a call costs at most and the greatest depth that it reaches. `depth`: parts of that. `table`: the
+//!   table.
 #![tactic(auto)]
 
 mod callee;

@@ -1,3 +1,5 @@
+//! Whether facts show that what is left covers what is done, and what is left behind an edge (amortised cost).
+
 ghost use Rattle.std.specs.Prelude.{◌≡◌, ℕ, ◌<◌, ◌+◌, ◌^◌, ◌-ℤ◌, pos, IfOk, unsigned_abs, []};
 ghost use Rattle.ranges.specs.Sums.{shows};
 ghost use Rattle.cost_table.specs.Rules.{left_behind, less_form, put_in, number_less};

@@ -1,3 +1,5 @@
+//! The table of all functions' costs and depths, and how it is made.
+
 ghost use Rattle.std.specs.Prelude.{◌≡◌, IfOk, slice_get};
 ghost use Rattle.std.specs.Option.{option_copied};
 ghost use Rattle.program.specs.declared.function.Program.{Program};

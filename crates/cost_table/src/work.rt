@@ -1,3 +1,5 @@
+//! What a block does: its self calls, and its instructions with those of the functions that it calls.
+
 ghost use Rattle.std.specs.Prelude.{◌≡◌};
 ghost use Rattle.cost_table.specs.Cost.{callee_cost, calls_done, instructions_done, self_call, whole_cost, whole_cost_of};
 ghost use Rattle.cost_table.specs.Doing.{IsWork};

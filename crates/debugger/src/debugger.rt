@@ -1,3 +1,5 @@
+//! What a debugger has: a list of events, a position in it, and the machine there.
+
 ghost use Rattle.std.specs.Prelude.{◌≤◌, length};
 
 use crate::marks::Marks;

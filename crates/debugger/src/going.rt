@@ -1,4 +1,4 @@
-//! Forwards and backwards through a schedule.
+//! A debugger goes forwards, backwards, to a position and to a line (reverse execution).
 
 ghost use Rattle.std.specs.Prelude.{◌≡◌, ◌≢◌, ◌≤◌, ◌-◌, ◌+◌, Err, None, IfOk, IfSome, IfNone, OnOk, OnErr, length, min};
 ghost use Rattle.schedule_core.specs.store.Made.{IsMadeFor};

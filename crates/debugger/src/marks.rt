@@ -1,4 +1,4 @@
-//! States that are kept on the way, so that going back need not begin at the start.
+//! States that are kept on the way, so that going back need not begin at the start (checkpoints).
 
 ghost use Rattle.std.specs.Prelude.{◌≡◌, ◌≤◌, [], ℕ};
 ghost use Rattle.debugger.specs.Sessions.{AreMarks, IsAt, Session};

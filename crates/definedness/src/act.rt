@@ -1,3 +1,5 @@
+//! What a block does with a number: it needs it to be defined, or defines it (use and def).
+
 ghost use Rattle.std.specs.Prelude.{◌≡◌};
 ghost use Rattle.definedness.specs.Acts.{given};
 

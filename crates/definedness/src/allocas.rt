@@ -1,3 +1,5 @@
+//! What each block does with allocas: it reads them, or stores all their cells (uses and defs of memory).
+
 ghost use Rattle.std.specs.Prelude.{◌≡◌, ◌++◌, OnOk, IfOk};
 ghost use Rattle.std.specs.List.{flat_map};
 ghost use Rattle.definedness.specs.AllocaActs.{element_in, element_object, object_read, element_read, address_read, argument_read, object_set};

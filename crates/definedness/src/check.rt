@@ -1,3 +1,5 @@
+//! The rules 401 and 402 over a program, and which broken one is named.
+
 ghost use Rattle.std.specs.Prelude.{◌≡◌, ◌<◌, ◌≤◌, ◌↔◌, ℕ, true, length, All, IfOk, IfErr};
 ghost use Rattle.cfg.specs.Edges.{graph_of};
 ghost use Rattle.refusal.specs.Earliest.{IsEarliest};

@@ -1,3 +1,5 @@
+//! What each block's terminator does to children: the region of its detach, and the detach whose child it ends.
+
 ghost use Rattle.std.specs.Prelude.{◌≡◌, ◌<◌, ◌↔◌, ℕ, Some, length, IsTrue, IfOk, slice_get};
 ghost use Rattle.definedness_allocas.specs.declared.fork.Fork.{Fork};
 ghost use Rattle.linear.specs.declared.form.RegisterId.{RegisterId};

@@ -1,3 +1,5 @@
+//! Which regions of two lists are in both (intersection): what an edge leaves of where an alloca is due.
+
 ghost use Rattle.std.specs.Prelude.{◌≡◌, IfOk};
 ghost use Rattle.std.specs.List.{filter, list_all};
 ghost use Rattle.definedness_allocas.specs.Sets.{has, due_in, label_at};

@@ -1,3 +1,5 @@
+//! Goes through a block's uses and definitions in order, and names the first use of what is not defined.
+
 ghost use Rattle.std.specs.Prelude.{◌≡◌, ◌<◌, ◌↔◌, ◌++◌, ℕ, true, false, length, take, Contains, IfOk, slice_index_or};
 ghost use Rattle.refusal.specs.Earliest.{IsEarliest};
 ghost use Rattle.definedness.specs.Judging.{IsNeedBrokenBy, MarksGiven};

@@ -1,3 +1,5 @@
+//! What each block does with registers: uses and definitions, in instructions, phis and annotations.
+
 ghost use Rattle.std.specs.Prelude.{◌≡◌, ◌++◌, length, OnOk, IfOk};
 ghost use Rattle.std.specs.Option.{option_copied};
 ghost use Rattle.std.specs.List.{flat_map};

@@ -1,3 +1,5 @@
+//! The greatest labelling of an alloca: where it is sure or due (a greatest fixed point by a worklist).
+
 ghost use Rattle.std.specs.Prelude.{◌≡◌, ◌↔◌, ◌+◌, ◌<◌, ◌≤◌, ◌++◌, ◌∷◌, ℕ, [], Option, Some, true, length, set, All};
 ghost use Rattle.std.specs.Prelude.{Contains, IfOk, OnOk};
 ghost use Rattle.linear.specs.declared.form.RegisterId.{RegisterId};

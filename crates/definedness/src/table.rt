@@ -1,3 +1,5 @@
+//! Marks by number and block: what each block defines, and the greatest number that is needed.
+
 ghost use Rattle.std.specs.Prelude.{◌≡◌, ◌<◌, ◌≤◌, ◌↔◌, ℕ, suc, true, false, length, map, All, Contains, IsTrue, IfOk, slice_index_or};
 ghost use Rattle.definedness.specs.Needs.{gives, given_of, numbers_at};
 ghost use Rattle.definedness.specs.Marks.{mark_at, IsNeedBelow, AreNeedsBelow};

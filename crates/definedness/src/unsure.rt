@@ -1,3 +1,5 @@
+//! Blocks at whose start an alloca may be without a value (definite assignment, with children running).
+
 ghost use Rattle.std.specs.Prelude.{◌≡◌, ◌<◌, ◌≤◌, ◌↔◌, ℕ, None, Some, true, false, length, All, Contains, IfOk, slice_get, slice_index_or, OnOk};
 ghost use Rattle.definedness_allocas.specs.declared.fork.Fork.{Fork};
 ghost use Rattle.definedness.specs.ForkOf.{IsForkOf};

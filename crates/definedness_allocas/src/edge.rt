@@ -1,3 +1,5 @@
+//! What an edge gives its target of where an alloca has a value (the transfer function of the analysis).
+
 ghost use Rattle.std.specs.Prelude.{◌≡◌, ◌⊎◌, ◌↔◌, ◌+◌, ◌<◌, ◌≤◌, Option, Some, true, false, length, IsTrue, IfOk, slice_index_or};
 ghost use Rattle.linear.specs.declared.form.RegisterId.{RegisterId};
 ghost use Rattle.definedness_allocas.specs.Sets.{has, due_in, label_in, label_at, label_of, count_sure, IsHeldBy, IsOver, IsJoined, EdgeGives, IsFit};

@@ -1,3 +1,5 @@
+//! What a block's terminator does to children: the region of its detach, and the detach whose child it ends.
+
 use program::RegisterId;
 
 /// What the terminator of a block does to children: the region of its detach, and the detach whose child it ends.

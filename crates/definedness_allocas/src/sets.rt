@@ -1,3 +1,5 @@
+//! Where an alloca is sure, and for which regions it is due: a label for each block (the lattice).
+
 ghost use Rattle.std.specs.Prelude.{◌≡◌, ◌||◌, ◌==◌, ◌+◌, ◌≤◌, length, false, slice_index_or, IfOk, OnOk};
 ghost use Rattle.linear.specs.declared.form.RegisterId.{RegisterId};
 ghost use Rattle.definedness_allocas.specs.Sets.{has, due_in, label_at, label_of};

@@ -1,3 +1,5 @@
+//! How many workers look for a task and how many tasks are ready, and the bell that wakes sleepers (idle counting).
+
 use shared_run::turns::{Hunger, Told};
 use std::sync::Wait;
 use std::sync::atomic::{AtomicU64, Ordering};

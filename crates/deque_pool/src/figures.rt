@@ -1,3 +1,5 @@
+//! What each worker did in a run: instructions, steals, searches, publications (scheduler statistics).
+
 use shared_run::turns::{Reason, Told};
 
 /// What a worker did in a run. Each number stays at 2^64 - 1.

@@ -1,3 +1,5 @@
+//! What each worker passes before each strand, by which a host holds or stops a run (cancellation, throttling).
+
 ghost use Rattle.std.specs.Prelude.{◌≡◌, ⊤, ℕ, false};
 
 /// Whether a run goes on.

@@ -1,3 +1,5 @@
+//! How a worker comes by the board's lock: it tries for a while, and then sleeps (spin, then block).
+
 use shared_run::{Bench, Board, Shared};
 use std::hint::spin_loop;
 use std::sync::{MutexGuard, Wait};

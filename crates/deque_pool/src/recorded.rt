@@ -1,3 +1,5 @@
+//! The answer of a run on threads, with its events and what each worker did.
+
 use crate::figures::Figures;
 use shared_run::{Finished, History};
 

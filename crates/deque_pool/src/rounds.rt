@@ -1,5 +1,6 @@
-//! The rounds of a run on threads. There is one: its workers leave when the run has ended. No contract tells what stands behind a lock, so where they
-//! left and it has not ended, though none of them was refused memory or stopped, they are set to work again.
+//! Starts the threads of a run and waits for them (spawn, join): the rounds of a run. There is one: its workers leave
+//! when the run has ended. No contract tells what stands behind a lock, so where they left and it has not ended, though
+//! none of them was refused memory or stopped, they are set to work again.
 ghost use Rattle.std.specs.Prelude.{◌≡◌, vec_len, IfOk};
 ghost use Rattle.shared_run.specs.schedule_core.Admission.{IsAdmitted};
 ghost use Rattle.shared_run.specs.serial_machine.Decoding.{IsCodeOf};

@@ -1,4 +1,4 @@
-//! Runs on threads of their own.
+//! `run` and `run_recorded`: a run on threads of its own, or on one if it is short (thread pool).
 ghost use Rattle.std.specs.Prelude.{◌≡◌, Err, IfOk, true};
 ghost use Rattle.shared_run.specs.schedule_core.Admission.{IsAdmitted, IsNumberOfWorkers};
 ghost use Rattle.shared_run.specs.store.Made.{IsMadeFor};

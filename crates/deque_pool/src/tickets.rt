@@ -1,4 +1,4 @@
-//! The workers' lists of tickets, with what they tell one another.
+//! The ends of the deques that a worker has at hand: it offers tickets, takes its newest, and steals from others.
 
 use crate::demand::Demand;
 use crate::figures::Figures;

@@ -1,4 +1,4 @@
-//! A worker at the board, under its lock.
+//! A worker meets the board under its lock, and wakes others for the tasks that it offered.
 
 use crate::demand::Demand;
 use crate::locking::locked;

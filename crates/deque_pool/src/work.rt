@@ -1,4 +1,4 @@
-//! The loop of a worker on its thread.
+//! The loop of a worker on its thread: it works, looks for tasks, pauses, yields and sleeps (idle, backoff).
 ghost use Rattle.std.specs.Prelude.{◌≡◌, ◌↔◌};
 
 use crate::demand::Demand;

@@ -1,4 +1,4 @@
-//! The workers of a run.
+//! A worker with its seat, its strand, its deque of tickets and its ends of the others'; all workers of a run.
 ghost use Rattle.std.specs.Prelude.{◌≡◌, vec_len, vec_capacity, ◌≤◌, IfOk};
 ghost use Rattle.shared_run.specs.serial_machine.Decoding.{IsCodeOf};
 

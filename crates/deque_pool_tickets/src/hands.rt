@@ -1,3 +1,5 @@
+//! The two ends of a worker's deque: its owner offers and takes tickets, thieves steal the oldest (work stealing).
+
 ghost use Rattle.std.specs.Prelude.{◌≡◌, All, vec_len, IfOk, IfErr, OnOk, IfSome, IfNone};
 ghost use Rattle.deque_pool_tickets.specs.TicketList.{AreOfOne, MayHaveFew, Moved, fresh};
 ghost use Rattle.deque_pool_tickets.specs.declared.ticket_list.Move.TheVariants.{Offer, Newest};

@@ -1,3 +1,5 @@
+//! What a thief's call on a deque gives: the oldest ticket, or none and why.
+
 /// What a thief's call gave.
 #[derive(Clone, Copy)]
 pub enum Taken {

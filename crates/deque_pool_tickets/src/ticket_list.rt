@@ -1,4 +1,4 @@
-//! The rule of a worker's list of tickets.
+//! A worker's deque of tickets, with the rule that each step on it keeps: one history, whatever the threads do.
 use crossbeam_deque::protocol::{Join, Lesson, Outcome, Protocol};
 use shared_run::Ticket;
 use std::collections::LinkedList;

@@ -1,3 +1,5 @@
+//! From a refused text to all faults of its phase, in the order in which they are told (diagnostics).
+
 ghost use Rattle.std.specs.Prelude.{◌≡◌, IfOk};
 ghost use Rattle.explain.specs.Verdict.{IsVerdictOn};
 

@@ -5,6 +5,11 @@
 //! its block, and the region lines of its function. Faults of zones: what is touched, the zones that stand beside it, and lines to try.
 //!
 //! What is a fault is asked of the phases alone. [`explain`] promises that its first fault is the one that the verifier names.
+//!
+//! - `explaining`: the faults of a text (`explain`). `report`, `printing`: what is told. `accepted`: what could be left
+//!   out.
+//! - Words, names, blocks: `row`, `word`, `left_out`, `note`, `cause`, `table`. Values: `alloca`.
+//! - Zones: `found`, `access`, `cover`, `passing`, `widen`, `zone_text`, `spot`. Lines to try: `tries`, `trial`.
 #![tactic(auto)]
 
 mod accepted;

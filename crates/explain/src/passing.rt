@@ -1,4 +1,4 @@
-//! What is still pending on an edge, and lines that would say so at its target.
+//! What is still pending on an edge, and lines that would say so at its target (missing `pending` lines).
 
 use crate::found::Found;
 use crate::spot::{Spot, spot_where};

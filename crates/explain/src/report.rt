@@ -1,3 +1,5 @@
+//! What an explanation is: what an accepted module could do without, faults, or no verdict.
+
 use explain_facts::Finding;
 use lists::Seq;
 

@@ -1,4 +1,4 @@
-//! Lines of zones to try, as far as no other rule refuses them.
+//! Lines of zones to try, as far as no other rule refuses them (suggested fixes).
 
 use crate::access::zone_findings;
 use explain_facts::{Finding, Means, Put, Source, taken, with_line};

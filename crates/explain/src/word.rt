@@ -1,4 +1,5 @@
-//! Faults of the text: the word that was found, and what could stand there. What could is tried, by reading the line with it.
+//! Faults of the text: the word that was found, and what could stand there (syntax errors, expected words). What could
+//! is tried, by reading the line with it.
 
 use crate::left_out::push_left_out;
 use crate::row::{Row, row_of};

@@ -1,4 +1,4 @@
-//! Broken rules, each with what there is to say of it.
+//! A broken rule with what there is to say of it (one diagnostic).
 
 use lists::OutOfMemory;
 use std::hash::RandomState;

@@ -1,6 +1,12 @@
 //! Why numbers and costs of a module are refused: what is known of numbers at a place, how far that is from showing what is to be shown there, and lines
 //! that would mend it. Functions of a program beside the names of their text, how forms are spelled with them, and the lines of a text. What the budgets
 //! of an accepted module have left over.
+//!
+//! - `finding`: one fault with what is said of it. `means`: memory and effort. `lines`, `scene`, `spelling`: text and
+//!   names.
+//! - Numbers: `unmet`, `number`, `gap`, `known`, `unknown`, `compare`, `silent`, `missing`. Lines to try: `tries`,
+//!   `trial`.
+//! - Costs: `cost`, `sums`, `left`, `rounds`, `missing_budget`, `budgets`.
 #![tactic(auto)]
 
 mod budgets;

@@ -1,4 +1,4 @@
-//! A function beside the names of its text.
+//! A function of a program beside the names of its text, to spell registers and forms.
 
 use lists::{ListBuffer, Name, OutOfMemory};
 use program::{BlockId, Function, ObjectName, Program, RegisterId};

@@ -1,4 +1,4 @@
-//! What is counted and left.
+//! What is counted of costs (self calls, instructions), and what is left at a place.
 
 use cost_table::Work;
 use linear::Form;

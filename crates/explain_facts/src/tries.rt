@@ -1,4 +1,4 @@
-//! Lines to try where a form is not shown: those with few registers first.
+//! Lines to try where a form is not shown: those with few registers first (suggested fixes).
 
 use crate::finding::Source;
 use crate::gap::{is_against, number_of_registers, only_term, raised};

@@ -1,3 +1,5 @@
+//! The cells that an address names: the first of an object, or the one that a `getelementptr` gave.
+
 ghost use Rattle.std.specs.Prelude.{◌≡◌, ◌+ℤ◌, pos, List, IfOk};
 ghost use Rattle.program.specs.declared.instruction.Step.{Step as StepKind};
 ghost use Rattle.footprints.specs.Pointers.{defined_pointer, pointed_by};

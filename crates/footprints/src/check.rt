@@ -1,3 +1,5 @@
+//! The rules 601 to 604 over a program: each block is judged at its steps, its end and its edges (race freedom).
+
 ghost use Rattle.std.specs.Prelude.{◌≡◌, ℕ, Some, IfOk, IfErr, OnOk, slice_get};
 ghost use Rattle.refusal.specs.declared.broken.Broken.{Broken};
 ghost use Rattle.refusal.specs.Earliest.{IsEarliest};

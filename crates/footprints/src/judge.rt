@@ -1,3 +1,5 @@
+//! What is broken at a step or on an edge, by what it touches and by what it hands on.
+
 ghost use Rattle.std.specs.Prelude.{◌≡◌, ℕ, List, Any, Some, IfOk, OnOk, false, slice_get, slice_index_or, take};
 ghost use Rattle.program.specs.declared.instruction.Step.{Step as StepKind};
 ghost use Rattle.refusal.specs.declared.broken.Broken.{Broken};

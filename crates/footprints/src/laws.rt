@@ -1,4 +1,4 @@
-//! Laws of zones: contracts of functions that do nothing.
+//! Laws of zones: at values that meet the facts, covers have the cells, and zones apart share none.
 
 ghost use Rattle.std.specs.Prelude.{◌≡◌, ℕ, ℤ, List, Any, true, false};
 ghost use Rattle.linear.specs.declared.form.Fact.{Fact};

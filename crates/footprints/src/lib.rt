@@ -9,6 +9,10 @@
 //! | 602 | what is touched conflicts with nothing that is `pending` in its block |
 //! | 603 | what is pending, and the foot of a new child, is pending at the target of each edge, with what its phis take put in |
 //! | 604 | a zone covers each zone of a callee, with the arguments put in, and each zone of a new child's `foot` |
+//!
+//! - `check`: the rules over a program. `judge`: what is broken at a step or on an edge.
+//! - `access`: the cells of an address. `touch`: what is touched. `pass`: what is handed on along edges. `laws`: what
+//!   zones mean.
 #![tactic(auto)]
 
 mod access;

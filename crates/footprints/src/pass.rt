@@ -1,3 +1,5 @@
+//! Rule 603: what is `pending` in a block, and a new child's foot, is pending at the target of each edge.
+
 ghost use Rattle.std.specs.Prelude.{◌≡◌, List, false, true, IfOk, OnOk, slice_get};
 ghost use Rattle.linear.specs.declared.form.Fact.{Fact};
 ghost use Rattle.ranges.specs.Tables.{with_known};

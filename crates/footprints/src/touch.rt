@@ -1,3 +1,5 @@
+//! Rules 601 and 604: the zones that instructions, calls and new children touch (reads and writes, effects).
+
 ghost use Rattle.std.specs.Prelude.{◌≡◌, List, Some, IfOk, slice_get};
 ghost use Rattle.syntax.specs.declared.operator.Mode.TheVariants.{Writes};
 ghost use Rattle.footprints_feet.specs.footprints_zones.Zones.{as_written};

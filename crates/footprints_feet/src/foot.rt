@@ -1,3 +1,6 @@
+//! Rules 602 and 604 of several zones at once: a new child's `foot` (its footprint, zone by zone), and a callee's
+//! zones.
+
 ghost use Rattle.std.specs.Prelude.{◌≡◌, IfOk};
 ghost use Rattle.footprints_zones.specs.Zones.{span};
 ghost use Rattle.footprints_zones.specs.Places.{place_of};

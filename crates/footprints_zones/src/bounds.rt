@@ -1,4 +1,4 @@
-//! What facts about one register alone say of it.
+//! What facts about one register alone say of it: its least and its greatest number (interval).
 
 ghost use Rattle.std.specs.Prelude.{◌≡◌, ◌<◌, ◌^◌, ◌⊎◌, ◌∷◌, [], pos, negsuc, List, All, Contains, IfOk, IfSome, OnOk, length, slice_index_or, unsigned_abs};
 ghost use Rattle.linear.specs.declared.form.Fact.{Fact as FactKind};

@@ -1,4 +1,4 @@
-//! Where zones lie, by numbers.
+//! Where zones lie, by numbers: bounds of their ends (interval of cells).
 
 ghost use Rattle.std.specs.Prelude.{◌≡◌, ◌||◌, true, List, All, IsTrue, IfSome};
 ghost use Rattle.linear.specs.declared.form.Fact.{Fact};

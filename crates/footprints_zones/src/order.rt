@@ -1,3 +1,5 @@
+//! Whether the facts show that one end of a zone is at or before another (a comparison of affine expressions).
+
 ghost use Rattle.std.specs.Prelude.{◌≡◌, ◌<◌, ◌^◌, ◌⊎◌, ◌*ℤ◌, pos, negsuc, List, IsTrue, IfOk, IfSome, Some, unsigned_abs};
 ghost use Rattle.linear.specs.declared.form.Fact.{Fact};
 ghost use Rattle.linear.specs.Forms.{AreSmall};

@@ -1,3 +1,5 @@
+//! A place of a block: what is touched there is covered by a zone, and conflicts with nothing that is pending.
+
 ghost use Rattle.std.specs.Prelude.{◌≡◌, [], IfOk};
 ghost use Rattle.std.specs.List.{list_any};
 ghost use Rattle.program.specs.declared.annotation.Pending.{Pending as PendingKind};

@@ -1,3 +1,5 @@
+//! Zones of cells (array regions): which covers which, which are disjoint, and which conflict (may alias).
+
 ghost use Rattle.std.specs.Prelude.{◌≡◌, ◌||◌, IfOk};
 ghost use Rattle.std.specs.List.{list_any};
 ghost use Rattle.footprints_zones.specs.Zones.{span, as_written, same_object, mode_covers, modes_agree};

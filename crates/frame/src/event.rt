@@ -1,3 +1,5 @@
+//! An event of a schedule: a worker's step, or a steal.
+
 use crate::path::Path;
 
 /// One event of a schedule.

@@ -1,3 +1,5 @@
+//! What a frame waits for and what it runs (activation record), and the block of a number.
+
 ghost use Rattle.std.specs.Prelude.{◌≡◌, slice_get};
 ghost use Rattle.std.specs.Option.{option_copied};
 ghost use Rattle.semantics.specs.Frames as frames;

@@ -1,3 +1,5 @@
+//! Binary operations, comparisons and conversions on words of two widths, of operands that do not trap.
+
 ghost use Rattle.std.specs.Prelude.{◌≡◌, ◌<◌, ◌^◌, ◌%◌, ◌≢◌, ◌+ℤ◌, ◌-ℤ◌, ◌*ℤ◌, ℤ};
 ghost use Rattle.std.specs.Int.{w64, int_wrap, int_bit_and, int_bit_or, int_bit_xor};
 ghost use Rattle.semantics.specs.Arithmetic as running;

@@ -1,3 +1,5 @@
+//! A blank frame, and the registers that a function begins with.
+
 ghost use Rattle.std.specs.Prelude.{◌≡◌, ◌≤◌, ◌-◌, ◌++◌, [], IfOk, length, pos, replicate};
 
 use crate::activation::Frame;

@@ -1,3 +1,5 @@
+//! What a frame does at a border: sync, detach, reattach, the wait for a call, and what a return gives it.
+
 ghost use Rattle.std.specs.Prelude.{◌≡◌, ◌+◌, ◌<◌, ◌∷◌, ℕ, ℤ, Option, OnOk, Some, length, slice_get};
 ghost use Rattle.semantics.specs.Paths.{Path};
 ghost use Rattle.semantics.specs.Frames as frames;

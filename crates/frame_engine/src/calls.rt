@@ -1,3 +1,5 @@
+//! A call's frame: the arguments that are passed, and words for the other registers (calling convention).
+
 ghost use Rattle.std.specs.Prelude.{◌≡◌, ◌+◌, ◌<◌, ◌≤◌, ◌∷◌, ℕ, OnOk, List, Some, length, slice_get};
 ghost use Rattle.semantics.specs.Paths.{Path};
 ghost use Rattle.semantics.specs.Frames as frames;

@@ -1,3 +1,5 @@
+//! The trait of memory: what loads, stores and adds ask of cells, and why one cannot be done.
+
 ghost use Rattle.std.specs.Prelude.{◌≡◌, ◌≢◌, ℤ, Bool, IsTrue, OnOk, OnErr, IfOk, IfErr};
 ghost use Rattle.semantics.specs.Arithmetic.{cell_sum};
 ghost use Rattle.frame_engine.specs.Access.{Access, Loads, Stores, Adds};

@@ -1,3 +1,5 @@
+//! The array store: so many cells of an object take the number 0.
+
 ghost use Rattle.std.specs.Prelude.{◌≡◌, ◌≢◌, ◌<◌, ◌≤◌, ◌+◌, ◌+ℤ◌, ℕ, ℤ, pos, IfErr, IsTrue, OnOk, Some, length};
 ghost use Rattle.semantics.specs.Arithmetic.{wrapped};
 ghost use Rattle.semantics.specs.Paths.{Path};

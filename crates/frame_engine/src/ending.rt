@@ -1,3 +1,5 @@
+//! Does a plain terminator: which block a branch or a switch leads to.
+
 ghost use Rattle.std.specs.Prelude.{◌≡◌, ◌<◌, ℕ, IfSome, IfNone, List, Some, length, slice_get};
 ghost use Rattle.std.specs.Prelude.{find};
 ghost use Rattle.std.specs.Ordering.{int_eq};

@@ -1,3 +1,5 @@
+//! Memory as one array, in which an address is an index.
+
 ghost use Rattle.std.specs.Prelude.{◌≡◌, ◌++◌, ⊤, Some, OnErr, OnOk, pos, replicate};
 ghost use Rattle.frame_engine.specs.Flat.{cell_in, is_cell};
 

@@ -1,3 +1,5 @@
+//! A function and a block by number, the cells of a frame's allocas, and the most phis of an edge.
+
 ghost use Rattle.std.specs.Prelude.{◌≡◌, ◌<◌, ◌≤◌, IfNone, IfSome, Some, length, map, slice_get, sum};
 ghost use Rattle.program.specs.declared.function.Alloca.{Alloca};
 ghost use Rattle.frame_engine.specs.Fits.{HasMoves};

@@ -1,3 +1,5 @@
+//! What a frame does next: an instruction or a terminator, and whether it is a border.
+
 ghost use Rattle.std.specs.Prelude.{◌≡◌, ◌≢◌, ◌↔◌, IsTrue, None, Some};
 ghost use Rattle.semantics.specs.Frames.{block_at, item_at};
 ghost use Rattle.program.specs.declared.function.Block.{Block};

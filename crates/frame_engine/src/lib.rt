@@ -1,4 +1,11 @@
 //! A frame over words, which goes on step by step with no test: what it rests on is asked for.
+//!
+//! - `activation`: a frame (`Frame`). `beginning`: its start. `items`, `functions`: what stands at its place.
+//! - `turning`: the loop over blocks. `stepping`: over instructions. `doing`, `arithmetic`: one instruction. `ending`,
+//!   `entering`: a block's end, an edge with its phis.
+//! - `borders`, `calls`, `clearing`: what a frame does at a border.
+//! - `cells`: memory as a trait (`Cells`). `flat`: as one array. `words`: registers and addresses. `placing`: where
+//!   objects begin.
 #![tactic(auto)]
 
 mod activation;

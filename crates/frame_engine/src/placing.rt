@@ -1,3 +1,5 @@
+//! Where each global and each alloca begins (memory layout).
+
 ghost use Rattle.std.specs.Prelude.{◌≡◌, IfOk, map};
 ghost use Rattle.program.specs.declared.function.Function.{Function};
 ghost use Rattle.frame_engine.specs.Starts.{alloca_starts, global_starts};

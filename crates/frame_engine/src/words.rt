@@ -1,3 +1,5 @@
+//! Words by register, and addresses: of an operand, of an object's first cell, of a cell behind it.
+
 ghost use Rattle.std.specs.Prelude.{◌≡◌, ◌<◌, ◌+ℤ◌, ⊤, Some, length, slice_get, slice_set};
 ghost use Rattle.semantics.specs.Arithmetic.{wrapped};
 ghost use Rattle.syntax.specs.declared.operator.Width.TheVariants.{Bits64};

@@ -1,3 +1,5 @@
+//! Loads, stores and adds of a frame strand go to the cells that it keeps itself.
+
 ghost use Rattle.frame_strand.specs.Buffers.{BuffersDo, BuffersRefuse, any_address, may_hold};
 
 use crate::cells::{CellStop, Change, FrameStrandCells};

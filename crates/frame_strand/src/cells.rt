@@ -1,3 +1,5 @@
+//! The cells that a frame strand read, with what they held, and those that it wrote (read set and write set).
+
 ghost use Rattle.std.specs.Prelude.{◌≡◌, ◌<◌, ◌++◌, ◌∷◌, ℤ, [], map, IfErr, IfNone, IfOk};
 ghost use Rattle.std.specs.Prelude.{IfSome, OnErr, OnOk, None, Some, if◌then◌else◌, length, nat_le, slice_get};
 ghost use Rattle.frame_strand.specs.Buffers.{IsPut, LacksPlace, change_in, held_in, raised_change, settled_changes, value_in};

@@ -1,3 +1,5 @@
+//! An index of addresses, to find a cell among those that were read or written (hash table with chains).
+
 ghost use Rattle.std.specs.Prelude.{◌≡◌, ◌≢◌, ◌<◌, ◌++◌, ◌∷◌, ℕ, [], IfNone, IfOk, IfSome, Some, length, replicate, slice_get, vec_capacity, vec_len};
 ghost use Rattle.frame_strand.specs.Chains.{slot};
 ghost use Rattle.frame_strand.specs.Indexing.{IsChained};

@@ -1,3 +1,5 @@
+//! A frame strand: a copy of a frame is loaded, goes on to a pause, and is told what a cell holds.
+
 ghost use Rattle.std.specs.Prelude.{◌≡◌, ◌≢◌, ◌≤◌, [], map, ◌++◌, ◌∷◌, ℕ, ℤ, IfOk, None, Some, length, vec_capacity};
 ghost use Rattle.frame_engine.specs.Activation.{FrameFits, ProgramFits};
 ghost use Rattle.frame_strand.specs.Along.{HasRegisters, IsGoing, IsFrameStrandKept, MayBegin};

@@ -1,3 +1,5 @@
+//! The list itself, and how one more item is put behind the others (ghost state).
+
 ghost use Rattle.std.specs.Prelude.{◌≡◌, List, [], ◌∷◌, ◌++◌};
 ghost use Rattle.std.specs.Borrow.{ftrue};
 

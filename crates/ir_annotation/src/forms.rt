@@ -1,4 +1,4 @@
-//! A form of an annotation, read from its word.
+//! A form of an annotation (affine expression), read from its word.
 
 ghost use Rattle.std.specs.Prelude.{◌≡◌, ◌≤◌, ◌<◌, ◌^◌, ◌∷◌, ◌++◌, List, length, take, drop, unsigned_abs, IfOk, OnOk, IfErr, IfSome, IfNone, [], All, ◌&&◌};
 ghost use Rattle.std.specs.List.{prefix_len, list_all, filter_map};

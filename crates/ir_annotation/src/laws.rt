@@ -1,4 +1,4 @@
-//! Laws of reading and spelling forms: contracts of functions that do nothing.
+//! Laws of reading and spelling forms: a spelled form is read back, and one that is read is canonical.
 
 ghost use Rattle.std.specs.Prelude.{◌≡◌, ℕ, Bool, true, List, Ok};
 ghost use Rattle.syntax.specs.declared.annotation.Form.{Form};

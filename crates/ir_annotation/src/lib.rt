@@ -2,6 +2,9 @@
 //!
 //! [`read_annotation`] reads the words of one line; the `push_` functions write the words of one line in their canonical spelling.
 //! Where an annotation may stand, and how often, is judged by the layer above.
+//!
+//! - Read: `keywords`, `lines`, `words`, `forms`, `sums`, within `limits`. `meaning`: what was read (`Annotation`).
+//! - Printed: `pieces`, `spelling`. Both: `laws`, `line_laws` (what is printed is read back).
 #![tactic(auto)]
 
 mod forms;

@@ -1,4 +1,4 @@
-//! The limits of names and numbers.
+//! The limits of names and numbers in annotations, and what a word says with whether it keeps them.
 
 ghost use Rattle.std.specs.Prelude.{◌≡◌, ◌≤◌};
 ghost use Rattle.ir_annotation.specs.Limits.{up_to, narrowed};

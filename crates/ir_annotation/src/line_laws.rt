@@ -1,4 +1,4 @@
-//! Laws of reading and printing annotations: contracts of functions that do nothing.
+//! Laws of reading and printing annotations: a printed one is read back, and one that is read is kept.
 
 ghost use Rattle.std.specs.Prelude.{◌≡◌, ℕ, true, List, Ok};
 ghost use Rattle.ir_annotation.specs.declared.meaning.Annotation.{Annotation};

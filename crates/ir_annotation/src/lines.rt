@@ -1,4 +1,4 @@
-//! The words of an annotation's line.
+//! From the words of an annotation's line to what it says, kind by kind (parser of annotations).
 
 ghost use Rattle.std.specs.Prelude.{◌≡◌};
 ghost use Rattle.ir_annotation.specs.Reading.{made};

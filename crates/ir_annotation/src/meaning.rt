@@ -1,3 +1,5 @@
+//! What an annotation says, kind by kind: `requires`, `ensures`, `keeps`, `shows`, zones, measures and costs.
+
 use syntax::{Budget, Inequality, Left, Measure, Pending, Zone};
 
 /// What an annotation says.

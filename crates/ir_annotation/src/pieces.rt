@@ -1,5 +1,5 @@
-//! What the words of an annotation are made of. An annotation is a list of pieces, and one call writes it: each call by itself could
-//! want memory, and who writes would have to ask after each.
+//! What the words of an annotation are made of, and the one call that writes them (printer). An annotation is a list of
+//! pieces, and one call writes it: each call by itself could want memory, and who writes would have to ask after each.
 
 ghost use Rattle.std.specs.Prelude.{◌≡◌, ◌++◌, OnOk, OnErr, string_bytes, flat_map};
 ghost use Rattle.ir_annotation.specs.Spelling.{mode_text, object_text};

@@ -1,4 +1,4 @@
-//! Terms of a form, and their sum.
+//! Terms of a form, and how they are added up: like terms joined, in the order of names.
 
 ghost use Rattle.std.specs.Prelude.{◌≡◌, ◌≤◌, ◌<◌, ◌^◌, ℕ, ◌+ℤ◌, length, insert, slice_set, slice_index_or, unsigned_abs, IsTrue, OnOk, All};
 ghost use Rattle.std.specs.List.{prefix_len};

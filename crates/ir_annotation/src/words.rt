@@ -1,4 +1,4 @@
-//! The words of an annotation but forms.
+//! The words of an annotation but forms: numbers, names, registers, objects, modes.
 
 ghost use Rattle.std.specs.Prelude.{◌≡◌, ◌≤◌, IfOk};
 ghost use Rattle.ir_annotation.specs.Answers.{Gives};

@@ -1,4 +1,4 @@
-//! What defines a register: behind `%d =` and a word.
+//! From a line that defines a register to its instruction: behind `%d =` and a word (parser).
 
 ghost use Rattle.std.specs.Prelude.{◌≡◌, [], ◌∷◌, codes, option_map};
 ghost use Rattle.ir_instruction.specs.Answers.{Finds, Gives};

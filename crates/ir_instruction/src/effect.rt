@@ -1,4 +1,4 @@
-//! Instructions that define no register: what stands behind their first word.
+//! Instructions that define no register (`store`, `atomicrmw`, `call`): what stands behind their first word.
 
 ghost use Rattle.std.specs.Prelude.{◌≡◌, [], ◌∷◌, codes, option_map};
 ghost use Rattle.ir_instruction.specs.Answers.{Gives};

@@ -1,5 +1,6 @@
-//! What a line ends with. Each reads up to the line's end, and what is read behind one another is let go in few places: a proof
-//! follows each step with all that is held at it.
+//! What a line ends with: a last word, operand, address or label, read up to the line's end. Each reads up to the
+//! line's end, and what is read behind one another is let go in few places: a proof follows each step with all that is
+//! held at it.
 
 ghost use Rattle.std.specs.Prelude.{◌≡◌, [], ◌∷◌, codes};
 ghost use Rattle.ir_instruction.specs.Answers.{Finds, Gives};

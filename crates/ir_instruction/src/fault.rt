@@ -1,3 +1,5 @@
+//! Why a line's tokens say no instruction: a syntax error, or want of memory.
+
 ghost use Rattle.std.specs.Prelude.{◌≡◌};
 ghost use Rattle.ir_instruction.specs.declared.fault.LineFault.TheVariants.{Memory};
 

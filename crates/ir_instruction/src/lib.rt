@@ -1,5 +1,8 @@
 //! The parts of a line: its symbols, what stands at the front of them, and the instruction or terminator behind a first word. Which
 //! of them make an item is for the crate above, which knows annotations too.
+//!
+//! - `tokens`, `symbol`, `numeral`: symbols. `front`, `ends`, `list`: parts of a line. `fault`: why there is no item.
+//! - `definition`, `effect`, `operator`: instructions. `terminator`, `switch`: terminators.
 #![tactic(auto)]
 
 mod definition;

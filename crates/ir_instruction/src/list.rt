@@ -1,4 +1,4 @@
-//! Lists within a line.
+//! Lists within a line: parameters of functions, arguments of calls, entries of phis.
 
 ghost use Rattle.std.specs.Prelude.{◌≡◌, List, length, codes, Option, option_map};
 ghost use Rattle.ir_instruction.specs.declared.symbol.Symbol.{Symbol};

@@ -1,4 +1,4 @@
-//! The words of operations.
+//! The words of operations (opcodes) and of comparisons' predicates, read.
 
 ghost use Rattle.std.specs.Prelude.{◌≡◌};
 ghost use Rattle.ir_instruction.specs.Answers.{Finds};

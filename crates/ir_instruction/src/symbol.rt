@@ -1,3 +1,5 @@
+//! Tokens with what they stand for: names, numbers, words and signs.
+
 use lists::Name;
 
 /// A number as a line spells it.

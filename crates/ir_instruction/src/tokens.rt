@@ -1,4 +1,4 @@
-//! From tokens to what they stand for.
+//! From tokens to symbols: names without sigils, numbers with values, words and signs.
 
 ghost use Rattle.std.specs.Prelude.{◌≡◌, All, IsAscii, IfOk, map, true};
 ghost use Rattle.ir_lex.specs.Spelling.{is_number, is_marked_name};

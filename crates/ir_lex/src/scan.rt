@@ -1,4 +1,4 @@
-//! From bytes to tokens.
+//! From the bytes of a line to its tokens (lexer, tokenizer).
 
 ghost use Rattle.std.specs.Prelude.{◌≡◌, ◌<◌, ◌≤◌, length, drop, All, IfOk, IfErr, IsUtf8, Some};
 ghost use Rattle.ir_lex.specs.Tokens.{lead, lead_in_note, front_at, tokens_from, tokens_of};

@@ -1,4 +1,4 @@
-//! How tokens are spelled.
+//! How tokens are spelled: which bytes are blanks, signs, digits and parts of names (character classes).
 
 ghost use Rattle.std.specs.Prelude.{◌≡◌, ◌≤◌, length};
 ghost use Rattle.std.specs.List.{prefix_len, list_all};

@@ -1,3 +1,5 @@
+//! A token of a line: its kind, and from where to where it stands (lexer).
+
 /// What a token is by its bytes.
 #[derive(Clone, Copy, PartialEq, Eq)]
 pub enum Kind {

@@ -1,4 +1,4 @@
-//! The lines of a text.
+//! A text cut into lines.
 
 ghost use Rattle.std.specs.Prelude.{◌≡◌, ◌<◌, ◌≤◌, ◌+◌, ◌∷◌, length};
 ghost use Rattle.std.specs.List.{prefix_len};

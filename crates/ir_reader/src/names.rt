@@ -1,4 +1,4 @@
-//! The names that stand so far, to find one that is defined twice.
+//! The names that stand so far, to find one that is defined twice (hash set).
 
 ghost use Rattle.std.specs.Prelude.{◌≡◌, ◌++◌, ◌∷◌, [], not, OnErr, IfOk, if◌then◌else◌};
 ghost use Rattle.ir_reader.specs.Names.{is_repeated};

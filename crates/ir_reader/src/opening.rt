@@ -1,4 +1,4 @@
-//! Functions and blocks as their first lines open them, and what is put into them.
+//! Functions and blocks as their first lines open them, and how parts are put behind those that are there.
 
 ghost use Rattle.std.specs.Prelude.{◌≡◌, [], IfOk};
 ghost use Rattle.ir_reader.specs.Opening.{zero_form, new_function, new_block, with_global, with_function, with_block, with_phi, with_step, with_ending};

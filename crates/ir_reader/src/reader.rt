@@ -1,4 +1,4 @@
-//! From bytes to a module, line by line.
+//! From the bytes of a text to a module, line by line (parser).
 
 ghost use Rattle.std.specs.Prelude.{◌≡◌, length, IfErr, IfOk, Ok, Some};
 ghost use Rattle.ir_reader.specs.Draft.{placed};

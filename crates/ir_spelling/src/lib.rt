@@ -1,5 +1,8 @@
 //! How the parts of a module's canonical text are spelled: its words, instructions and terminators, and the lines of annotations, globals,
 //! heads of functions and steps.
+//!
+//! - `instruction_text`, `terminator_text`, `spelling`: instructions, terminators, values and words.
+//! - `lines`, `note_lines`: whole lines, of code and of annotations, of `pieces`.
 #![tactic(auto)]
 
 mod instruction_text;

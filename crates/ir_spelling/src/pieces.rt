@@ -1,5 +1,5 @@
-//! What lines are made of. A line is a list of pieces, and one call writes it: each call by itself could want memory, and who writes
-//! would have to ask after each.
+//! What lines are made of, and the one call that writes them (printer). A line is a list of pieces, and one call writes
+//! it: each call by itself could want memory, and who writes would have to ask after each.
 
 ghost use Rattle.std.specs.Prelude.{◌≡◌, ◌++◌, ◌*◌, OnOk, string_bytes, flat_map};
 ghost use Rattle.ir_instruction.specs.Spelling.{width_word};

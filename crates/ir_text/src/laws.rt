@@ -1,3 +1,5 @@
+//! The law that a module's canonical text is read back as the module (parser and printer, round trip).
+
 ghost use Rattle.ir_text.specs.RoundTrip.{AnswersAreOne, PrintIsReadBack};
 
 /// The canonical text of a module that is kept, where it is within the limit of bytes, is read back as the module, lines aside; and

@@ -1,4 +1,4 @@
-//! The cells of a module's globals.
+//! How many cells the globals of a module have, and a frame of its functions at most.
 
 ghost use Rattle.std.specs.Prelude.{◌≡◌};
 ghost use Rattle.kernel_calls.specs.Told.{cells_in, cells_of};

@@ -1,4 +1,4 @@
-//! A verified module, prepared for its runs.
+//! A verified module, decoded once for all its runs, with its arguments' names and its identity.
 
 ghost use Rattle.std.specs.Prelude.{◌≡◌, IfSome};
 ghost use Rattle.serial_machine.specs.Decoding.{IsCodeOf};

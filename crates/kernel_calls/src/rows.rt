@@ -1,4 +1,4 @@
-//! The call that runs a module that is kept over many rows.
+//! The call that runs a module that is kept over many rows (batch).
 
 ghost use Rattle.std.specs.Prelude.{◌≡◌, ◌≤◌, ◌+◌, Some, min};
 ghost use Rattle.kernel_calls.specs.Held.{AreRuns, IsRun};

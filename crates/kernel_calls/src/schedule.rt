@@ -1,4 +1,4 @@
-//! The call that writes what a run on threads has done.
+//! The call that writes what a run on threads has done, as the text of a schedule.
 
 ghost use Rattle.std.specs.Prelude.{◌≡◌, ◌≢◌, ◌⊎◌, ◌<◌, IfErr, IfNone, IfOk, IfSome, List, None, Some, length, string_bytes, ℕ};
 ghost use Rattle.frame.specs.declared.event.Event as event_value;

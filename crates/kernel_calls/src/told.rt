@@ -1,4 +1,4 @@
-//! What a host is told. The header has the same structs and statuses.
+//! What a host is told: verdicts, outcomes and statuses (error codes). The header has the same structs and statuses.
 
 ghost use Rattle.std.specs.Prelude.{◌≡◌};
 

@@ -1,4 +1,4 @@
-//! A serial run that may be stopped.
+//! A serial run that may be stopped, which looks at the stop from time to time.
 
 ghost use Rattle.std.specs.Prelude.{◌≡◌, ◌≢◌, IsSome, List, ℤ};
 ghost use Rattle.program.specs.declared.function.Program.{Program};

@@ -1,4 +1,4 @@
-//! Reasons in words.
+//! Reasons in words: of a status, of a rule, and of a refusal (`explain`), written where C has room.
 
 ghost use Rattle.std.specs.Prelude.{◌≡◌, ◌≢◌, ◌⊎◌, IsSome, List, Option, ℕ, IfOk};
 ghost use Rattle.explain.specs.Verdict.{IsVerdictOn};

@@ -1,4 +1,4 @@
-//! Why a form could not be made.
+//! Why a form could not be made: a number passes its bounds, or memory was refused.
 
 ghost use Rattle.std.specs.Prelude.{◌≡◌};
 ghost use Rattle.linear.specs.declared.fault.FormFault.TheVariants.{Memory};

@@ -1,3 +1,5 @@
+//! Linear forms (affine expressions) over registers, and facts: forms that are at least 0.
+
 ghost use Rattle.linear.specs.Forms.{IsForm};
 ghost use Rattle.linear.specs.Terms.{Combination};
 

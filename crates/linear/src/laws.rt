@@ -1,4 +1,4 @@
-//! Laws of forms: contracts of functions that do nothing.
+//! Laws of the values of forms: sums, multiples and differences.
 
 ghost use Rattle.std.specs.Prelude.{◌≡◌, ℕ, ℤ, negsuc, ◌+ℤ◌, ◌*ℤ◌};
 ghost use Rattle.linear.specs.Forms.{Same, value, plus, minus, scaled, put};

@@ -1,4 +1,4 @@
-//! How forms are made.
+//! How forms are made: terms, constants and multiples added, differences (arithmetic on affine expressions).
 
 ghost use Rattle.std.specs.Prelude.{◌≡◌, ℕ, ◌<◌, ◌≤◌, ◌^◌, ◌+ℤ◌, ◌∷◌, length, unsigned_abs, pos, negsuc, ◌*ℤ◌, OnOk, IfOk, IfSome, IfNone, Err, Some, None};
 ghost use Rattle.std.specs.List.{prefix_len};

@@ -1,4 +1,4 @@
-//! The parts of a form, lent.
+//! The terms and the constant of a form, lent to who compares two forms.
 
 ghost use Rattle.std.specs.Prelude.{◌≡◌, ◌<◌, ◌^◌, unsigned_abs};
 ghost use Rattle.linear.specs.Forms.{AreSmall, IsRising};

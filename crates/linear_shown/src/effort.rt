@@ -1,4 +1,5 @@
-//! How much searching a caller grants. Nothing is owed for what is counted: what is answered is exact, and what is left says only whether to go on asking.
+//! How much searching a caller grants (resource limit, timeout). Nothing is owed for what is counted: what is answered
+//! is exact, and what is left says only whether to go on asking.
 
 ghost use Rattle.std.specs.Prelude.{◌≡◌, ◌-◌, IsSome, IsTrue, None, Some};
 

@@ -1,4 +1,4 @@
-//! What many facts show.
+//! Whether many facts show a form: by one, by bounds, or by two that the index finds (entailment).
 
 ghost use Rattle.std.specs.Prelude.{◌≡◌, ◌-◌, suc, true, IfOk, IfSome, IsTrue, drop, length};
 ghost use Rattle.linear_shown.specs.Index.{IsKeyOf, AreLayers};

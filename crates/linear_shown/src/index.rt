@@ -1,4 +1,5 @@
-//! Facts by the values of their terms, so that one is looked up. Of facts with the same coefficients the strongest alone decides.
+//! Facts by the values of their terms, so that one is looked up (index for search). Of facts with the same coefficients
+//! the strongest alone decides.
 
 ghost use Rattle.std.specs.Prelude.{◌≡◌, ◌<◌, ◌≤◌, ◌+◌, ◌*◌, ◌^◌, ◌↔◌, ◌++◌, [], ℕ, suc, All, Contains, IsTrue, IfSome, IfNone, IfOk, OnOk, length};
 ghost use Rattle.std.specs.Prelude.{unsigned_abs, ◌≤ℤ◌, false, true, slice_index_or};

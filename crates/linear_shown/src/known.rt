@@ -1,4 +1,4 @@
-//! What is known at a place, with an index of it where it is much.
+//! The facts that are known at a place, with an index of them if they are many, for questions.
 
 ghost use Rattle.std.specs.Prelude.{◌≡◌, IsTrue, IfOk};
 ghost use Rattle.linear_shown.specs.Index.{IsNegative};

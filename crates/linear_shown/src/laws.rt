@@ -1,4 +1,4 @@
-//! Laws of what is shown: contracts of functions that do nothing.
+//! Laws of what is shown: it is true where the facts are, and the test answers just that (soundness, exactness).
 
 ghost use Rattle.std.specs.Prelude.{ℕ, ℤ, List};
 ghost use Rattle.std.specs.Bool.{Decides};

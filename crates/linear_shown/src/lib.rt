@@ -1,6 +1,11 @@
 //! Entailment of linear inequalities: whether a form is a nonnegative combination of two known facts and a constant.
 //!
 //! All pairs of facts are tried; of many facts the second is looked up by an index that grows from place to place.
+//!
+//! - `show`: by two facts (`shown`), among all pairs. `find`, `lookup`, `index`, `meeting`, `merge`, `weight`, `hint`:
+//!   by an index.
+//! - `known`, `fact_list`, `fact_cursor`, `fact_branches`: facts that grow along places. `effort`: what a search may
+//!   take. `laws`.
 #![tactic(auto)]
 
 mod effort;

@@ -1,4 +1,4 @@
-//! What facts show.
+//! Whether facts show a form: two of them with factors, and a constant, make it up; all pairs are tried.
 
 ghost use Rattle.std.specs.Prelude.{◌≡◌, ◌<◌, ◌≤◌, ◌+◌, ◌^◌, ◌↔◌, ℕ, IsTrue, IfSome, All, length, slice_index, pos, ◌≤ℤ◌, ◌+ℤ◌, ◌*ℤ◌, unsigned_abs, ℤ};
 ghost use Rattle.linear.specs.Forms.{AreSmall, IsRising, Holds};

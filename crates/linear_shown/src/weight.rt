@@ -1,4 +1,4 @@
-//! A number for the terms of a form, by which forms are looked up: their value where each register has its weight.
+//! A number for the terms of a form, by which forms are looked up (hash): their value at weights of registers.
 
 ghost use Rattle.std.specs.Prelude.{◌≡◌, ◌<◌, ◌≤◌, ◌+◌, ◌^◌, pos, ◌+ℤ◌, ◌*ℤ◌, ◌∷◌, [], unsigned_abs, IfSome};
 ghost use Rattle.linear.specs.Forms.{AreSmall};

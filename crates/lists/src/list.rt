@@ -1,3 +1,5 @@
+//! A list that is filled element by element, and says at its end whether memory was refused (a builder).
+
 use std::alloc::{AllocError, Global};
 
 /// A list that is filled element by element. Where memory is refused for an element, that element is dropped, and [`ListBuffer::finish`] says so.

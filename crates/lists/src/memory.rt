@@ -1,3 +1,5 @@
+//! The error of every function that takes memory: it was refused, and what was lent is as it was.
+
 use std::alloc::{AllocError, AllocFailed};
 use thiserror::Error;
 

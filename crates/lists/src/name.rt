@@ -1,3 +1,5 @@
+//! A name of a module's text, without its sigil (an identifier), and whether two are the same.
+
 ghost use Rattle.std.specs.Prelude.{◌≡◌, ◌↔◌, ℕ, List, IsTrue, string_bytes, IfOk};
 
 use std::alloc::{AllocError, Global};

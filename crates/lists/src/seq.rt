@@ -1,3 +1,5 @@
+//! A growable list, which contracts see as its elements (a vector).
+
 ghost use Rattle.std.specs.Prelude.{◌≡◌, ◌++◌, ◌∷◌, ◌↔◌, [], List, length, IsTrue, OnOk, OnErr, IfErr};
 
 use std::alloc::{AllocFailed, Global};

@@ -1,3 +1,5 @@
+//! A text that is written piece by piece, and says at its end whether memory was refused (a string builder).
+
 use std::alloc::{AllocError, Global};
 use std::fmt::Display;
 

@@ -1,3 +1,5 @@
+//! The cells of a run by one worker, which count what a strand reads and writes, and stop it past 256.
+
 ghost use Rattle.std.specs.Prelude.{◌≡◌, ⊤, Some};
 ghost use Rattle.frame_engine.specs.Flat.{cell_in, is_cell};
 ghost use Rattle.lone_run.specs.Counted.{IsFull};

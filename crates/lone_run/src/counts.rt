@@ -1,4 +1,4 @@
-//! How many cells a strand has read and written.
+//! How many cells a strand has read and written, each counted once.
 ghost use Rattle.std.specs.Prelude.{◌≡◌, OnErr, OnOk};
 ghost use Rattle.frame_engine.specs.Access.{Adds, Loads, Stores};
 ghost use Rattle.lone_run.specs.Counted.{IsBlank, IsFull};

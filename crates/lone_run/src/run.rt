@@ -1,3 +1,5 @@
+//! A run of one worker alone, strand by strand: it begins, does one strand, and says how far it has come.
+
 ghost use Rattle.std.specs.Prelude.{◌≡◌, ◌≢◌, ◌+◌, ◌<◌, ◌≤◌, Err, IfErr, IfNone, IfOk, IfSome, None};
 ghost use Rattle.store.specs.Requirements.{unmet_in};
 ghost use Rattle.store.specs.Made.{IsMadeFor};

@@ -1,3 +1,5 @@
+//! A run of one worker that nobody watches, which is done as the serial run.
+
 ghost use Rattle.std.specs.Prelude.{◌≡◌, ◌≢◌, Err, IfErr, IfOk, None, OnOk};
 ghost use Rattle.store.specs.Requirements.{unmet_in};
 ghost use Rattle.store.specs.Named.{HasGlobalCells};

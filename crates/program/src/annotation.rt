@@ -1,3 +1,5 @@
+//! Annotations with resolved names: inequalities, zones, pending zones, measures, budgets and what is left.
+
 use crate::identifier::ObjectName;
 use linear::{Form, RegisterId};
 use syntax::{Mode, Seq};

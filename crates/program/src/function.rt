@@ -1,3 +1,5 @@
+//! Globals, parameters, kinds of registers (types), allocas, blocks, functions, and the whole program.
+
 use crate::annotation::{Budget, Inequality, Left, Measure, Pending, Zone};
 use crate::identifier::FunctionId;
 use crate::instruction::{Ending, Phi, Step};

@@ -1,3 +1,5 @@
+//! The numbers by which globals, functions, blocks and allocas go, and names of whole objects.
+
 use linear::RegisterId;
 
 /// A global, by its place in the text, from 0.

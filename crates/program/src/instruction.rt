@@ -1,3 +1,5 @@
+//! Instructions, phis and terminators with resolved names: operands, addresses and targets are numbers.
+
 use crate::annotation::Inequality;
 use crate::identifier::{AllocaId, BlockId, FunctionId, ObjectName};
 use linear::RegisterId;

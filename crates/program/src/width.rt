@@ -1,3 +1,5 @@
+//! The width of what a conversion reads and of what it gives (`trunc`, `sext`, `zext`).
+
 ghost use Rattle.std.specs.Prelude.{◌≡◌};
 ghost use Rattle.program.specs.Widths.{source_width};
 

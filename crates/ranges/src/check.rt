@@ -1,3 +1,5 @@
+//! The rules 501 to 508 over a program, and what is known at each of its places.
+
 ghost use Rattle.std.specs.Prelude.{◌≡◌, IfOk, IfErr, Any};
 ghost use Rattle.refusal.specs.declared.broken.Broken.{Broken};
 ghost use Rattle.refusal.specs.Earliest.{IsEarliest};

@@ -1,3 +1,5 @@
+//! What an edge makes known where it is taken: the outcome of a branch's `icmp`, or the case of a switch.
+
 ghost use Rattle.std.specs.Prelude.{◌≡◌, ◌++◌, ◌∷◌, [], List, true, false, pos, negsuc, ◌*ℤ◌, map, IfOk, OnOk};
 ghost use Rattle.program.specs.syntax.declared.operator.Predicate.TheVariants.{Equal};
 ghost use Rattle.ranges_owed.specs.cfg.declared.structure.Way.TheVariants.{Branch};

@@ -1,3 +1,5 @@
+//! From a sum of operands to a form over registers, unless a number of it passes the bounds of a form.
+
 ghost use Rattle.std.specs.Prelude.{◌≡◌, ◌<◌, ◌^◌, ◌*ℤ◌, true, IfOk, IsErr, Ok, Err, Some, None, unsigned_abs};
 ghost use Rattle.linear.specs.declared.fault.FormFault.TheVariants.{Bounds, Memory};
 ghost use Rattle.linear.specs.Made.{is_bounded};

@@ -1,3 +1,5 @@
+//! Names what a place owes and its facts do not show: obligations, `shows` lines, and `keeps` on edges (invariants).
+
 ghost use Rattle.std.specs.Prelude.{◌≡◌, ◌++◌, ◌∷◌, [], false, Any, IfOk, OnOk, slice_get};
 ghost use Rattle.refusal.specs.Earliest.{IsEarliest};
 ghost use Rattle.ranges.specs.Sums.{shows, is_met};

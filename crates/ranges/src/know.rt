@@ -1,3 +1,5 @@
+//! Adds a sum to the facts, and asks whether they show that a sum is at least 0 (entailment).
+
 ghost use Rattle.std.specs.Prelude.{◌≡◌, ◌++◌, ◌∷◌, [], IfOk, OnOk};
 ghost use Rattle.ranges.specs.Sums.{facts_of, shows, is_met};
 

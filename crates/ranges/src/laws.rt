@@ -1,4 +1,4 @@
-//! Laws of facts: contracts of functions that do nothing.
+//! Laws of facts: what true facts show is true, and met obligations hold (soundness).
 
 ghost use Rattle.std.specs.Prelude.{◌≡◌, ℕ, ℤ, List, All, Any, true};
 ghost use Rattle.linear.specs.declared.form.Fact.{Fact};

@@ -1,3 +1,5 @@
+//! What an instruction makes known of its result: sums, products, quotients, masks, conversions, a call's `ensures`.
+
 ghost use Rattle.std.specs.Prelude.{◌≡◌, ◌++◌, ◌∷◌, [], pos, ◌≤ℤ◌, ◌-ℤ◌, true, IfOk, OnOk, slice_get};
 ghost use Rattle.program.specs.syntax.declared.operator.BinaryOperator.TheVariants.{AddNoWrap, SubtractNoWrap};
 ghost use Rattle.ranges_owed.specs.Scales.{is_scale, scale_of};

@@ -10,6 +10,11 @@
 //! | 506 | a callee's `requires`, at a call |
 //! | 507 | a function's `ensures`, at each `ret` |
 //! | 508 | `shows`, where it stands |
+//!
+//! - `check`: the rules over a program. `walk`: a block, step by step. `judge`: what is not shown. `past`,
+//!   `unverified`: faults.
+//! - `learn`, `edge`: what instructions and edges make known. `know`, `form`: facts of sums. `table`: what is kept of
+//!   it. `laws`.
 #![tactic(auto)]
 
 mod check;

@@ -1,3 +1,5 @@
+//! What is kept of a verified function: the facts at each step, at each block's end and on each edge.
+
 ghost use Rattle.std.specs.Prelude.{◌≡◌, take, slice_index_or};
 
 use linear::Fact;

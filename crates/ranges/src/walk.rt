@@ -1,3 +1,5 @@
+//! Goes through a block step by step: judges each, and gathers the facts (a forward pass with no fixed point).
+
 ghost use Rattle.std.specs.Prelude.{◌≡◌, ◌++◌, ◌∷◌, [], ℕ, length, take, slice_get, slice_index_or, Some, IfOk, OnOk};
 ghost use Rattle.program.specs.declared.instruction.Step.{Step};
 ghost use Rattle.refusal.specs.declared.broken.Broken.{Broken};

@@ -1,3 +1,5 @@
+//! Inequalities as sums, with arguments for parameters and phis' operands for registers put in (substitution).
+
 ghost use Rattle.std.specs.Prelude.{◌≡◌, ◌++◌, ◌<◌, ◌^◌, ◌⊎◌, ◌*ℤ◌, pos, negsuc, IfOk, OnOk, OnErr, All, length, take, unsigned_abs};
 ghost use Rattle.linear.specs.Forms.{AreSmall};
 ghost use Rattle.ranges_owed.specs.Inequalities.{operand_for, part_of, parts_of, difference_of, differences_of, argument_operand, argument_moves};

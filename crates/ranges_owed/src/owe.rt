@@ -1,3 +1,5 @@
+//! What an instruction owes so that it does not trap: no overflow, no division by 0, indices in their object.
+
 ghost use Rattle.std.specs.Prelude.{◌≡◌, ◌++◌, ◌∷◌, [], true, Some, IfOk, OnOk, slice_get};
 ghost use Rattle.program.specs.syntax.declared.operator.BinaryOperator.TheVariants.{AddNoWrap, SubtractNoWrap};
 ghost use Rattle.ranges_owed.specs.Inequalities.{difference_of};

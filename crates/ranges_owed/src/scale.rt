@@ -1,3 +1,5 @@
+//! Products of which one operand is a number within a million, so that they are linear.
+
 ghost use Rattle.std.specs.Prelude.{◌≡◌, true, IfSome};
 ghost use Rattle.ranges_owed.specs.Scales.{is_scale, scale_number, scale_of};
 

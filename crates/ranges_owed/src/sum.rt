@@ -1,3 +1,5 @@
+//! Sums of operands times numbers (affine expressions), and obligations: one of some sums is at least 0.
+
 ghost use Rattle.std.specs.Prelude.{◌≡◌, ◌++◌, ◌∷◌, [], negsuc, ◌*ℤ◌, true, IfOk};
 ghost use Rattle.ranges_owed.specs.Scales.{is_scale};
 ghost use Rattle.ranges_owed.specs.Sums.{one, two};

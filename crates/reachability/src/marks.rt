@@ -1,3 +1,5 @@
+//! Marks for the nodes of a graph, none set or one (bit sets as lists of booleans).
+
 ghost use Rattle.std.specs.Prelude.{◌≡◌, ◌<◌, ◌↔◌, ℕ, length, true, false, IfOk, slice_index_or};
 
 use std::alloc::{AllocError, Global};

@@ -1,3 +1,5 @@
+//! A broken rule with its line, and which of two is named: by line, then by number (precedence of errors).
+
 ghost use Rattle.std.specs.Prelude.{◌≡◌};
 ghost use Rattle.refusal.specs.Before as spec;
 ghost use Rattle.refusal.specs.Named.{IsLowerOf};

@@ -1,3 +1,5 @@
+//! Why a module is refused: a rule with its line, or want of memory (the verifier's error type).
+
 ghost use Rattle.std.specs.Prelude.{◌≡◌};
 ghost use Rattle.refusal.specs.declared.refused.Refused.TheVariants.{Fault, Memory};
 

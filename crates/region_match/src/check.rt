@@ -1,3 +1,5 @@
+//! All rules on tasks and sync regions over a program, and which broken one is named.
+
 ghost use Rattle.std.specs.Prelude.{◌≡◌, ◌<◌, ◌⊎◌, ℕ, length, IfOk, IfErr};
 ghost use Rattle.cfg.specs.Edges.{graph_of};
 ghost use Rattle.refusal.specs.Earliest.{IsJudged, IsEarliest};

@@ -1,3 +1,5 @@
+//! Blocks that two paths give different tasks (the paths do not agree where they join).
+
 ghost use Rattle.std.specs.Prelude.{◌≡◌, ◌<◌, ◌↔◌, ◌⊎◌, ℕ, true, false, length, Any, IsTrue, IfOk, slice_index_or};
 ghost use Rattle.region_match.specs.Tasks.{HasTwoTasks, IsInnermostAt, task_at};
 ghost use Rattle.region_match.specs.Labels.{is_seen, IsLabelled, IsClash, HasClash};

@@ -1,3 +1,5 @@
+//! The task of each block of a function, or rule 306 where a block has two.
+
 ghost use Rattle.std.specs.Prelude.{◌≡◌, ◌<◌, ◌↔◌, ℕ, true, false, length, IfOk, slice_index_or};
 ghost use Rattle.cfg.specs.Edges.{graph_of};
 ghost use Rattle.refusal.specs.Earliest.{IsJudged};

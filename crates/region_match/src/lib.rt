@@ -8,6 +8,9 @@
 //! | 304 | a sync of its region follows each detach before its task ends |
 //! | 305 | a `ret` stands in no task |
 //! | 307 | regions, phis and `foot` lines stand where they may, and a detached block has its detach as only predecessor |
+//!
+//! - `check`: the rules over a program. `task`, `tables`: each block's task. `label`, `clash`: rule 306.
+//! - `matching`: rules 301 to 303 and 305. `unsynced`: 304. `places`: 307.
 #![tactic(auto)]
 
 mod check;

@@ -1,3 +1,5 @@
+//! The rules 301, 302, 303 and 305: what ends a block, and `pending` lines, fit the detach and its region.
+
 ghost use Rattle.std.specs.Prelude.{◌≡◌, ◌↔◌, ◌⊎◌, ℕ, length, IsTrue};
 ghost use Rattle.std.specs.Option.{option_copied};
 ghost use Rattle.program.specs.declared.instruction.Instruction.TheVariants.{StartRegion};

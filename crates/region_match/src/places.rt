@@ -1,3 +1,5 @@
+//! Rule 307: where regions, phis and `foot` lines may stand, and the only predecessor of a detached block.
+
 ghost use Rattle.std.specs.Prelude.{◌≡◌, ◌≢◌, ◌↔◌, ◌⊎◌, ℕ, false, length, Any, IsTrue};
 ghost use Rattle.program.specs.linear.declared.form.RegisterId.{RegisterId};
 ghost use Rattle.program.specs.declared.instruction.Instruction.TheVariants.{StartRegion};

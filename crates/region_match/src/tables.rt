@@ -1,3 +1,5 @@
+//! The table of tasks: one for each block of each function.
+
 use crate::task::Task;
 use lists::Seq;
 

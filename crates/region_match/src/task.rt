@@ -1,3 +1,5 @@
+//! The task of a block by the innermost detach that leads to it, found by a worklist along the edges.
+
 ghost use Rattle.std.specs.Prelude.{◌≡◌, ◌<◌, ℕ, true, length, OnOk, IfOk};
 ghost use Rattle.region_match.specs.Labels.{next_task, is_seen, LabelsTargets, IsLabelled};
 

@@ -1,3 +1,5 @@
+//! Rule 304: no detach is open, that is without a sync of its region, where its task ends.
+
 ghost use Rattle.std.specs.Prelude.{◌≡◌, ◌<◌, ◌↔◌, ℕ, List, true, false, length, Some, IsTrue, IfOk, MatchOption, slice_index_or};
 ghost use Rattle.program.specs.linear.declared.form.RegisterId.{RegisterId};
 ghost use Rattle.program.specs.declared.identifier.BlockId.{BlockId};

@@ -1,4 +1,4 @@
-//! What is said of a rule.
+//! What is said of a rule: where it is reported, what it means, how to mend it, an example.
 
 /// What is said of a rule.
 pub struct Rule {

@@ -1,4 +1,4 @@
-//! A rule as it is printed.
+//! A rule as it is printed (`rule_text`), by its number.
 
 use crate::rule::{Numbered, Rule};
 use crate::rules::numbered;

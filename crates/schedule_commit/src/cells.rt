@@ -1,3 +1,5 @@
+//! Cells of the board's row: read and set, and a strand's writes and adds put into it.
+
 ghost use Rattle.std.specs.Prelude.{◌≡◌, ◌≢◌, ℕ, ℤ, IsTrue, Some, None, map, slice_get, length, IfOk};
 ghost use Rattle.frame_engine.specs.Flat.{cell_in, is_cell};
 ghost use Rattle.frame_strand.specs.Keeping.{AreDifferent};

@@ -1,3 +1,5 @@
+//! Whether a frame strand fits: its frame is as it was loaded, and so is each cell that it read (validation).
+
 ghost use Rattle.std.specs.Prelude.{◌≡◌, ◌↔◌, ℕ, IsTrue, IfNone, IfSome, Some};
 ghost use Rattle.frame_engine.specs.Flat.{cell_in};
 ghost use Rattle.frame_strand.specs.Standing.{IsCopy};

@@ -1,3 +1,5 @@
+//! Does a frame strand's steps and its border's, if it fits; undone where memory is refused (commit).
+
 ghost use Rattle.std.specs.Prelude.{◌≡◌, ◌≢◌, ◌↔◌, ◌+◌, ◌<◌, ℕ, suc, false, true, IfOk, IsTrue, Ok, OnErr, OnOk, Some, length, slice_get};
 ghost use Rattle.std.specs.Vec.{with_items};
 ghost use Rattle.cactus.specs.Frames.{Lives, node_at};

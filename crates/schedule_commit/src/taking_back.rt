@@ -1,3 +1,5 @@
+//! Takes a frame strand back that was written: its frame and the cells hold what they did (rollback).
+
 ghost use Rattle.std.specs.Prelude.{◌≡◌, ◌≢◌, ℕ, ℤ, IfOk, IsTrue, Some, length, map, slice_get};
 ghost use Rattle.frame_engine.specs.Flat.{cell_in, is_cell};
 ghost use Rattle.frame_strand.specs.Keeping.{AreDifferent};

@@ -1,4 +1,4 @@
-//! Frame strands: what a worker did outside of the machine on a copy of its frame, done at once.
+//! Frame strands: what a worker did outside of the machine on a copy of its frame, done at once (commit).
 ghost use Rattle.std.specs.Prelude.{◌≡◌, ◌↔◌, ℤ, IfOk, IsTrue, None, Ok, OnErr, Some, false, true};
 ghost use Rattle.semantics.specs.Cells.{Cell};
 ghost use Rattle.semantics.specs.Events.{Machine as RunningMachine};

@@ -1,3 +1,5 @@
+//! How a run begins, and does one event or many, over a stage.
+
 ghost use Rattle.std.specs.Prelude.{◌≡◌, ◌≢◌, ◌<◌, [], Err, None, Ok, false, IfOk, OnOk, OnErr};
 ghost use Rattle.semantics.specs.Events.{Machine};
 ghost use Rattle.serial_machine.specs.store.Requirements.{unmet_in};

@@ -1,4 +1,4 @@
-//! What the globals hold.
+//! What the globals hold at a time of a run, by name or all of them.
 
 ghost use Rattle.std.specs.Prelude.{◌≡◌, ℤ, IfOk, Some};
 ghost use Rattle.semantics.specs.Events as running;

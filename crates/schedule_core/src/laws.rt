@@ -1,4 +1,4 @@
-//! What holds of every schedule.
+//! The law that once the root has returned no event is enabled, whatever the program.
 
 ghost use Rattle.schedule_core.specs.Over.{EndedEnablesNothing};
 

@@ -1,3 +1,5 @@
+//! A run of workers between two events: it starts, does an event, is copied, and tells how far it has come.
+
 ghost use Rattle.std.specs.Prelude.{◌↔◌, ◌≡◌, ◌≢◌, [], Err, Ok, IsSome, IsTrue, IfOk, true, false, OnErr, OnOk};
 ghost use Rattle.semantics.specs.Events as running;
 ghost use Rattle.semantics.specs.Replay.{CountsFrames, has_ended};

@@ -1,3 +1,5 @@
+//! The ready task that a worker leaves at a detach, and how deep the frame is that it runs.
+
 ghost use Rattle.std.specs.Prelude.{◌≡◌, length, IfNone, IfSome};
 ghost use Rattle.std.specs.Option.{option_map};
 ghost use Rattle.semantics.specs.Events as running;

@@ -1,3 +1,5 @@
+//! The machine after a whole schedule (`replay`).
+
 ghost use Rattle.std.specs.Prelude.{◌≢◌, Err, IfOk, OnOk};
 ghost use Rattle.schedule_core.specs.Admission.{IsAdmitted};
 ghost use Rattle.schedule_core.specs.Replaying.{KeepsItsSchedule, Replays};

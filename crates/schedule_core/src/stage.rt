@@ -1,3 +1,5 @@
+//! What a machine is made of: the module, where its objects begin, the globals' names, and the run.
+
 use crate::shared_places::SharedPlaces;
 use schedule_workers::Run;
 use serial_machine::{Memory, Verified};

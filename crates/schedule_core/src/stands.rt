@@ -1,4 +1,4 @@
-//! On which lines the workers' next instructions stand.
+//! Whether a worker's next instruction stands on a line (for breakpoints).
 
 ghost use Rattle.std.specs.Prelude.{◌≡◌, ◌↔◌, IsTrue, Some};
 ghost use Rattle.semantics.specs.Events as running;

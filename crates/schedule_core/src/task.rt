@@ -1,3 +1,5 @@
+//! How a task stands (running, ready, stalled), its frames, and the line of its next instruction.
+
 ghost use Rattle.std.specs.Prelude.{◌≡◌};
 ghost use Rattle.schedule_core.specs.Lines as lines;
 ghost use Rattle.schedule_core.specs.Viewed.{status_by};

@@ -1,3 +1,5 @@
+//! Tasks by path or by worker, the ready task of least path, and where a frame stands.
+
 ghost use Rattle.std.specs.Prelude.{◌≡◌, ◌↔◌, ◌<◌, None, Some, IsSome, IsSomeAnd, IfNone, IfSome};
 ghost use Rattle.std.specs.Option.{option_copied, option_map};
 ghost use Rattle.cactus.specs.Frames.{Lives, HasPath, frame_at, node_of_use};

@@ -1,3 +1,5 @@
+//! Why a text is no schedule: the first line with a fault, or one past the limits.
+
 ghost use Rattle.std.specs.Prelude.{◌≡◌};
 ghost use Rattle.schedule_text.specs.declared.fault.ScheduleFault.TheVariants.{Memory};
 

@@ -1,4 +1,4 @@
-//! Laws.
+//! The laws that a list of events is spelled in one way, and that a text spells one list (bijection).
 
 ghost use Rattle.schedule_text.specs.ScheduleText.{OneSpelling, OneReading};
 

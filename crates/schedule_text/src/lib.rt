@@ -2,6 +2,9 @@
 //!
 //! A schedule is a list of events. `read_schedule` and `print_schedule` turn its text into the list and back, and `spell_schedule` one that may be too
 //! long: each list has one spelling, and each text that is read is the spelling of its list.
+//!
+//! `read`, `print`: texts and lists of events. `line`, `numeral`: their parts. `fault`: why a text is no schedule.
+//! `laws`: one spelling.
 #![tactic(auto)]
 
 mod fault;

@@ -1,4 +1,4 @@
-//! From events to text.
+//! From a list of events to the text of a schedule (printer).
 
 ghost use Rattle.std.specs.Prelude.{◌≡◌, ◌≢◌, ◌++◌, ◌≤◌, ◌<◌, ◌↔◌, [], ℕ, List, length, flat_map, take, IfOk, IfNone, IfSome, IsTrue, OnOk, string_bytes};
 ghost use Rattle.std.specs.List.{prefix_len};

@@ -1,4 +1,4 @@
-//! From text to events.
+//! From the text of a schedule to its list of events (parser).
 
 ghost use Rattle.std.specs.Prelude.{◌≡◌, ◌++◌, ◌∷◌, ◌≤◌, ◌<◌, ◌↔◌, ◌⊎◌, ◌+◌, ℕ, List, length, IfSome, IfNone, IfOk, IfErr, IsTrue, true, false};
 ghost use Rattle.schedule_text.specs.declared.line.Line as line_type;

@@ -1,3 +1,5 @@
+//! A living frame with what the scheduler keeps of it: counts of children, callee, runner, stall.
+
 ghost use Rattle.std.specs.Prelude.{◌≡◌, ◌↔◌, ℕ, IfOk, IsTrue, Some, None, length};
 ghost use Rattle.schedule_workers.specs.Scheduling.{counted_in};
 ghost use Rattle.schedule_workers.specs.Tasks.{IsReady};

@@ -1,3 +1,5 @@
+//! The step of a call: the callee's frame is made on top, and the worker goes on with it.
+
 ghost use Rattle.std.specs.Prelude.{◌≡◌, ◌+◌, ◌<◌, ◌≤◌, true, ℕ, IfOk, OnErr, OnOk, Some, length, max, slice_get, vec_len};
 ghost use Rattle.semantics.specs.Paths.{Path};
 ghost use Rattle.semantics.specs.Events.{Step};

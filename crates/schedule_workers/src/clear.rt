@@ -1,3 +1,5 @@
+//! The step of an array store: cells of an object take the number 0.
+
 ghost use Rattle.std.specs.Prelude.{◌≡◌, true, ℕ, Some, length};
 ghost use Rattle.semantics.specs.Events.{Step};
 ghost use Rattle.semantics.specs.Frames.{Does};

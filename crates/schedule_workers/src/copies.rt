@@ -1,4 +1,4 @@
-//! A run again, in lists of its own.
+//! A run again, in lists of its own (clone).
 
 ghost use Rattle.std.specs.Prelude.{IfOk};
 ghost use Rattle.schedule_workers.specs.Copying.{IsCopy, IsFrameCopy};

@@ -1,3 +1,5 @@
+//! The step of a detach (spawn): the child's frame is made, the worker goes on with it, the parent is ready.
+
 ghost use Rattle.std.specs.Prelude.{◌≡◌, ◌+◌, ◌<◌, ◌^◌, ℕ, cond, eqb, true, IfOk, None, OnErr, OnOk, Some, length, vec_len};
 ghost use Rattle.semantics.specs.Paths.{Path};
 ghost use Rattle.semantics.specs.Events.{Step};

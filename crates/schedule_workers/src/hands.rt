@@ -1,3 +1,5 @@
+//! The frame that a worker runs next: the top of its task.
+
 ghost use Rattle.std.specs.Prelude.{◌≡◌, ◌<◌, OnSome, vec_len};
 ghost use Rattle.std.specs.Vec.{with_item};
 ghost use Rattle.schedule_workers.specs.Scheduling.{hand_of};

@@ -1,3 +1,5 @@
+//! From the top frame of a task down to its lowest one.
+
 ghost use Rattle.std.specs.Prelude.{IsSome, IfSome};
 ghost use Rattle.cactus.specs.Frames.{Lives};
 ghost use Rattle.cactus.specs.ByPath.{IsTree};

@@ -1,3 +1,5 @@
+//! The step of an instruction or ending that is no border.
+
 ghost use Rattle.std.specs.Prelude.{◌≡◌, true, ℕ, Some, length};
 ghost use Rattle.semantics.specs.Events.{Step};
 ghost use Rattle.std.specs.Bool.{OnFalse, OnTrue};

@@ -1,3 +1,5 @@
+//! The step of a reattach: the child ends, and its worker goes on with the parent or is idle (join).
+
 ghost use Rattle.std.specs.Prelude.{◌≡◌, ◌-◌, ◌<◌, true, ℕ, cond, eqb, Some, length, vec_len};
 ghost use Rattle.semantics.specs.Events.{Step};
 ghost use Rattle.semantics.specs.Frames.{Ends};

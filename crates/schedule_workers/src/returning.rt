@@ -1,3 +1,5 @@
+//! The step of a return: the worker goes on with the caller, or the run is over.
+
 ghost use Rattle.std.specs.Prelude.{◌≡◌, ◌<◌, true, ℤ, Option, Some, None, length, vec_len};
 ghost use Rattle.semantics.specs.Paths.{Path};
 ghost use Rattle.semantics.specs.Frames as frames;

@@ -1,3 +1,5 @@
+//! The cells of a slot's allocas: a block that is large enough, or a new one (frame allocation).
+
 ghost use Rattle.std.specs.Prelude.{◌≡◌, ◌+◌, ◌++◌, ◌<◌, ℕ, IfOk, OnOk, length, max, replicate, vec_len};
 ghost use Rattle.std.specs.Vec.{with_item};
 ghost use Rattle.schedule_workers.specs.Rooms.{IsRoom, IsRoomier, empty_at};

@@ -1,3 +1,5 @@
+//! What a run of workers is made of: cactus, cells, blocks, hands, and its counts.
+
 use crate::activation::Activation;
 use cactus::Cactus;
 use frame_engine::Flat;

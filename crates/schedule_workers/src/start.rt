@@ -1,3 +1,5 @@
+//! The run before its first event: worker 0 runs `main`, the others are idle.
+
 ghost use Rattle.std.specs.Prelude.{◌≡◌, ◌<◌, ◌≤◌, IfOk, None, Some, length, replicate, slice_get, slice_set};
 ghost use Rattle.program.specs.declared.function.Function.{Function};
 ghost use Rattle.schedule_workers.specs.Follows.{AreGiven};

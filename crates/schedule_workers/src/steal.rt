@@ -1,3 +1,5 @@
+//! The event of a steal: an idle worker takes a ready task.
+
 ghost use Rattle.std.specs.Prelude.{◌≡◌, IsSomeAnd, IsTrue, length, reverse};
 ghost use Rattle.cactus.specs.Frames.{frame_at};
 ghost use Rattle.program.specs.declared.function.Program.{Program};

@@ -1,3 +1,5 @@
+//! The event of a step: a worker does its next instruction, plain or at a border.
+
 ghost use Rattle.std.specs.Prelude.{◌≡◌, ◌<◌, ℕ, true, false, Ok, Some, IfOk, OnErr, OnOk, length, vec_len};
 ghost use Rattle.semantics.specs.Events.{Step};
 ghost use Rattle.semantics.specs.Frames.{Does, Ends};

@@ -1,3 +1,5 @@
+//! The step of a sync: the worker goes on, or its task stalls until the children of the region have ended.
+
 ghost use Rattle.std.specs.Prelude.{◌≡◌, ◌<◌, true, ℕ, Some, length, vec_len};
 ghost use Rattle.semantics.specs.Events.{Step};
 ghost use Rattle.semantics.specs.Frames.{Ends};

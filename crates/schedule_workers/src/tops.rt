@@ -1,3 +1,5 @@
+//! The top frame of the task of a path.
+
 ghost use Rattle.std.specs.Prelude.{◌≡◌, ◌↔◌, IsTrue};
 ghost use Rattle.schedule_workers.specs.Tasks.{FindsTop, IsLowest, top_within};
 

@@ -1,3 +1,5 @@
+//! Where the globals begin in the row of cells, by their sizes.
+
 ghost use Rattle.std.specs.Prelude.{◌≡◌, IfOk, map};
 ghost use Rattle.program.specs.declared.function.Function.{Function};
 ghost use Rattle.frame_engine.specs.Starts.{alloca_starts, starts_from};

@@ -1,3 +1,5 @@
+//! The serial run, whole or within fuel, of a module or of what was decoded once for all its runs.
+
 ghost use Rattle.std.specs.Prelude.{◌≡◌, ◌≤◌, ℕ, Some, None, Err, IfNone, IfOk, IfSome, map};
 ghost use Rattle.program.specs.declared.function.Function.{Function};
 ghost use Rattle.frame_engine.specs.Starts.{alloca_starts, starts_from};

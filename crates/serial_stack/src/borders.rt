@@ -1,3 +1,5 @@
+//! The serial run's steps over borders: call, return, detach, reattach, sync and array store.
+
 ghost use Rattle.std.specs.Prelude.{◌≡◌, OnOk, IfOk, Some, length};
 ghost use Rattle.semantics.specs.Frames.{Does, Ends};
 ghost use Rattle.program.specs.declared.instruction.Instruction.TheVariants as instruction;

@@ -1,3 +1,5 @@
+//! The serial run goes on by plain steps, and does what stands at a border.
+
 ghost use Rattle.std.specs.Prelude.{◌≡◌, ◌≤◌, IfOk, OnOk, Some, length};
 ghost use Rattle.semantics.specs.Frames.{Does, Ends};
 ghost use Rattle.frame_engine.specs.Activation.{FrameFits};

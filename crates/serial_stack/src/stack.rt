@@ -1,3 +1,5 @@
+//! The stack of frames of a serial run, with their cells; frames that are over are used again.
+
 ghost use Rattle.std.specs.Prelude.{◌≡◌, ◌++◌, ◌∷◌, [], OnOk};
 
 use frame_engine::{Flat, Frame, blank};

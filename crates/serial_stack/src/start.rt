@@ -1,3 +1,5 @@
+//! The first frame of a serial run, with its arguments.
+
 ghost use Rattle.std.specs.Prelude.{◌≡◌, ◌<◌, ◌≤◌, IfOk, Some, length, slice_get};
 ghost use Rattle.program.specs.declared.function.Function.{Function};
 ghost use Rattle.serial_stack.specs.Starts.{Begins};

@@ -1,3 +1,5 @@
+//! What calls at a seat answer: to a step, a claim, a load, a publication, and a frame strand's fetch and commit.
+
 use crate::ticket::Ticket;
 
 /// What a step came to.

@@ -1,3 +1,5 @@
+//! The ledger of one run, with where the run begins, as contracts see it.
+
 ghost use Rattle.std.specs.Prelude.{ℕ, ℤ, List, [], replicate};
 ghost use Rattle.program.specs.declared.function.Program.{Program};
 ghost use Rattle.schedule_core.specs.store.Cells.{NamedCells};

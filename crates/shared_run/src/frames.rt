@@ -1,4 +1,4 @@
-//! What is seen of a strand's frames.
+//! What is seen of a worker's strand: the frame on top, and how many stand below.
 ghost use Rattle.std.specs.Prelude.{◌≡◌, IfNone, IfSome};
 ghost use Rattle.shared_run.specs.Strands.{IsTop, IsUp};
 

@@ -1,3 +1,5 @@
+//! The events of a run so far, kept as steps and steals, or seen by contracts alone (log, trace).
+
 ghost use Rattle.std.specs.Prelude.{◌≡◌, ◌↔◌, ◌≢◌, ℕ, ◌+◌, ◌^◌, ◌<◌, ◌≤◌, [], ◌∷◌, ◌++◌, length, replicate, vec_len, vec_capacity, IfOk, OnOk};
 ghost use Rattle.std.specs.Prelude.{IfNone, IfSome};
 ghost use Rattle.frame.specs.declared.event.Event.TheVariants.{Step, Steal};

@@ -1,4 +1,4 @@
-//! What a board does with its workers' strands.
+//! What a board does with its workers' strands: gives them a base and pages, and publishes what they did.
 ghost use Rattle.std.specs.Prelude.{OnOk};
 ghost use Rattle.schedule_core.specs.Strands.{IsStrandOf};
 ghost use Rattle.shared_run.specs.Strands.{AreReadyTickets, Fills, FillsAhead, IsSettled, IsUp, Loads, Publishes};

@@ -1,3 +1,5 @@
+//! A worker's right to do events of its own at a board (capability).
+
 ghost use Rattle.std.specs.Prelude.{◌≡◌, ◌<◌};
 
 use crate::bench::Bench;

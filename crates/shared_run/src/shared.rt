@@ -1,3 +1,5 @@
+//! A board in a lock (mutex), and how the answer is taken when the run has ended.
+
 ghost use Rattle.std.specs.Prelude.{◌≡◌, ◌≢◌, ◌<◌, Err, None, length, vec_len, sum_by, IfOk, IfErr};
 ghost use Rattle.schedule_core.specs.Admission.{IsAdmitted};
 ghost use Rattle.schedule_core.specs.store.Made.{IsMadeFor};

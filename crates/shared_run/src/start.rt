@@ -1,3 +1,5 @@
+//! Where a run begins: its module, arguments, memory and workers; and whether these are taken.
+
 ghost use Rattle.std.specs.Prelude.{◌≡◌, ◌≢◌, ◌↔◌, Err, IfOk, IsTrue};
 ghost use Rattle.schedule_core.specs.Admission.{IsAdmitted};
 ghost use Rattle.shared_run.specs.Story.{origin};

@@ -1,3 +1,5 @@
+//! A worker's strand with its module: it is loaded, goes on outside of the board, and is told of cells.
+
 ghost use Rattle.std.specs.Prelude.{◌≡◌, ◌≢◌, ◌↔◌, ◌≤◌, IfOk, IfSome, IfNone, IsTrue, OnErr, OnOk, Ok, Some, false, length, true};
 ghost use Rattle.std.specs.List.{list_any};
 ghost use Rattle.semantics.specs.Frames.{Ends};

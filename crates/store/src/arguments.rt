@@ -1,3 +1,5 @@
+//! Which `requires` of `main` a run's arguments do not meet: the test before each run (precondition).
+
 ghost use Rattle.std.specs.Prelude.{◌≡◌, ◌+ℤ◌, ◌*ℤ◌, not, position, slice_get};
 ghost use Rattle.std.specs.Option.{option_copied};
 ghost use Rattle.store.specs.Requirements as spec;

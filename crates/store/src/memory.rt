@@ -1,3 +1,5 @@
+//! The globals of a module with their numbers, which a run begins and ends with; cells are set and read by name.
+
 ghost use Rattle.std.specs.Prelude.{◌≡◌, ◌↔◌, ◌<◌, ℕ, [], None, Some, IfNone, IfOk, IfSome, IsSome, IsTrue, length, map, slice_get, slice_set};
 ghost use Rattle.std.specs.Bool.{OnFalse, OnTrue};
 ghost use Rattle.std.specs.Option.{option_map};

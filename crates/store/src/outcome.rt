@@ -1,3 +1,5 @@
+//! What a run that has ended comes to (result, memory, instructions, peak), and why one does not begin or end.
+
 use crate::memory::Memory;
 
 /// What a run that has ended comes to.

@@ -1,3 +1,5 @@
+//! Memory as one row of numbers, global after global, and back.
+
 ghost use Rattle.std.specs.Prelude.{◌≡◌, ◌≤◌, IfOk, drop, length, sum, take};
 ghost use Rattle.store.specs.Rows.{sizes_of};
 ghost use Rattle.store.specs.Refilled.{refilled, row_of};

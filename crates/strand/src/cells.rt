@@ -1,3 +1,5 @@
+//! A strand's cells: those of its own frames' allocas, and the pages of what it read and wrote of others.
+
 ghost use Rattle.std.specs.Prelude.{◌≡◌, ◌≢◌, ◌<◌, ◌≤◌, ◌+◌, ◌+ℤ◌, ◌↔◌, ℕ, ℤ, pos, false, true, min, IfNone, IfSome, IsTrue, None, Some, length, slice_get};
 ghost use Rattle.frame_engine.specs.Flat.{is_cell};
 ghost use Rattle.strand_pages.specs.Committing.{Agrees};

@@ -1,3 +1,5 @@
+//! The frames of a strand leave their windows for boxes, from which they are published.
+
 ghost use Rattle.std.specs.Prelude.{◌≡◌, ◌≢◌, ◌+◌, ◌<◌, ◌≤◌, ◌^◌, ℕ, OnOk, Some, length};
 ghost use Rattle.frame_engine.specs.Items.{item_of};
 ghost use Rattle.serial_stack.specs.StackShown.{TextFits};

@@ -1,3 +1,5 @@
+//! A strand begins with a copy of a frame of the board.
+
 ghost use Rattle.std.specs.Prelude.{◌≡◌, [], IfOk, OnOk, length, max};
 ghost use Rattle.frame_engine.specs.Activation.{FrameFits};
 ghost use Rattle.code_tables.specs.Coded.{AreTables};

@@ -1,3 +1,5 @@
+//! What a strand is made of: its base, its frames, its cells, and what it has done.
+
 ghost use Rattle.std.specs.Prelude.{◌≡◌, ◌++◌, ◌∷◌, [], OnOk, length};
 
 use crate::cells::StrandCells;

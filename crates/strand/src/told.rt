@@ -1,3 +1,5 @@
+//! What is seen of a strand's frames: how many, whether one is ready, and what comes next.
+
 ghost use Rattle.std.specs.Prelude.{◌≡◌, ◌≢◌, None, Some, length};
 ghost use Rattle.std.specs.List.{list_any};
 ghost use Rattle.semantics.specs.Frames as given;

@@ -1,3 +1,5 @@
+//! Loads, stores and adds of a strand go to its pages.
+
 ghost use Rattle.strand_pages.specs.Accessing.{CellHolds, TableDoes, TableRefuses, any_address};
 
 use crate::log::PageLog;

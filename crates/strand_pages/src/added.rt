@@ -1,3 +1,5 @@
+//! A list of adds to cells whose pages are not in use (write buffer).
+
 ghost use Rattle.std.specs.Prelude.{◌≡◌, ◌<◌, ◌++◌, ◌∷◌, [], IfOk, ℤ, cond, length, true, false};
 ghost use Rattle.std.specs.Ordering.{int_eq};
 ghost use Rattle.frame_engine.specs.Flat.{cell_in};

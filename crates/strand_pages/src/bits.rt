@@ -1,3 +1,5 @@
+//! Masks of 64 bits: set bits, both of two masks, the next set bit, and runs of them (bit sets).
+
 ghost use Rattle.std.specs.Prelude.{◌≡◌, ◌≢◌, ◌<◌, ◌≤◌, ◌||◌, ℕ, true, false, IfNone, IfSome};
 ghost use Rattle.strand_pages.specs.Bits.{is_set};
 

@@ -1,3 +1,5 @@
+//! The cells that a worker read and wrote, by pages and as a list of adds (read set and write set).
+
 ghost use Rattle.std.specs.Prelude.{◌≡◌, ◌≢◌, ◌≤◌, ℤ, true, false, max, length};
 ghost use Rattle.std.specs.Prelude.{IfErr, IfOk, IsTrue, OnErr, OnOk, None, Some, ◌↔◌};
 ghost use Rattle.frame_engine.specs.Flat.{is_cell};

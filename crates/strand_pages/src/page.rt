@@ -1,3 +1,5 @@
+//! A page: 64 neighbouring cells, with what was at hand, loaded, stored and added of each (cache line).
+
 ghost use Rattle.std.specs.Prelude.{◌≡◌, ◌≢◌, ◌<◌, ◌≤◌, ◌+◌, ◌*◌, ◌||◌, ℕ, pos, true, false, length, slice_index_or, IfNone, None, Some};
 ghost use Rattle.frame_strand.specs.Buffers.{raised_change};
 ghost use Rattle.strand_pages.specs.Bits.{is_set};

@@ -1,3 +1,5 @@
+//! The cells of the page around an address, as the board has them.
+
 ghost use Rattle.std.specs.Prelude.{◌≡◌, ◌<◌, ◌≤◌, IfNone, IfSome, IsSome, None, OnSome, length};
 ghost use Rattle.frame_engine.specs.Flat.{cell_in};
 ghost use Rattle.strand_pages.specs.Logs.{page_around, page_from};

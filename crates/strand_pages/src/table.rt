@@ -1,3 +1,5 @@
+//! The pages in use, and the directory that leads from a cell to its page (page table).
+
 ghost use Rattle.std.specs.Prelude.{◌≡◌, ◌≢◌, ◌<◌, ◌≤◌, ◌/◌, ℕ, ℤ, pos, suc, true, false, max, length, slice_get, slice_index, vec_capacity};
 ghost use Rattle.std.specs.Prelude.{IfErr, IfNone, IfOk, IfSome, IsTrue, None, OnErr, OnOk, OnSome, Some, ◌↔◌};
 ghost use Rattle.frame_engine.specs.Flat.{is_cell};

@@ -1,3 +1,5 @@
+//! The count of a frame's living children within a sync region, and who goes on at a reattach (join counter).
+
 ghost use Rattle.std.specs.Prelude.{◌≡◌, ◌≢◌, ◌↔◌, ◌+◌, ◌<◌, ◌^◌};
 
 /// How the task of a parent stands when a child of the parent reattaches.

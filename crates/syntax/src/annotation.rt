@@ -1,3 +1,5 @@
+//! The syntax tree of annotations: forms (affine expressions), inequalities, zones, measures and budgets.
+
 use crate::instruction::Address;
 use crate::operator::Mode;
 use lists::{Name, Seq};

@@ -1,3 +1,5 @@
+//! The syntax tree of instructions: operands, addresses, arguments, phis and steps.
+
 ghost use Rattle.std.specs.Prelude.{◌≡◌};
 ghost use Rattle.syntax.specs.Cells.{size_cells};
 

@@ -1,3 +1,5 @@
+//! The syntax tree of a module: globals, functions with their parameters, and blocks.
+
 use crate::annotation::{BlockNotes, FunctionNotes};
 use crate::instruction::{Phi, Step};
 use crate::terminator::Ending;

@@ -1,3 +1,5 @@
+//! Operators: widths, binary operations, predicates of `icmp`, conversions; and the modes of zones.
+
 /// The width of a number's type: `i64` or `i32`.
 #[derive(Clone, Copy, PartialEq, Eq)]
 pub enum Width {

@@ -1,3 +1,5 @@
+//! The syntax tree of terminators: `br`, `switch`, `ret`, and Tapir's `detach`, `reattach` and `sync`.
+
 use crate::annotation::Inequality;
 use crate::instruction::Operand;
 use crate::operator::Width;

@@ -1,4 +1,4 @@
-//! The files that a request names.
+//! The files that a request names, read and written, and what is said where that fails.
 
 use cli_words::{Beside, Request, Status, read_data, read_file, write_bytes};
 use std::io;

@@ -1,4 +1,4 @@
-//! The program over its words, files and streams.
+//! The whole program over its words, files and streams: reads a request, obeys it, answers the exit status.
 
 use crate::files::{Texts, complain, read_load, read_texts, write_files};
 use crate::requests::act;

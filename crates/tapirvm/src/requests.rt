@@ -1,4 +1,4 @@
-//! From a question to its answer.
+//! From a question to its answer: runs on threads here, all else by the crates below (dispatch of verbs).
 
 use cli_runs::{Job, answer_verified, status_of};
 use cli_threads::{microseconds_since, run_on_workers};

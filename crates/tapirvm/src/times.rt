@@ -1,4 +1,4 @@
-//! What a request took.
+//! What a request took, as `--time` prints it.
 
 use cli_words::Times;
 use std::fmt;

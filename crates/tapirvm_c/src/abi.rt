@@ -1,4 +1,4 @@
-//! The version of the calls.
+//! The version of the calls in C, which hosts of a shared library compare with their header's (ABI).
 
 ghost use Rattle.std.specs.Prelude.{◌≡◌, codes};
 ghost use Rattle.kernel_calls.specs.Words.{StandsIn};

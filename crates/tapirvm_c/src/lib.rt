@@ -5,6 +5,9 @@
 //!
 //! A run on threads has a [`BoardHandle`](kernel_calls::BoardHandle), and each of its threads a [`WorkerHandle`](kernel_calls::WorkerHandle): the host
 //! calls `tapirvm_meet` under a lock of its own, and `tapirvm_turn` without it. A [`StopHandle`](kernel_calls::StopHandle) stops runs from another thread.
+//!
+//! - `modules`, `runs`, `boards`, `stops`, `inside`, `words`: the exports, by what they are about. `abi`: their
+//!   version.
 #![tactic(auto)]
 
 mod abi;

@@ -1,4 +1,4 @@
-//! Reasons in words.
+//! The exports for reasons in words: of a status, of a rule, and of a refusal.
 
 ghost use Rattle.std.specs.Prelude.{◌≡◌, ◌≢◌, ◌⊎◌};
 ghost use Rattle.kernel_calls.specs.Told.{BreaksRule, HasProgram, done, out_of_effort, out_of_memory, refused, unbounded};

@@ -1,4 +1,4 @@
-//! Blocks.
+//! Blocks with their names resolved: annotations at the head, phis, steps and the ending.
 
 ghost use Rattle.std.specs.Prelude.{◌≡◌};
 ghost use Rattle.types.specs.Block as spec;

@@ -1,3 +1,5 @@
+//! From a module to its program: the tables of names, `@main`, globals and functions (name resolution).
+
 ghost use Rattle.std.specs.Prelude.{◌≡◌, map, IfOk};
 ghost use Rattle.std.specs.List.{list_all};
 ghost use Rattle.types.specs.names.Told.{Gives};

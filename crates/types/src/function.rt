@@ -1,4 +1,4 @@
-//! Functions.
+//! Functions with their names resolved: parameters, annotations at the head, budget and blocks.
 
 ghost use Rattle.std.specs.Prelude.{◌≡◌, map, IfOk, Ok};
 ghost use Rattle.types.specs.Call.{parameter_of as parameter_meaning};

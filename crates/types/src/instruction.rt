@@ -1,4 +1,4 @@
-//! Instructions and phis.
+//! Instructions and phis with their names resolved and types judged (type checker).
 
 ghost use Rattle.std.specs.Prelude.{◌≡◌};
 ghost use Rattle.types.specs.names.Told.{Gives};

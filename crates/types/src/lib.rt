@@ -13,6 +13,9 @@
 //! | 206 | forms keep their limits, and a block's notes name nothing that its own instructions define |
 //!
 //! `names` says what single names, operands, addresses, forms and zones stand for.
+//!
+//! `check` has the whole phase (`check_types`), and `typed` what it answers; `function`, `block`, `instruction`, `call`
+//! and `terminator` are judged each in a file.
 #![tactic(auto)]
 
 mod block;

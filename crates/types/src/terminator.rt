@@ -1,4 +1,4 @@
-//! Terminators.
+//! Terminators with their names resolved and types judged.
 
 ghost use Rattle.std.specs.Prelude.{◌≡◌};
 ghost use Rattle.types.specs.names.Told.{Gives};

@@ -1,3 +1,5 @@
+//! A program whose names and types are right, with what contracts know of it.
+
 ghost use Rattle.types.specs.Meaning.{IsMeant};
 
 use program::Program;

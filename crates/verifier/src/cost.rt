@@ -1,3 +1,5 @@
+//! The budget and the greatest depth of a run: what a call of `main` costs at most, and how deep calls reach.
+
 ghost use Rattle.std.specs.Prelude.{◌≡◌, slice_get};
 ghost use Rattle.std.specs.Option.{option_copied};
 ghost use Rattle.region_match.specs.declared.tables.Regions.{Regions};

@@ -1,3 +1,5 @@
+//! A module that the verifier took, and the calls that judge a text: `verify` and `verify_within`.
+
 ghost use Rattle.std.specs.Prelude.{◌≡◌, IfOk, IfErr};
 ghost use Rattle.refusal.specs.Refusals.{IfBroken};
 ghost use Rattle.verifier.specs.Accepted.{IsAccepted, IsProgramOf, IsRefused, IsUnverified};

@@ -1,4 +1,4 @@
-//! What an event set.
+//! What an event set: registers and cells with their new values.
 
 use frame::Path;
 use std::alloc::Global;

@@ -1,4 +1,4 @@
-//! Figures of a run: what each worker did, and how much could be done at once.
+//! Figures of a run: what each worker did, and how much could be done at once (statistics, parallelism).
 
 use crate::moment::{Moment, Outcome};
 use crate::rounds::{Tally, Timing};

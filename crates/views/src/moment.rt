@@ -1,3 +1,5 @@
+//! What an event came to: the task's place before it, and what it did, or why it was not enabled.
+
 use crate::change::Change;
 use frame::{Event, Path};
 use std::fmt;

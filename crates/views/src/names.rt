@@ -1,4 +1,4 @@
-//! The names of a module's text.
+//! The names that a module's text gives to registers, functions and objects, and values as JSON.
 
 use crate::change::{Thing, Value};
 use crate::module::register_names;

@@ -1,4 +1,4 @@
-//! The page's text.
+//! The HTML page of a run: its text, with events, module and names in it.
 
 use crate::change::Settings;
 use crate::event::{Numbered, push_event, push_settings};

@@ -1,4 +1,4 @@
-//! A run as a picture: workers down, rounds across.
+//! A run as a picture: workers down, rounds across (timeline, Gantt chart).
 //!
 //! A [`Scene`] is told a run's events, one after another, each with its round, and keeps who ran which task when; [`picture`] draws it.
 

@@ -1,4 +1,4 @@
-//! When events could have happened at the earliest: their rounds.
+//! When events could have happened at the earliest: their rounds (critical path, makespan).
 
 ghost use Rattle.std.specs.Prelude.{◌≡◌, ◌<◌, IfSome, slice_index, slice_set};
 ghost use Rattle.views.specs.Rounds.{lasts_after, round_after, round_behind, worker_of};

@@ -1,4 +1,4 @@
-//! The text of a schedule, event for event.
+//! The text of a schedule, written event for event while a run goes on.
 
 use crate::TaskName;
 use frame::{Event, Path};

@@ -1,4 +1,4 @@
-//! What the page does.
+//! The script of the page: what it does in a browser (JavaScript).
 
 /// The script of the page. It keeps the state before each 250th event, so a step back need not begin at the start.
 pub const SCRIPT: &str = r##"

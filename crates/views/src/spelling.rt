@@ -1,3 +1,5 @@
+//! Texts as JSON strings, quoted and escaped.
+
 ghost use Rattle.std.specs.Prelude.{◌≡◌, IfOk, Some, string_bytes};
 ghost use Rattle.serde_json.specs.Data.{string};
 ghost use Rattle.serde_json.specs.Read.{read};

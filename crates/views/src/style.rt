@@ -1,4 +1,4 @@
-//! How the page looks, in light and in dark.
+//! The style of the page, in light and in dark (CSS).
 
 pub const STYLE: &str = r#"
 :root{color-scheme:light dark;--ink:#222;--back:#fff;--soft:#777;--line:#ddd;--mark:#fff3c4;--chain:#d00000}

@@ -1,4 +1,4 @@
-//! All that is told of events, one after another.
+//! Is told each event, and hands it to all that are wanted: trace, schedule, figures, picture, JSON, page.
 
 use crate::event::{Numbered, push_event};
 use crate::figures::Figures;

@@ -1,4 +1,4 @@
-//! A line for each event.
+//! The trace of a run: a line of text for each event.
 
 use crate::moment::{Moment, Outcome, TaskName};
 use frame::Event;

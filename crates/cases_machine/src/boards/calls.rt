@@ -1,4 +1,4 @@
-//! The calls of a worker.
+//! The calls that a worker makes at a board in a case: strands, frame strands, steps and claims.
 ghost use Rattle.std.specs.Prelude.{◌≡◌};
 ghost use Rattle.shared_run.specs.serial_machine.Decoding.{IsCodeOf};
 ghost use Rattle.shared_run.specs.schedule_core.FrameStrands.{IsMadeOf};

@@ -1,4 +1,4 @@
-//! Runs from the start to the end.
+//! Runs at boards from start to end, whose calls a seed draws, and what each comes to.
 ghost use Rattle.std.specs.Prelude.{◌≡◌, ◌<◌, vec_len, IfOk};
 ghost use Rattle.shared_run.specs.store.Made.{IsMadeFor};
 ghost use Rattle.shared_run.specs.store.Named.{HasGlobalCells};

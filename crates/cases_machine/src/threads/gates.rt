@@ -1,4 +1,4 @@
-//! The gates of the cases.
+//! The gates of the cases: they hold two workers until both are inside, stop a run, are never asked, or count.
 
 use deque_pool::{Gate, Go};
 use lists::OutOfMemory;

@@ -1,4 +1,4 @@
-//! What a line asks for.
+//! What a line of the dialogue asks for: commands with their numbers, paths and cells (command parser).
 
 use crate::debug::word::{Row, Takes, Word, row_of};
 use cli_words::is_name;

@@ -1,4 +1,4 @@
-//! Going through the schedule.
+//! Going through the schedule: to a position, past a worker's event or call, to a line (stepping, breakpoints).
 
 use crate::debug::session::Session;
 use debugger::{Event, TaskView};

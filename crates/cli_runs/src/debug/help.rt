@@ -1,3 +1,5 @@
+//! The help text of the debugger: its commands in words.
+
 /// The commands in words. Of those that begin as a word does, the first is meant that takes what follows.
 pub(crate) const HELP: &str = "\
 Going:

@@ -1,4 +1,4 @@
-//! Colours of a terminal.
+//! Colours of a terminal for what the debugger shows.
 
 /// What a text is.
 #[derive(Clone, Copy)]

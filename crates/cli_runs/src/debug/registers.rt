@@ -1,4 +1,4 @@
-//! Registers and what they hold.
+//! Shows a frame's registers with what they hold, pointers by their objects (variables of a frame).
 
 use crate::debug::session::Session;
 use crate::debug::values::registers_with_values;

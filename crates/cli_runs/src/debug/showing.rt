@@ -1,4 +1,4 @@
-//! What is shown of a position.
+//! Shows a position: tasks, frames, workers, arrays of cells, and how far the run is.
 
 use crate::debug::paint::{Colour, Paint};
 use crate::debug::session::{Session, push_event};

@@ -1,4 +1,4 @@
-//! The source around a line.
+//! Shows the lines of the module around a line, with those where workers stand marked.
 
 use crate::debug::paint::{Colour, Paint};
 use crate::debug::session::Session;

@@ -1,4 +1,4 @@
-//! The words of commands.
+//! The words of the debugger's commands, in one table, and how they are abbreviated.
 
 /// The word that a command begins with.
 #[derive(Clone, Copy)]

@@ -1,4 +1,4 @@
-//! Why a run did not begin or go on.
+//! Why a run did not begin or go on (error, exit status).
 
 use crate::runs::job::Job;
 use cli_words::{Beside, Status, print_unreadable, stop_for_memory};

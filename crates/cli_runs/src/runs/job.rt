@@ -1,4 +1,4 @@
-//! A module that the verifier took, and what is asked of it.
+//! A module that the verifier took, and what is asked of it: what a run is made from.
 
 use cli_words::{Beside, Question, Request};
 use debugger::Verified;

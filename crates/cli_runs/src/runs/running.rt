@@ -1,4 +1,4 @@
-//! Runs and replays of a module that the verifier took.
+//! The serial run and the replay of a schedule, as verbs of the program, and the memory that they begin with.
 
 ghost use Rattle.program.specs.declared.function.Program.{Program};
 ghost use Rattle.std.specs.Prelude.{IfOk};

@@ -1,4 +1,4 @@
-//! A run that is told event for event.
+//! Runs whose events are told (replays, and those that a seed draws): trace, picture, page, JSON, schedule, figures.
 
 ghost use Rattle.serial_machine.specs.store.Made.{IsMadeFor};
 

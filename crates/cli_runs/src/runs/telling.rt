@@ -1,4 +1,4 @@
-//! A run that is told.
+//! A run that is done once more, so that each of its events is told.
 
 ghost use Rattle.serial_machine.specs.store.Made.{IsMadeFor};
 

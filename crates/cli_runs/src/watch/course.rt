@@ -1,4 +1,4 @@
-//! Where the events of a run come from.
+//! Where the events of a run come from: a list, or another source that gives one after another.
 
 use frame::Event;
 use lists::OutOfMemory;

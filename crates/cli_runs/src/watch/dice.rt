@@ -1,4 +1,4 @@
-//! Numbers at random by a seed.
+//! Numbers at random by a seed (pseudorandom number generator).
 
 ghost use Rattle.std.specs.Prelude.{◌<◌};
 

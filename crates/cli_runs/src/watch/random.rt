@@ -1,4 +1,4 @@
-//! Events at random.
+//! A schedule that a seed draws: workers step and steal by chance (random scheduler).
 
 ghost use Rattle.std.specs.Prelude.{◌<◌};
 

@@ -1,4 +1,4 @@
-//! A run, event for event.
+//! A run that is watched: each event gives a moment, with what it found and what it set.
 
 ghost use Rattle.schedule_core.specs.store.Made.{IsMadeFor};
 

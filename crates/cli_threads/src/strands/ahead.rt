@@ -1,4 +1,4 @@
-//! What stands ahead of a frame.
+//! What stands ahead of a frame: so many plain instructions, and what comes behind them.
 
 use frame::block_at;
 use lists::OutOfMemory;

@@ -1,4 +1,4 @@
-//! What is told of a run whose strands are done once more.
+//! What is told of a recorded run: tallies of workers, rounds, and its picture.
 
 ghost use Rattle.std.specs.Prelude.{◌≡◌, ◌<◌};
 ghost use Rattle.shared_run.specs.store.Made.{IsMadeFor};

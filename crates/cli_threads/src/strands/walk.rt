@@ -1,4 +1,4 @@
-//! A recorded run, done once more.
+//! A recorded run, done once more by its events at a board, with strands for steps in a row (replay).
 
 use crate::strands::ahead::{Ahead, Runs, Then};
 use crate::strands::levels::Levels;

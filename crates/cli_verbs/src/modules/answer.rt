@@ -1,4 +1,4 @@
-//! What is answered, and why there is no answer of its own.
+//! What is answered (text and exit status), and why there is no answer of its own.
 
 use cli_words::{Beside, Question, Status, print_refused, print_unreadable};
 use lists::OutOfMemory;

@@ -1,4 +1,4 @@
-//! What was not looked at for lines to be put in.
+//! Notes of what was not looked at for annotations, since a text meets a limit.
 
 use annotate::{is_long, limits_met};
 use cli_words::Beside;

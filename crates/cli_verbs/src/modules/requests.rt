@@ -1,4 +1,4 @@
-//! What is answered before a module is judged.
+//! What is answered before a module is judged (`print`, `annotate`, `explain`, `completions`, `man`), and the effort.
 
 ghost use Rattle.std.specs.Prelude.{◌≡◌};
 ghost use Rattle.cli_verbs.specs.Granted.{granted_by};

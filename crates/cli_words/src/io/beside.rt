@@ -1,4 +1,4 @@
-//! What is told beside standard output.
+//! What is told beside standard output: notes on standard error, times, and files that are to be written.
 
 use std::alloc::{AllocError, Global};
 use std::fmt::Display;

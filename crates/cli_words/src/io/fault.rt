@@ -1,3 +1,5 @@
+//! Why a file has no numbers for a global: a word that is none, with its line and column; or want of memory.
+
 ghost use Rattle.std.specs.Prelude.{◌≡◌};
 ghost use Rattle.cli_words.specs.declared.io.fault.DataFault.TheVariants.{Memory};
 

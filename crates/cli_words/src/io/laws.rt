@@ -1,4 +1,4 @@
-//! Laws.
+//! The law that numbers that are printed as text are read back as these numbers.
 
 ghost use Rattle.cli_words.specs.io.Data.{ReadsBack};
 

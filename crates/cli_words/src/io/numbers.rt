@@ -1,4 +1,4 @@
-//! Numbers as text.
+//! A global's cells as text: decimal numbers, read and printed.
 
 ghost use Rattle.std.specs.Prelude.{◌≡◌, ◌≤◌, ◌-◌, ℕ, List, flat_map, length, take, IfOk, IfErr, string_bytes};
 ghost use Rattle.cli_words.specs.declared.io.fault.DataFault.TheVariants.{NoNumber};

@@ -1,4 +1,4 @@
-//! The words of a text.
+//! The words of a text of numbers, and the line and column of one.
 
 ghost use Rattle.std.specs.Prelude.{◌≡◌, ◌++◌, ◌+◌, ◌≤◌, ℤ, List, ℕ, length, IfSome, IfNone, true};
 ghost use Rattle.std.specs.List.{list_all, prefix_len};

@@ -1,3 +1,5 @@
+//! The exit statuses of the program.
+
 /// The exit statuses of the program.
 #[derive(Clone, Copy)]
 pub enum Status {

@@ -1,4 +1,4 @@
-//! Numbers as words of eight bytes, the low one first.
+//! A global's cells as bytes: words of eight bytes, the low one first (little endian).
 
 ghost use Rattle.std.specs.Prelude.{◌≡◌, ◌≢◌, ◌/◌, ◌%◌, flat_map, length, map, IfOk, IfSome, IfNone};
 ghost use Rattle.std.specs.Simd.{first_chunks};

@@ -1,4 +1,4 @@
-//! From the symbols of a line to its item.
+//! From the symbols of a line to its item (parser of a line).
 
 ghost use Rattle.std.specs.Prelude.{◌≡◌, [], ◌∷◌, codes, option_map, IsTrue};
 ghost use Rattle.ir_reader.specs.declared.item.item.Item.TheVariants as item;

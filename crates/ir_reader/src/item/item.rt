@@ -1,3 +1,5 @@
+//! What a line of a text says: a global, a function's head, a label, an instruction or an annotation (syntax node).
+
 use ir_annotation::Annotation;
 use lists::{Name, Seq};
 use syntax::{Global, Instruction, Parameter, Phi, ResultType, Terminator};

@@ -1,3 +1,5 @@
+//! What a worker is told when it has met the board, and how far a run has come.
+
 ghost use Rattle.std.specs.Prelude.{◌≢◌};
 ghost use Rattle.kernel_calls.specs.hosted.Hosted.{IsProgressBy, IsToldBy};
 ghost use Rattle.kernel_calls.specs.declared.hosted.met.Met.TheVariants.{Stopped};

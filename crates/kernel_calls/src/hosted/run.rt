@@ -1,3 +1,5 @@
+//! A run on the host's threads: it begins, meets each worker, and gives its events and its answer.
+
 ghost use Rattle.std.specs.Prelude.{◌≡◌, ◌≢◌, ◌<◌, [], Err, IfErr, IfNone, IfOk, IfSome, IsSome, None, OnErr, length};
 ghost use Rattle.kernel_calls.specs.hosted.Hosted.{IsProgress, IsTold, RunsFrom, WorksFor, start_of};
 ghost use Rattle.kernel_calls.specs.declared.hosted.met.Met.TheVariants.{Stopped};

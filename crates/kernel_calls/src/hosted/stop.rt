@@ -1,3 +1,5 @@
+//! The word by which a host stops runs from any thread (cancellation flag).
+
 ghost use Rattle.std.specs.Prelude.{◌≡◌, IfOk, IsSome, IsTrue, None, is_some};
 
 use lists::OutOfMemory;

@@ -1,3 +1,5 @@
+//! A worker on a host's thread: its strand goes on outside of the board, until others wait or a stop is set.
+
 ghost use Rattle.std.specs.Prelude.{◌≡◌};
 ghost use Rattle.kernel_calls.specs.hosted.Hosted.{WorksFor};
 ghost use Rattle.serial_machine.specs.Decoding.{IsCodeOf};

@@ -1,4 +1,4 @@
-//! The rules of costs.
+//! The words of the rules of costs, 701 to 705.
 
 use crate::rule::{Numbered, Rule};
 

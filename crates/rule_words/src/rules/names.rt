@@ -1,4 +1,4 @@
-//! The rules of names, types and the graph of blocks.
+//! The words of the rules of names, types and the graph of blocks, 201 to 213.
 
 use crate::rule::Rule;
 

@@ -1,4 +1,4 @@
-//! The rules of what is shown of numbers.
+//! The words of the rules of what is shown of numbers, 501 to 508.
 
 use crate::rule::Rule;
 

@@ -1,4 +1,4 @@
-//! The rules of the text of a schedule.
+//! The words of the rules of the text of a schedule, 901 and 902.
 
 use crate::rule::Rule;
 

@@ -1,4 +1,4 @@
-//! The rules of tasks and their regions.
+//! The words of the rules of tasks and their regions, 301 to 307.
 
 use crate::rule::Rule;
 

@@ -1,4 +1,4 @@
-//! The rules of the text.
+//! The words of the rules of the text, 101 to 107.
 
 use crate::rule::Rule;
 

@@ -1,4 +1,4 @@
-//! The rules of what has a value where it is used.
+//! The words of the rules of what has a value where it is used, 401 and 402.
 
 use crate::rule::Rule;
 

@@ -1,4 +1,4 @@
-//! The rules of zones.
+//! The words of the rules of zones, 601 to 604.
 
 use crate::rule::Rule;
 

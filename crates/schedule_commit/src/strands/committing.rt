@@ -1,3 +1,5 @@
+//! Writes a strand's base, frames, cells and counts into the run (commit of a transaction).
+
 ghost use Rattle.std.specs.Prelude.{◌≡◌, ◌≢◌, ◌+◌, ◌^◌, ◌<◌, ◌≤◌, ℕ, ℤ, IsSome, IsTrue, None, Some, length, slice_get, vec_len};
 ghost use Rattle.linear.specs.declared.form.RegisterId.{RegisterId};
 ghost use Rattle.program.specs.declared.identifier.BlockId.{BlockId};

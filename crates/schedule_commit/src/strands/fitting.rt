@@ -1,3 +1,5 @@
+//! Whether a strand fits: base, path, children and each cell that it read are as they were (validation).
+
 ghost use Rattle.std.specs.Prelude.{◌≡◌, ◌↔◌, ℕ, IfNone, IfSome, IsTrue, true};
 ghost use Rattle.schedule_commit.specs.strands.Fitting.{FitsStrand, HasNoChild, segment_block};
 

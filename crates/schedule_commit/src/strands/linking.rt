@@ -1,3 +1,5 @@
+//! The frames of a strand as they are to stand in the cactus, with paths, counts and runners.
+
 ghost use Rattle.std.specs.Prelude.{◌≡◌, ◌+◌, ◌^◌, ◌≤◌, ◌<◌, ℕ, IfOk, Some, length, slice_get, suc};
 ghost use Rattle.std.specs.Option.{option_copied};
 ghost use Rattle.linear.specs.declared.form.RegisterId.{RegisterId};

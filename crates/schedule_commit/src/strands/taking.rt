@@ -1,3 +1,5 @@
+//! Publishes a strand as steps of its worker, if it fits (validate, then commit).
+
 ghost use Rattle.std.specs.Prelude.{◌≡◌, ◌↔◌, ℕ, true, false, IfOk, IsTrue, Ok, OnErr, length};
 ghost use Rattle.schedule_workers.specs.Follows.{Follows};
 ghost use Rattle.schedule_workers.specs.Going.{TextFits};

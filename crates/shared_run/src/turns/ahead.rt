@@ -1,3 +1,5 @@
+//! Pages of cells that are fetched with one that is needed (prefetching).
+
 use crate::bench::Bench;
 use crate::board::Board;
 use crate::worker_strand::WorkerStrand;

@@ -1,3 +1,5 @@
+//! A worker goes on outside of the board, until it wants something of it (`turn`: the loop without a lock).
+
 use crate::bench::Bench;
 use crate::turns::habits::{Habits, Want};
 use crate::turns::tasks::{Hunger, Reason};

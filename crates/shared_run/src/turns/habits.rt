@@ -1,3 +1,5 @@
+//! What a worker wants of the board, and what it remembers from strand to strand.
+
 use crate::ticket::Ticket;
 use crate::turns::ahead::Trail;
 use crate::turns::heights::Heights;

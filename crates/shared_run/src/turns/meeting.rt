@@ -1,3 +1,5 @@
+//! A worker at the board: it loads, fetches, publishes, steps and looks for tasks (`meet`, under the lock).
+
 use crate::answers::{Claimed, Loaded, Published, Stepped};
 use crate::bench::Bench;
 use crate::board::Board;

@@ -1,3 +1,5 @@
+//! The tickets that the workers of a run have offered, beside a host's board, and whether others wait.
+
 use crate::ticket::Ticket;
 use crate::turns::tasks::{Tasks, Told};
 use lists::OutOfMemory;

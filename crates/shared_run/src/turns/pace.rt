@@ -1,3 +1,5 @@
+//! How soon a worker puts a strand on the board again for those that wait (throttle, granularity).
+
 use crate::turns::tasks::Reason;
 
 /// The most instructions that a worker does before it puts a strand on the board for others.

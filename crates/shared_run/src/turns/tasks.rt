@@ -1,3 +1,5 @@
+//! What a host brings: where workers leave tickets for one another, and what tells them that others wait.
+
 use crate::ticket::Ticket;
 
 /// Where a strand is put on the board.

@@ -1,4 +1,4 @@
-//! Uses of pointers.
+//! Uses of pointers: whole objects with their cells, and elements that a `getelementptr` gave.
 
 ghost use Rattle.std.specs.Prelude.{◌≡◌};
 ghost use Rattle.types.specs.names.Address as spec;

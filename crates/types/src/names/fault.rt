@@ -1,3 +1,5 @@
+//! The faults of the rules 201 to 206, and which of two is named (precedence of errors).
+
 ghost use Rattle.std.specs.Prelude.{◌≡◌};
 ghost use Rattle.types.specs.names.Fault.{both_of, breaks, unless_of};
 ghost use Rattle.types.specs.names.Told.{both_answers, earlier_answer, told_of, Joins};

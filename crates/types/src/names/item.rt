@@ -1,3 +1,5 @@
+//! The names behind `@`: globals and functions in one name space (symbol table of a module).
+
 ghost use Rattle.std.specs.Prelude.{◌≡◌, IfOk, OnOk};
 ghost use Rattle.types.specs.names.Item as spec;
 

@@ -1,4 +1,4 @@
-//! Zones, what is pending, and what is left.
+//! Annotations' zones, `pending` and `left` lines with their names resolved.
 
 ghost use Rattle.std.specs.Prelude.{◌≡◌, List, Result};
 ghost use Rattle.program.specs.declared.annotation.Zone.{Zone as ZoneMeaning};

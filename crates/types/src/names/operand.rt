@@ -1,4 +1,4 @@
-//! Uses of registers and labels.
+//! Operands: uses of registers and labels, each defined and of the type that stands there.
 
 ghost use Rattle.std.specs.Prelude.{◌≡◌};
 ghost use Rattle.types.specs.names.Operand as spec;

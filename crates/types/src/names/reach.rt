@@ -1,4 +1,4 @@
-//! Which globals a function names, itself or by the functions that it calls, directly or through others.
+//! Which globals a function names, itself or by the functions that it calls (transitive closure over the call graph).
 
 ghost use Rattle.std.specs.Prelude.{◌≡◌, ◌<◌, ◌↔◌, ℕ, true, false, length, slice_index_or, Contains, IfOk};
 ghost use Rattle.types.specs.names.Marks.{SetsMarks};

@@ -1,3 +1,5 @@
+//! The names of a function: parameters, registers with what they hold, and labels (its symbol table).
+
 ghost use Rattle.std.specs.Prelude.{◌≡◌};
 ghost use Rattle.types.specs.names.Scope as spec;
 

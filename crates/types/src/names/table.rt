@@ -1,3 +1,5 @@
+//! A name space: names with what they stand for, in a hash table (symbol table).
+
 ghost use Rattle.std.specs.Prelude.{◌≡◌, [], OnOk, OnErr};
 ghost use Rattle.types.specs.names.Table.{look_up, with_name};
 

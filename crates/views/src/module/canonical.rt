@@ -1,3 +1,5 @@
+//! The canonical text of a module, for `print` (pretty printer, formatter).
+
 ghost use Rattle.std.specs.Prelude.{◌≡◌, Ok, IfOk, IfErr, string_bytes};
 ghost use Rattle.syntax.specs.declared.module.Module.{Module};
 ghost use Rattle.ir_text.specs.Items.{module_text};

@@ -1,4 +1,4 @@
-//! The names of registers.
+//! The names of a function's registers, by their numbers, from the text.
 
 use lists::ListBuffer;
 use std::alloc::{AllocError, Global};

@@ -1,4 +1,4 @@
-//! Regions in which a child may still run where a block begins.
+//! Regions in which a child may still run where a block begins (may-happen-in-parallel).
 
 ghost use Rattle.std.specs.Prelude.{◌≡◌, length};
 

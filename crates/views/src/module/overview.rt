@@ -1,4 +1,4 @@
-//! What the verifier knows of a module, block for block.
+//! What `show` tells: what the verifier knows of a module, block for block.
 
 use crate::module::form::{name_of, push_facts};
 use crate::module::name::register_names;

@@ -1,4 +1,4 @@
-//! The ranges of parameters.
+//! The ranges of parameters that the facts about one alone allow (intervals).
 
 use program::{Fact, RegisterId};
 

@@ -1,4 +1,4 @@
-//! What a block itself uses.
+//! What a block itself uses: self calls, and instructions with those of the functions it calls.
 
 use cost_table::Table;
 use program::{Block, Instruction, Program};

@@ -1,4 +1,5 @@
-//! The looks of what a picture shows. Tasks have sixteen hues, and hatching where they come again.
+//! The colours of tasks in a picture, hatching and arrowheads. Tasks have sixteen hues, and hatching where they come
+//! again.
 
 /// The looks of all, in light and in dark: a class for each hue, a pattern for each of the three kinds of hatching, and the head of an arrow.
 pub const LOOKS: &str = "\

@@ -1,4 +1,4 @@
-//! Where things stand in a picture, in pixels.
+//! The layout of a picture: where lanes, bars and words stand, in pixels.
 
 use crate::pictures::scene::Scene;
 

@@ -1,4 +1,4 @@
-//! What the signs of a picture mean.
+//! The legend of a picture: what its signs mean.
 
 use crate::pictures::grid::Grid;
 use crate::pictures::scene::Scene;

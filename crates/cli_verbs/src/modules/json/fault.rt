@@ -1,4 +1,4 @@
-//! A broken rule.
+//! A broken rule as JSON: its place in the text, its words, and the verdict on a module that is refused.
 
 use crate::modules::faults::{head_of, utf8_of};
 use crate::modules::json::list::push_member;

@@ -1,4 +1,4 @@
-//! What the verifier knows of each block, from the lines that `show` prints.
+//! An accepted module as JSON: budget, depth, and what the verifier knows of each block, from what `show` prints.
 
 use crate::modules::json::list::{push_separator, push_text};
 use lists::TextBuffer;

@@ -1,4 +1,4 @@
-//! Texts as members and in lists.
+//! Texts as members and in lists of JSON.
 
 use lists::TextBuffer;
 use std::alloc::{AllocError, Global};
