@@ -1,4 +1,4 @@
-//! Bounds of registers by facts about them alone, and of sums by those (interval arithmetic).
+//! Least and greatest numbers of single registers, by facts about them alone, and of sums by those (interval arithmetic).
 
 use crate::search::is_factor;
 use crate::sum::Sum;

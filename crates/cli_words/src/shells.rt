@@ -1,4 +1,4 @@
-//! Scripts that complete the program's words in a shell, written from the table of its commands.
+//! Completions for bash, zsh and fish: scripts that are written from the table of the program's commands.
 
 use crate::request::{Shell, Verb};
 use crate::table::{Given, Part, VERBS, row_of};

@@ -1,4 +1,4 @@
-//! Within how many detaches a block stands.
+//! Within how many detaches a block stands, by the task labels of its function's blocks (nesting depth).
 
 ghost use Rattle.std.specs.Prelude.{◌≡◌, ◌≤◌, length};
 ghost use Rattle.ranges.specs.region_match.Tasks.{task_at};

@@ -1,4 +1,4 @@
-//! The table of all functions' costs and depths, and how it is made.
+//! The table of all functions' costs and depths, how it is made, and the task labels that it asks for, by function and block.
 
 ghost use Rattle.std.specs.Prelude.{◌≡◌, IfOk, slice_get};
 ghost use Rattle.std.specs.Option.{option_copied};

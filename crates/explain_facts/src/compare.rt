@@ -1,4 +1,4 @@
-//! Compares by which a block is reached, and a loop's test that lets its counter go too far.
+//! Comparisons (`icmp`) by which a block is reached, and a loop's test that lets its counter go too far.
 
 use crate::scene::Scene;
 use cfg::BlockEdges;

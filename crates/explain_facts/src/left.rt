@@ -1,4 +1,5 @@
-//! What is said of a block without a `left` line, and the line that would do.
+//! What is said of a block without a `left` line, and the line that would do: whether what one way leaves is enough for another, and
+//! an upper bound of a form without some register (a register is eliminated by a fact).
 
 use crate::cost::Doing;
 use crate::gap::coefficient;

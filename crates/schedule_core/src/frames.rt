@@ -1,4 +1,4 @@
-//! Living frames one by one, and what cells hold by their addresses.
+//! Living frames by their paths, one by one, and what cells hold by their addresses.
 
 ghost use Rattle.std.specs.Prelude.{◌≡◌, ◌++◌, ◌∷◌, [], ℤ, IfOk, IfSome, IfNone, None, OnOk, Some, slice_get};
 ghost use Rattle.frame_engine.specs.Activation.{allocas_of};

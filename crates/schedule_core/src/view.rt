@@ -1,4 +1,4 @@
-//! Tasks by path or by worker, the ready task of least path, and where a frame stands.
+//! Tasks by path or by worker, the ready task of least path, and the block and item where a task's frame stands.
 
 ghost use Rattle.std.specs.Prelude.{◌≡◌, ◌↔◌, ◌<◌, None, Some, IsSome, IsSomeAnd, IfNone, IfSome};
 ghost use Rattle.std.specs.Option.{option_copied, option_map};

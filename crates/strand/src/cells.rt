@@ -1,4 +1,4 @@
-//! A strand's cells: those of its own frames' allocas, and the pages of what it read and wrote of others.
+//! A strand's cells: the segment of its own frames' allocas, from its start to its limit, and the pages of what it read and wrote of others.
 
 ghost use Rattle.std.specs.Prelude.{◌≡◌, ◌≢◌, ◌<◌, ◌≤◌, ◌+◌, ◌+ℤ◌, ◌↔◌, ℕ, ℤ, pos, false, true, min, IfNone, IfSome, IsTrue, None, Some, length, slice_get};
 ghost use Rattle.frame_engine.specs.Flat.{is_cell};
