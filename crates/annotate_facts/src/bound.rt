@@ -86,7 +86,7 @@ fn may_show(sum: &Sum<'_>, fact: &Sum<'_>) -> bool {
     false
 }
 
-/// The same, as two facts show it; where they show none, by more of them.
+/// The greatest number that a sum may come to, from 0 to that of a budget, which two facts show; where no two show one, that of [`greatest`].
 pub fn greatest_shown<'a>(facts: &[Sum<'a>], sum: &Sum<'a>) -> Option<u64> {
     let mut most = None;
     if sum.terms.len() <= 2 {

@@ -268,7 +268,7 @@ pub fn value_from<'a>(phi: &'a Phi, predecessor: &Name) -> Option<&'a Operand> {
     None
 }
 
-/// The same of the phi among these that defines the register.
+/// What the phi that defines a register takes where the run comes from a block of this label; none where no phi among these defines it.
 pub fn phi_value<'a>(phis: &'a [Phi], name: &str, predecessor: &Name) -> Option<&'a Operand> {
     match phi_of(phis, name) {
         Some(phi) => value_from(phi, predecessor),

@@ -194,7 +194,7 @@ impl<'a> Known<'a> {
         }
     }
 
-    /// The same of sums on all edges that lead back to a block.
+    /// States what may be so on each edge that leads back to a loop's head, because these sums are at least 0 at the head then.
     fn guess_before(&mut self, block: usize, sums: &[Sum<'a>]) {
         for number in 0..self.edges.len() {
             match self.edges.get(number).copied() {

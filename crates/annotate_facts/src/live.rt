@@ -13,7 +13,7 @@ struct Life<'a> {
     at: Vec<bool>,
 }
 
-/// The same of the registers that were asked for.
+/// Where the registers of a function are used later on: found for each one when it is asked for, and kept.
 #[derive(Drop)]
 pub struct Lives<'a> {
     heap: &'a Heap,

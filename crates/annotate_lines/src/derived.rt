@@ -195,7 +195,7 @@ impl<'a> Finder<'_, 'a> {
         Some(span_of(facts.as_slice(), &taken))
     }
 
-    /// The same of all edges to its block.
+    /// Between which numbers a phi lies, along whichever edge the run comes; none where that is not known of one edge.
     fn span_of_phi(&self, index: usize, phi: &'a Phi) -> Option<Span> {
         let mut all: Option<Span> = None;
         for (number, edge) in self.known.edges.iter().enumerate() {

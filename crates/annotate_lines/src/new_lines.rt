@@ -47,7 +47,7 @@ impl NewLines {
         })
     }
 
-    /// The same with these means.
+    /// The lines of `more` that `text` has not, made by these means: a memory that is refused is noted there, and not answered.
     pub(crate) fn found(means: &Means<'_>, text: &str, more: &str) -> NewLines {
         NewLines {
             marks: means.list(marks_between(means.alloc, text, more)),

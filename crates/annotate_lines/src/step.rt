@@ -307,7 +307,7 @@ impl<'a> Walk<'a> {
         false
     }
 
-    /// The same of the covering zones; of the function's own cells nothing where it touches them itself.
+    /// Tells how the facts show that a covering zone has the cells. A function's own cells need no cover where it touches them itself.
     fn reach_cover(&mut self, cells: &Cells<'a>) {
         if self.is_function && cells.is_own(self.scope.function) {
             return;
@@ -398,7 +398,7 @@ impl<'a> Walk<'a> {
         self.reach_along(known, edge, &rest.instructions.with(&next.instructions, -1))
     }
 
-    /// The same of all edges of the block; of a detach behind both together.
+    /// Tells how the facts show that what is left is enough along each edge of the block; at a detach, for child and continuation together.
     fn reach_lefts(&mut self, known: &Known<'a>, uses: &Need<'a>) {
         let Some(mut rest) = given(self.scope.heap, self.block) else {
             return;

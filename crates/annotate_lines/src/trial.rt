@@ -74,7 +74,7 @@ impl Trial<'_> {
         }
     }
 
-    /// The same of all places of a block.
+    /// Refuses the `shows` lines of a block that the facts before them do not show.
     fn try_steps(&mut self, block: &Block, table: &BlockFacts) {
         let facts = table.facts.as_slice();
         let mut cursor = FactCursor::new(self.means.alloc, facts, self.means.effort);

@@ -105,7 +105,7 @@ impl Tries<'_> {
         self.put_in(text, more);
     }
 
-    /// The same of guesses of a kind.
+    /// Puts the guesses of a kind into a text, as many as stand their trial beside the lines that show them.
     fn put_in_guesses(self, text: &mut String, kind: Kind) {
         let guesses = self.proposed(text.as_str(), kind);
         self.put_in_guessed(text, guesses);

@@ -197,7 +197,7 @@ impl<'a> Finder<'_, 'a> {
         }
     }
 
-    /// The same of all instructions of the blocks that all ways lead to over the place.
+    /// Adds the cells of this mode that the block of the place and all blocks that it dominates touch.
     fn push_all(&mut self, mode: Mode) {
         let stand = self.stand;
         for (index, block) in stand.scope.function.blocks.as_slice().iter().enumerate() {

@@ -60,7 +60,7 @@ impl<'a> Call<'a> {
         placed
     }
 
-    /// The same of a form.
+    /// A form of the callee's lines, over its parameters and result, with the call's arguments and result in their place.
     pub fn put_in_form(self, form: &'a Form) -> Sum<'a> {
         self.put_in(&Sum::of_form(self.heap, form))
     }

@@ -325,7 +325,7 @@ impl<'a> Finder<'_, 'a> {
         }
     }
 
-    /// The same, but where what is needed behind a loop falls from round to round and so pays for the rounds.
+    /// What a block needs. A loop's rounds are not counted where what is needed behind it falls from round to round, and so pays for them.
     fn need(&self, number: usize) -> Option<Need<'a>> {
         if let (Some(ring), Some(head)) = (
             ring_at(self.rings, number),
@@ -371,7 +371,7 @@ impl<'a> Finder<'_, 'a> {
         }
     }
 
-    /// The same where each loop is counted by its rounds.
+    /// Finds what the blocks need, each loop within counted by its rounds, the last block first, round after round until nothing new is found.
     fn count(&mut self) {
         for _round in 0..self.lefts.len() {
             let mut is_new = false;

@@ -276,7 +276,7 @@ pub fn ring_of<'a>(known: &Known<'a>, head: usize) -> Option<Ring<'a>> {
     }
 }
 
-/// The same by a branch at the head or on an edge that leads back, or by one elsewhere.
+/// What falls each time round a loop, by a branch at its head or on an edge that leads back (`is_near`), or else by one anywhere else within.
 fn ring_among<'a>(known: &Known<'a>, head: usize, last: usize, is_near: bool) -> Option<Ring<'a>> {
     for number in 0..known.edges.len() {
         let edge = known.edges[number];

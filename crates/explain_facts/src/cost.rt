@@ -430,7 +430,7 @@ pub fn cost_findings(
     told_cost_findings(alloc, None, matched, effort)
 }
 
-/// The same, each with what is known of it and lines to try, where there is a text for those.
+/// All faults of costs that [`cost_findings`] names, each with what is known of it and with lines to try, if there is a text to try them in.
 pub fn told_cost_findings(
     alloc: Global,
     source: Option<Source<'_>>,

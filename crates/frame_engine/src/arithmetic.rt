@@ -178,7 +178,7 @@ fn operate(operator: BinaryOperator, width: Width, left: i64, right: i64) -> i64
     }
 }
 
-/// The same at 32 bits, apart from the loop's code.
+/// The result of a binary operation at 32 bits. It is rare, so its code is kept out of the loop that calls it.
 #[cold]
 #[inline(never)]
 fn narrow(operator: BinaryOperator, left: i64, right: i64) -> i64
@@ -223,7 +223,7 @@ pub fn compare(predicate: Predicate, width: Width, left: i64, right: i64) -> boo
     }
 }
 
-/// The same number at the other width (LLVM Language Reference, "Conversion Operations").
+/// The number that a conversion makes of one of the other width (LLVM Language Reference, "Conversion Operations").
 #[inline(always)]
 pub fn convert(conversion: Conversion, number: i64) -> i64
     ensures { Fits (source_width conversion) number → result ≡ running.converts conversion number }

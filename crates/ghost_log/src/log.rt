@@ -27,7 +27,7 @@ impl<A> Log<A> {
         Log { of: PhantomData }
     }
 
-    /// The same with one more behind them.
+    /// The log's items and one more item, as the last one.
     pub fn and(&self, item: &A) -> Log<A>
         ensures { result.items ≡ self.now.items ++ item.now ∷ [] }
     {

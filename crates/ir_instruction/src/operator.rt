@@ -45,7 +45,7 @@ pub fn operator_of(word: &[u8]) -> Option<BinaryOperator>
     }
 }
 
-/// The same operation with `nsw`, where it has one.
+/// The operator for `add nsw`, `sub nsw` or `mul nsw`, given the one without `nsw`; none for other operators.
 pub fn without_wrap(operator: BinaryOperator) -> Option<BinaryOperator>
     ensures { result ≡ without_wrap operator }
 {

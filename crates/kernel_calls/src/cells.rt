@@ -17,7 +17,7 @@ pub fn cells_of(globals: &[Global]) -> u64
     count
 }
 
-/// The same of all globals of a program.
+/// How many cells a program's globals have, all together, as far as 64 bits count.
 pub fn count_cells(program: &Program) -> u64
     ensures { result ≡ cells_in program.now }
 {

@@ -128,7 +128,7 @@ fn risen_far(entries: &[Entry], from: usize, a: u32, beside: u128, total: u128) 
     place
 }
 
-/// The same. Mostly it is one of the first two, which are looked at where this is called.
+/// The first entry from a place on with which a times its key is not too small beside this. Mostly it is one of the first two: these are looked at inline.
 #[inline(always)]
 pub fn risen(entries: &[Entry], from: usize, a: u32, beside: u128, total: u128) -> usize
     requires order { AreInOrder entries.now }
@@ -173,7 +173,7 @@ fn fallen_far(entries: &[Entry], upto: usize, b: u32, beside: u128, total: u128)
     count
 }
 
-/// The same. Mostly all are left, as the last one, which is looked at where this is called, is not too great.
+/// How many of the first entries are left where b times each key at the end is too great beside this. Mostly the last one is not: it is looked at inline.
 #[inline(always)]
 pub fn fallen(entries: &[Entry], upto: usize, b: u32, beside: u128, total: u128) -> usize
     requires order { AreInOrder entries.now }

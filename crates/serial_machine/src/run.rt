@@ -83,7 +83,7 @@ fn run_in_places(
     }))
 }
 
-/// The same by the program's code. Memory with other cells than the program declares, which has them all, takes places and codes of its own.
+/// The run of arguments that the program takes, by its code. Memory with more cells than the program declares takes places and codes of its own.
 fn run_by(
     alloc: Global,
     program: &Program,
@@ -122,7 +122,7 @@ fn run_by(
     run_in_places(alloc, code, arguments, memory, limits)
 }
 
-/// The same as [`serial_run_within`], by the module's code.
+/// The serial run of a module whose code was made before, as long as it does no more instructions than the fuel allows.
 ///
 /// # Errors
 ///
@@ -160,7 +160,7 @@ pub fn serial_run_within_by(
     }
 }
 
-/// The same as [`serial_run`], of a run that does no more instructions than the fuel allows.
+/// The serial run of a module, as long as it does no more instructions than the fuel allows.
 ///
 /// # Errors
 ///
@@ -190,7 +190,7 @@ pub fn serial_run_within(
     }
 }
 
-/// The same as [`serial_run`], by the module's code.
+/// The serial run of a module whose code was made before, for callers that run it often.
 ///
 /// # Errors
 ///

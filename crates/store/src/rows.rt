@@ -9,7 +9,7 @@ use lists::OutOfMemory;
 use std::alloc::Global;
 
 impl GlobalCells {
-    /// The same global with these numbers.
+    /// A global of this name whose cells hold these numbers.
     fn with_cells(&self, alloc: Global, numbers: &[i64]) -> Result<GlobalCells, OutOfMemory>
         ensures { IfOk result (λ g. g ≡ record self.now { cells = numbers.now }) }
     {
@@ -57,7 +57,7 @@ impl Memory {
         Ok(row)
     }
 
-    /// The same globals with the numbers of a row.
+    /// Memory whose globals have these names and sizes, with their numbers taken from a row, one global after the other.
     pub fn with_row(&self, row: &[i64]) -> Result<Memory, OutOfMemory>
         ensures { IfOk result (λ m. m ≡ refilled self.now row.now) }
     {

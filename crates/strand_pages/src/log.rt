@@ -214,7 +214,7 @@ impl PageLog {
         self.fill_page(at, values);
     }
 
-    /// The same of a page that may be needed soon, as long as half of the pages are left, which are for those that are needed; whether it was done.
+    /// Fills a page that may be needed soon, as long as more than half of the pages are left: the rest is for those that are needed. Whether it was done.
     pub fn fill_ahead(&mut self, at: &i64, values: &[i64]) -> bool
         requires { length values.now ≤ 64 }
         ensures filled { result ≡ true → log_of self.new ≡ filled_log (log_of self.old) at.now values.now }

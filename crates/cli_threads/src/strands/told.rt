@@ -54,7 +54,7 @@ pub fn run_again(
     )
 }
 
-/// The same, by the board of one ledger.
+/// Does the recorded run once more on a board of the ledger that `blank` begins, and tells of it.
 fn run_by<L: Bench>(
     alloc: Global,
     verified: &Verified,

@@ -39,7 +39,7 @@ impl Stop {
         Ok(Stop { word: Some(word) })
     }
 
-    /// The same one, for another owner.
+    /// A second handle to this word: what is set through one is seen through the other.
     ///
     /// # Errors
     ///

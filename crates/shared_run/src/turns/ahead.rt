@@ -10,7 +10,7 @@ const PAGE: i64 = 64;
 /// The most pages that are fetched with one that is needed, of those beside it.
 const MOST: usize = 8;
 
-/// The same of pages that lie apart, as those of a column of a matrix do.
+/// The most pages that are fetched with one that is needed, of those that lie apart, as the rows of a matrix along a column do.
 const MOST_APART: usize = 32;
 
 /// Pages that a strand may need next. To fetch them with one that it needs takes the board's lock once.

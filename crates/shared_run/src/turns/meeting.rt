@@ -149,7 +149,7 @@ fn comes_to_border<L: Bench>(board: &Board<'_, L>, strand: &mut WorkerStrand<'_,
     false
 }
 
-/// The same, and loads the frame that comes next. Frames that end soon after one another are done at once.
+/// Publishes the strand and loads the frame that comes next. Frames that end soon after one another are done at once.
 fn publish_all<L: Bench, T: Tasks>(
     board: &mut Board<'_, L>,
     tasks: &mut T,
