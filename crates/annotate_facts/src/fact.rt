@@ -184,7 +184,7 @@ impl<'a> Facts<'a> {
     }
 }
 
-/// Whether a function has many instructions.
+/// Whether a function has so many instructions that what they compute is not kept as facts.
 pub fn has_many_instructions(function: &Function) -> bool {
     let mut count = 0usize;
     for block in function.blocks.as_slice() {

@@ -49,7 +49,7 @@ fn bare_command<'a>(alloc: Global, verb: Verb) -> Command<'a> {
     Command::new(alloc, name).about(about).after_help(ending)
 }
 
-/// The command of a verb.
+/// The command of a verb with all its words and options, as `clap` parses them.
 fn verb_command<'a>(alloc: Global, verb: Verb) -> Result<Command<'a>, AllocError> {
     let mut args = Vec::new(alloc);
     for part in row_of(verb).parts {

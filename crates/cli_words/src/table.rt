@@ -433,7 +433,7 @@ static MAN_ROW: CommandRow = CommandRow {
     parts: &[],
 };
 
-/// The command of a verb.
+/// What help says of a verb's command, and the words and options that the command takes.
 pub(crate) fn row_of(verb: Verb) -> &'static CommandRow {
     match verb {
         Verb::Verify => &VERIFY_ROW,

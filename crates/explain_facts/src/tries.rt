@@ -98,7 +98,7 @@ impl<'s, 'a> Trying<'s, 'a> {
         }
     }
 
-    /// The text.
+    /// The text in which more lines may be tried; empty where only the program is there, and nothing can be tried.
     pub fn text(&self) -> &'s str {
         match &self.source {
             Some(source) => source.text,

@@ -17,7 +17,7 @@ use lists::{Name, Seq};
 use std::alloc::Global;
 use syntax::{Address, Argument, Operand};
 
-/// This word.
+/// This word, and nothing behind it.
 pub fn last_word_at(text: &[u8], symbols: &[Symbol]) -> Option<()>
     ensures { Finds (λ done. done) result (gaps_of (word text.now ∷ []) symbols.now) }
 {

@@ -75,7 +75,7 @@ impl Prepared {
         self.mark == other.mark
     }
 
-    /// Its code.
+    /// The module's code, made once for all its runs.
     pub fn code(&self) -> &Decoded
         ensures { IsCodeOf self.now result.now }
     {

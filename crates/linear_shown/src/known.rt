@@ -42,7 +42,6 @@ fn is_negative(form: &Form) -> bool
 }
 
 impl<'a> Known<'a> {
-    /// The facts.
     pub fn facts(&self) -> &'a [Fact]
         ensures { result.now ≡ self.now }
     {

@@ -67,7 +67,6 @@ impl Standing {
     }
 }
 
-/// Whether this is a reattach.
 fn is_reattach(terminator: &Terminator) -> bool
     ensures { result ≡ is_reattach (Some (Ends terminator.now)) }
 {

@@ -43,7 +43,6 @@ pub(crate) fn item_at<'p>(program: &'p Program, tables: &Tables, pc: usize) -> I
     item_in(&function.blocks.as_slice()[there.block.0], there.index)
 }
 
-/// Whether this is a detach.
 fn is_detach(item: Item<'_>) -> bool
     ensures { result ≡ is_detach (Some (item_of item.entry)) }
 {

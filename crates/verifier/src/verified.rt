@@ -59,7 +59,7 @@ impl Verified {
         &self.graph.program
     }
 
-    /// Its graph.
+    /// The program with the edges between its blocks.
     pub fn graph(&self) -> &Graph
         ensures { result.now.program ≡ self.now }
     {

@@ -14,7 +14,7 @@ pub enum Thing {
     },
 }
 
-/// A cell of it.
+/// Where a cell stands: a global, or an array of a frame, and the place in it.
 pub struct CellPlace {
     pub thing: Thing,
     pub index: u64,

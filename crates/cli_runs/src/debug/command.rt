@@ -7,7 +7,7 @@ use frame::Path;
 use lists::OutOfMemory;
 use std::alloc::Global;
 
-/// A command.
+/// What one line of the dialogue asks for.
 #[derive(Drop)]
 pub(crate) enum Command<'a> {
     /// A word alone.

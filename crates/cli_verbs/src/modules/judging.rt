@@ -23,7 +23,7 @@ pub struct Accepted {
 /// What comes of a question before anything runs.
 #[derive(Drop)]
 pub enum Judgement {
-    /// It is answered.
+    /// Nothing is to run: the answer is printed, and the program ends with this status.
     Answered(Status),
     /// It is about runs of this module.
     Accepted(Accepted),

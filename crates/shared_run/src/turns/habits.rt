@@ -20,7 +20,7 @@ pub(crate) enum Want {
     Page { at: i64 },
     /// To publish what it has done.
     Publish { reason: Reason },
-    /// A task.
+    /// A task to run: it has none, and is to look for one.
     Task,
     /// To leave: memory was refused.
     Leave,

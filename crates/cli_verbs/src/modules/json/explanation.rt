@@ -52,7 +52,7 @@ fn notes_of(alloc: Global, text: &str, finding: &Finding) -> Result<String, Allo
     notes.finish()
 }
 
-/// A fault.
+/// Adds one fault as a JSON object: its rule, its line, the cause where there is one, and notes with the way to mend it.
 fn push_fault(
     alloc: Global,
     out: &mut TextBuffer,
