@@ -10,7 +10,7 @@ use std::sync::Wait;
 use std::thread::Threads;
 use std::time::{Clock, Instant};
 
-/// How often a run is timed.
+/// How often a run is timed. The least time of several is the one that other work on the machine disturbed least; more of them take the user's time.
 const TIMES: u32 = 5;
 
 /// What runs on so many workers come to, and the least time that one took, in microseconds.

@@ -13,7 +13,7 @@ use shared_run::Ticket;
 use std::alloc::Global;
 use std::marker::Model;
 
-/// For how many tickets a list has room at first.
+/// For how many tickets a list has room at first. A list that is full grows; where memory for that is refused the ticket is lost, and its task is found late.
 const FIRST_ROOM: usize = 64;
 
 /// The owner's end of a worker's list of tickets. Contracts see which list it is, the owner's steps on it, and the list's history up to the last of them.

@@ -15,7 +15,8 @@ use std::alloc::Global;
 use store::Memory;
 use verifier::Verified;
 
-/// So many instructions are done before the stop is looked at again: as the serial run, which is the faster one.
+/// So many instructions are done before the stop is looked at: as the serial run, which is the faster one. A run that has more to do begins again and does
+/// these twice; one that has fewer pays nothing for its stop, which it does not look at meanwhile.
 pub const FIRST: u64 = 262_144;
 
 /// What a run comes to that may be stopped.

@@ -7,10 +7,10 @@ use crate::counted::Full;
 use lists::OutOfMemory;
 use std::alloc::Global;
 
-/// The most cells that a strand reads, and the most that it writes.
+/// The most cells that a strand reads, and the most that it writes: as many as a copy of a single frame holds, so that a gate sees such strands.
 const MOST_CELLS: u64 = 256;
 
-/// The cells of a page.
+/// The cells of a page: as many as a word has bits.
 const CELLS: usize = 64;
 
 /// Which cells of a page a strand has read, stored to and added to: a bit for each. It has none of those that an earlier strand has marked.

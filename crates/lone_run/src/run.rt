@@ -20,7 +20,7 @@ use serial_stack::Stack;
 use std::alloc::Global;
 use store::{Finished, Memory, RunFault, Verified, unmet_requirement};
 
-/// The most instructions of a strand, as on the board.
+/// The most instructions of a strand, as on the board: so a gate that stops the run is asked as often.
 const MOST: u64 = 65_536;
 
 /// A run of one worker alone, between two strands.

@@ -8,7 +8,7 @@ use crate::machine::Machine;
 use crate::stage::Stage;
 use lists::OutOfMemory;
 
-/// The cells that a worker is lent.
+/// The cells that a worker is lent, 32 KB. A call for whose allocas none are left is a border; but a run makes each worker's, whether it uses them or not.
 const LENT: usize = 4096;
 
 /// Lends so many cells to the workers, where none are lent yet.

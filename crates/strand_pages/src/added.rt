@@ -16,9 +16,11 @@ use lists::OutOfMemory;
 use std::alloc::Global;
 use std::marker::Model;
 
-/// The most adds in a list: more than those that a strand's instructions make, unless they do little else.
+/// The most adds in a list: more than those that a strand's instructions make, unless they do little else. With 4,096 a list was full before its strand ended,
+/// each further add put its page in use, and primes took twice the machine instructions.
 const ADDS: usize = 16384;
 
+/// A page that is put in use goes through the whole list where its mark is set: the more marks, the rarer for another page's add, and the more are cleared.
 const MARKS: usize = 4096;
 
 /// A number that is to be added to the cell at the address.

@@ -17,6 +17,8 @@ use lists::OutOfMemory;
 use std::alloc::Global;
 use std::marker::Model;
 
+/// How many pages an add is compared with to tell whether its page was added to lately, one for each remainder. With more of them more pages are put in use
+/// that few adds go to; with fewer, adds to one page again and again fill the list.
 const REMAINDERS: usize = 256;
 
 /// The cells that a worker read and wrote, and those that it may yet read. An address is the cell's index on the board.

@@ -18,7 +18,7 @@ use lists::OutOfMemory;
 use std::alloc::Global;
 use std::marker::Model;
 
-/// The most pages in use.
+/// The most pages in use. In a port to plain Rust 256 to 4,096 were alike; with 16 to 64, kernels with scattered cells lost half of their speed and more.
 pub(crate) const PAGES: usize = 512;
 
 /// What is kept of cells by pages, of which at most 512 are in use.

@@ -7,10 +7,12 @@ use crate::worker_strand::WorkerStrand;
 /// The cells of a page.
 const PAGE: i64 = 64;
 
-/// The most pages that are fetched with one that is needed, of those beside it.
+/// The most pages that are fetched with one that is needed, of those beside it. More take the board's lock less often, but hold it longer each time, and use
+/// up the room of strands that never come to them.
 const MOST: usize = 8;
 
-/// The most pages that are fetched with one that is needed, of those that lie apart, as the rows of a matrix along a column do.
+/// The most pages that are fetched with one that is needed, of those that lie apart, as the rows of a matrix along a column do: more than beside it, as so many
+/// are fetched only once five fetches before went on by equal steps.
 const MOST_APART: usize = 32;
 
 /// Pages that a strand may need next. To fetch them with one that it needs takes the board's lock once.

@@ -10,17 +10,20 @@ use crate::turns::tasks::{Reason, Tasks, Told};
 use crate::worker_strand::{Standing, WorkerStrand};
 
 /// A strand that begins behind a border and comes to another within so many instructions, as those that end a frame do, is put on the board before the lock
-/// is let go, so many one after the other with the first one; it may need the cells of so many pages.
+/// is let go. All that it does holds up those that wait for the lock; to let go of the lock and take it again takes longer than a few instructions.
 const SHORT: u64 = 16;
 
+/// So many strands are put on the board under one lock, with the one before such short ones. 64 gained nothing (a port to plain Rust).
 const MOST_STRANDS: u32 = 17;
 
+/// Such a short strand may need the cells of so many pages, each of which is copied under the lock.
 const SHORT_PAGES: u32 = 4;
 
-/// So many tickets are tried in one search.
+/// So many tickets are tried in one search. The tasks of some are gone, as the board went on since they were offered; but others wait for the lock meanwhile.
 const MOST_TICKETS: u32 = 64;
 
-/// So often a search in vain looks at the board for a task without a ticket.
+/// So often a search in vain looks at the board for a task without a ticket. There is one only where memory for a ticket was refused, and a look goes
+/// through all frames under the lock.
 const RARELY: u32 = 64;
 
 /// What a worker is to do when it has met the board.

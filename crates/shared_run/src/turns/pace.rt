@@ -2,16 +2,20 @@
 
 use crate::turns::tasks::Reason;
 
-/// The most instructions that a worker does before it puts a strand on the board for others.
+/// The most instructions that a worker does before it puts a strand on the board for others. The more, the rarer tiny tasks are offered in vain, and the later
+/// a worker offers one again whose tasks have become large.
 const MOST_PATIENCE: u64 = 50_000;
 
-/// A worker that has no task left after fewer instructions has given more than it kept.
+/// A worker that has no task left after fewer instructions has given more than it kept. The figures of [`Pace`] were taken with this number.
 const CRUMB: u64 = 1_000;
 
-/// To offer tasks takes so long that it is to be rare where nobody comes, unless the worker did so many instructions each time.
+/// To offer tasks takes so long that it is to be rare where nobody comes, unless the worker did so many instructions each time. A loop whose children do some
+/// thousand instructions each is shared by this number; of tiny children it is left alone.
 const ENOUGH: u64 = 8_000;
 
-/// How soon a worker puts a strand on the board again only because others wait for tasks.
+/// How soon a worker puts a strand on the board again only because others wait for tasks. That is learnt, as no fixed wait serves: in a port to plain Rust four
+/// workers gained, in a loop of children of 9,000 instructions, 2.2 with no wait, 1.1 with one of 10,000 instructions and 2.1 with a learnt one; in a loop of
+/// tiny children 0.6, 1.0 and 1.0. Recursion did not care.
 #[derive(Drop)]
 pub(crate) struct Pace {
     /// So many instructions it does at least in between.
@@ -82,6 +86,7 @@ impl Pace {
     fn judge(&mut self, least: u64) {
         self.patience = if self.since < least {
             let doubled = self.patience.saturating_mul(2);
+            // Twice 0 would be 0.
             doubled.saturating_add(64).min(MOST_PATIENCE)
         } else {
             self.patience / 2
