@@ -35,7 +35,9 @@ impl<'w, 'a> Rest<'w, 'a> {
         }
     }
 
-    /// Whether it is to be followed before another one: fewer facts may do, or as many and it has a greater number, of which they may take more.
+    /// Whether it is to be followed before another one: fewer facts may do, or as many and it has a greater number, of which they may take more. By the fewest
+    /// registers alone, however many facts were taken out before, nine texts of 218 were lost; in the order in which rests are found, a chain of bounds
+    /// each said six times.
     fn promises_more(&self, other: &Rest<'_, 'a>) -> bool {
         self.facts < other.facts
             || self.facts == other.facts && self.sum.constant > other.sum.constant

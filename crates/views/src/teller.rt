@@ -181,6 +181,7 @@ impl Teller {
         if self.wanted.stats {
             self.figures.push_lines(&mut stats, words.crew);
         }
+        // No `?`: each writes out the drops of all that is owned there. With six over these seven values this was 302 statements of the crate's 7,332.
         match (
             stats.finish(),
             self.json.finish(),

@@ -64,7 +64,7 @@ impl Pace {
     }
 
     /// A child ended whose parent another worker had taken: so nothing is left of what was offered. It was worth it where the worker had much to do
-    /// until then.
+    /// until then. What the thief got tells nothing: of a loop of tiny children it gets all the rest, and then two workers take turns at one loop.
     pub(crate) fn note_theft(&mut self) {
         if self.open > 0 {
             self.open = 0;
