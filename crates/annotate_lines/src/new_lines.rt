@@ -47,7 +47,7 @@ impl NewLines {
         })
     }
 
-    /// The lines of `more` that `text` has not, made by these means: a memory that is refused is noted there, and not answered.
+    /// The lines of `more` that `text` has not, as [`between`](Self::between) finds them. That memory is refused is noted by the means, and not answered.
     pub(crate) fn found(means: &Means<'_>, text: &str, more: &str) -> NewLines {
         NewLines {
             marks: means.list(marks_between(means.alloc, text, more)),

@@ -8,10 +8,11 @@ use lists::OutOfMemory;
 use std::alloc::Global;
 use std::marker::Model;
 
-/// The most addresses in an index.
+/// The most addresses in an index: more make strands longer that touch many cells, and each copy of a frame larger, whose room is made at once.
 pub const PLACES: usize = 256;
 
-/// The number of chains of an index.
+/// The number of chains of an index, four for each address, so that they are short. To empty all of them for each strand took 17 of a hundred of the machine
+/// instructions of `fib` on one worker: only those that were used are emptied.
 const SLOTS: usize = 1_024;
 
 /// An address, and how many addresses there are up to the one before it in its chain; 0 where it is the first.
