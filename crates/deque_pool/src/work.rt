@@ -31,8 +31,8 @@ const SHORTEST_SLEEP: u64 = 64;
 /// How often that time is doubled, from sleep to sleep: up to a millisecond.
 const DOUBLINGS: u32 = 4;
 
-/// The instructions of some hundred microseconds. To start threads takes about as long, so a run of fewer starts none. Where four workers began at once,
-/// and made all their pages, `fib` of 12 (4,647 instructions) had 594 page faults on four workers, and has 46 now.
+/// The instructions of some hundred microseconds. To start threads takes about as long, so a run of fewer starts none. Where all began at once, with
+/// all their pages made, `fib` of 12 (4,647 instructions) had 594 page faults on four workers, and has 46 now.
 const ALONE: u64 = 32_768;
 
 /// What a worker does next.

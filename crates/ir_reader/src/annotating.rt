@@ -130,7 +130,7 @@ pub fn annotated_block(
     match annotate_block_head(&mut head, annotation) {
         Ok(true) => Ok(Some(head)),
         Ok(false) => {
-            // By name, which is one call. Let go of at the end, it is field by field, once for each way out: that was 51 calls.
+            // By name, which is one call. Let go of at the end it goes field by field, once for each way out: that was 51 calls.
             drop(head);
             Ok(None)
         }

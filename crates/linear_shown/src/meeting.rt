@@ -173,7 +173,7 @@ fn fallen_far(entries: &[Entry], upto: usize, b: u32, beside: u128, total: u128)
     count
 }
 
-/// How many of the first entries are left where b times each key at the end is too great beside this. Mostly the last one is not: it is looked at inline.
+/// How many of the first entries are left where b times each key at the end is too great beside this. Mostly all are: the last one is looked at inline.
 #[inline(always)]
 pub fn fallen(entries: &[Entry], upto: usize, b: u32, beside: u128, total: u128) -> usize
     requires order { AreInOrder entries.now }

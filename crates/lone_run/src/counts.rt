@@ -7,7 +7,7 @@ use crate::counted::Full;
 use lists::OutOfMemory;
 use std::alloc::Global;
 
-/// The most cells that a strand reads, and the most that it writes: as many as a copy of a single frame holds, so that a gate sees such strands.
+/// The most cells that a strand reads, and the most that it writes: as many as a copy of a single frame holds, so a gate is asked as often.
 const MOST_CELLS: u64 = 256;
 
 /// The cells of a page: as many as a word has bits.

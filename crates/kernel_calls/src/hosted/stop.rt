@@ -39,7 +39,7 @@ impl Stop {
         Ok(Stop { word: Some(word) })
     }
 
-    /// A second handle to this word: what is set through one is seen through the other.
+    /// A second handle on this stop: what is set through one is seen through the other.
     ///
     /// # Errors
     ///

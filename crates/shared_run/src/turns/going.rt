@@ -12,8 +12,8 @@ const SHORTEST_SLICE: u64 = 2;
 /// The most instructions between two looks for others' demand. Neither 250 (in a port to plain Rust) nor 4,000 (in a build without proofs) gained anything.
 const LONGEST_SLICE: u64 = 1_000;
 
-/// A strand with so many frames below its top is one of nested calls, which has much to give: it is put on the board as soon as others wait. 8 made
-/// no difference in eleven kernels on two and four workers (medians of 25 runs, within 2 of a hundred).
+/// A strand with so many frames below its top is one of nested calls, which has much to give: it is put on the board as soon as others wait. No
+/// gain was seen of that rule alone, and 8 made no difference in eleven kernels on two and four workers (medians of 25 runs, within 2 of a hundred).
 const DEEP: usize = 4;
 
 /// More pauses than the slices of a strand make, which are some 75: so the loop has a bound that nothing comes to.

@@ -10,7 +10,7 @@ use crate::turns::tasks::{Reason, Tasks, Told};
 use crate::worker_strand::{Standing, WorkerStrand};
 
 /// A strand that begins behind a border and comes to another within so many instructions, as those that end a frame do, is put on the board before the lock
-/// is let go. All that it does holds up those that wait for the lock; to let go of the lock and take it again takes longer than a few instructions.
+/// is let go. The more it may do, the longer those wait who want the lock; the less, the more often the lock is taken again for next to nothing.
 const SHORT: u64 = 16;
 
 /// So many strands are put on the board under one lock, with the one before such short ones. 64 gained nothing (a port to plain Rust).
