@@ -4,10 +4,11 @@
 //! - `speedup`: how long runs take by the number of their workers.
 //! - `recorded`: a run of which more is told than the answer.
 //! - `strands`: such a run, done once more strand by strand, for its figures and its picture.
-//! - `clocks`: how long ago something was.
+//! - `launches`: what a run is started with. `clocks`: how long ago something was.
 #![tactic(auto)]
 
 mod clocks;
+mod launches;
 mod recorded;
 mod speedup;
 mod strands;

@@ -1,6 +1,7 @@
 //! Runs on threads of which more is told than the answer: their events are recorded.
 
 use crate::clocks::microseconds_since;
+use crate::launches::launch_of;
 use crate::strands::{Told as Replayed, run_again};
 use cli_runs::{
     Course, Event, Finished, Halt, Job, Machine, page_of, prepared, print_told, tell_course,
@@ -114,20 +115,12 @@ fn draw(
     beside: &mut Beside,
 ) -> Result<(), Halt> {
     let telling = &job.request.telling;
-    let memory = prepared(job, beside)?;
+    let launch = launch_of(job, job.request.workers, beside)?;
     let Replayed {
         tallies,
         rounds,
         scene,
-    } = run_again(
-        job.alloc,
-        job.verified,
-        job.request.args.as_slice(),
-        memory,
-        job.request.workers,
-        entries,
-        telling.picture.is_some(),
-    )?;
+    } = run_again(job.alloc, launch, entries, telling.picture.is_some())?;
     shown.picture = picture_of(job.alloc, scene)?;
     if telling.stats {
         let mut lines = TextBuffer::new(job.alloc);
@@ -229,17 +222,9 @@ pub(crate) fn run_told<T: Threads + Wait + Clock + Sync, W: Write>(
     output: &mut W,
     beside: &mut Beside,
 ) -> Result<Status, Halt> {
-    let memory = prepared(job, beside)?;
+    let launch = launch_of(job, job.request.workers, beside)?;
     let begun = Instant::now(rt)?;
-    let run = run_recorded(
-        rt,
-        job.alloc,
-        job.verified,
-        job.request.args.as_slice(),
-        memory,
-        job.request.workers,
-        &OpenGate,
-    );
+    let run = run_recorded(rt, job.alloc, launch, &OpenGate);
     let took = microseconds_since(rt, begun)?;
     tell_recorded(job, run?, took, output, beside)
 }

@@ -1,7 +1,8 @@
 //! How long runs on threads take by the number of their workers (`--speedup`: a benchmark).
 
 use crate::clocks::microseconds_since;
-use cli_runs::{Finished, Halt, Job, prepared, print_finished};
+use crate::launches::launch_of;
+use cli_runs::{Finished, Halt, Job, print_finished};
 use cli_words::{Beside, Status};
 use deque_pool::OpenGate;
 use lists::TextBuffer;
@@ -23,18 +24,9 @@ fn run_least<T: Threads + Wait + Clock + Sync>(
     let mut least = u64::MAX;
     let mut answer = None;
     for _time in 0..TIMES {
-        let memory = prepared(job, beside)?;
-        let args = job.request.args.as_slice();
+        let launch = launch_of(job, workers, beside)?;
         let begun = Instant::now(rt)?;
-        let run = deque_pool::run(
-            rt,
-            job.alloc,
-            job.verified,
-            args,
-            memory,
-            workers,
-            &OpenGate,
-        );
+        let run = deque_pool::run(rt, job.alloc, launch, &OpenGate);
         least = least.min(microseconds_since(rt, begun)?);
         answer = Some(run?);
     }

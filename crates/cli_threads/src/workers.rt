@@ -1,8 +1,9 @@
 //! A run on worker threads, as the command line asks for it, with the answer that is printed.
 
+use crate::launches::launch_of;
 use crate::recorded::run_told;
 use crate::speedup::run_speedup;
-use cli_runs::{Halt, Job, is_told, prepared, print_finished};
+use cli_runs::{Halt, Job, is_told, print_finished};
 use cli_words::{Beside, Status};
 use deque_pool::OpenGate;
 use std::io::Write;
@@ -24,15 +25,7 @@ pub fn run_on_workers<T: Threads + Wait + Clock + Sync, W: Write>(
     if is_told(&request.telling) {
         return run_told(rt, job, output, beside);
     }
-    let memory = prepared(job, beside)?;
-    let finished = deque_pool::run(
-        rt,
-        job.alloc,
-        job.verified,
-        request.args.as_slice(),
-        memory,
-        request.workers,
-        &OpenGate,
-    )?;
+    let launch = launch_of(job, request.workers, beside)?;
+    let finished = deque_pool::run(rt, job.alloc, launch, &OpenGate)?;
     print_finished(job, &finished, output, beside)
 }

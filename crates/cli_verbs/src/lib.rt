@@ -29,4 +29,5 @@ mod play;
 mod seed;
 
 pub use modules::{Judgement, Verdict, effort_of, judged, verdict_on};
-pub use play::answer_line;
+pub use play::{Texts, answer_line};
+pub use seed::Seed;

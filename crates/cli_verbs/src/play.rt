@@ -9,10 +9,10 @@ use std::hash::RandomState;
 
 /// What the files that a command line names hold, and standard input.
 #[derive(Clone, Copy)]
-struct Texts<'a> {
-    module: &'a [u8],
-    schedule: &'a [u8],
-    input: &'a [u8],
+pub struct Texts<'a> {
+    pub module: &'a [u8],
+    pub schedule: &'a [u8],
+    pub input: &'a [u8],
 }
 
 /// The answer to a request.
@@ -70,26 +70,16 @@ fn answered(
 
 /// Answers a command line, the program's own name first and a word in each line. It writes as many bytes of the answer as there is room for, and says how
 /// many there are. Returns 0, and 1 where memory is refused.
-///
-/// `low` and `high` are numbers that whoever wrote the texts does not know.
 pub fn answer_line(
     alloc: Global,
     line: &[u8],
-    module: &[u8],
-    schedule: &[u8],
-    input: &[u8],
-    low: u64,
-    high: u64,
+    texts: Texts<'_>,
+    seed: &Seed,
     out: &mut [u8],
     needed: &mut usize,
 ) -> u32 {
-    let texts = Texts {
-        module,
-        schedule,
-        input,
-    };
     *needed = 0;
-    match answered(alloc, line, texts, &Seed { low, high }) {
+    match answered(alloc, line, texts, seed) {
         Ok(bytes) => {
             let count = bytes.len().min(out.len());
             out[..count].copy_from_slice(&bytes[..count]);

@@ -5,7 +5,7 @@ use std::random::RandomSource;
 
 /// Numbers that whoever wrote a text does not know: names are hashed with them.
 #[derive(Drop)]
-pub(crate) struct Seed {
+pub struct Seed {
     pub low: u64,
     pub high: u64,
 }

@@ -1,4 +1,5 @@
 pub mod Gates
+pub mod Launching
 pub mod Leaving
 -- for the crates above
 pub use Rattle.shared_run.specs.schedule_core as schedule_core

@@ -3,21 +3,21 @@
 //! none of them was refused memory or stopped, they are set to work again.
 ghost use Rattle.std.specs.Prelude.{◌≡◌, vec_len, IfOk};
 ghost use Rattle.shared_run.specs.schedule_core.Admission.{IsAdmitted};
-ghost use Rattle.shared_run.specs.serial_machine.Decoding.{IsCodeOf};
 ghost use Rattle.shared_run.specs.store.Made.{IsMadeFor};
 ghost use Rattle.shared_run.specs.Answer.{IsSerialAnswer, LeadTo};
-ghost use Rattle.shared_run.specs.Story.{origin};
+ghost use Rattle.deque_pool.specs.Launching.{start_of};
 
 use crate::demand::Demand;
 use crate::figures::Figures;
 use crate::gate::Gate;
+use crate::launch::Launch;
 use crate::outlook::{Outlook, Quit, what_next};
 use crate::recorded::Recorded;
 use crate::work::{work, work_alone};
 use crate::workers::{Worker, crew_of, disband};
 use crossbeam_utils::CachePadded;
 use lists::OutOfMemory;
-use shared_run::{Bench, Decoded, Keeping, Memory, RunFault, Seat, Shared, Verified};
+use shared_run::{Bench, Decoded, Keeping, RunFault, Seat, Shared};
 use std::alloc::Global;
 use std::sync::atomic::AtomicBool;
 use std::sync::ledger::Blank;
@@ -30,26 +30,29 @@ use std::time::Clock;
 pub(crate) fn run_by<L: Bench + Send + Sync, G: Gate + Sync, R: Threads + Wait + Clock + Sync>(
     rt: &R,
     alloc: Global,
-    verified: &Verified,
-    arguments: &[i64],
-    memory: Memory,
-    workers: usize,
+    launch: Launch<'_>,
     gate: &G,
     keeping: Keeping,
     blank: Blank,
 ) -> Result<Recorded, RunFault>
-    requires made { IsMadeFor verified.now memory }
-    requires code { verified.now ≡ L.code }
-    requires arguments { arguments.now ≡ L.arguments }
-    requires memory { memory ≡ L.memory }
-    requires crew { workers ≡ L.crew }
+    requires made { IsMadeFor launch.verified.now launch.memory }
+    requires code { launch.verified.now ≡ L.code }
+    requires arguments { launch.arguments.now ≡ L.arguments }
+    requires memory { launch.memory ≡ L.memory }
+    requires crew { launch.workers ≡ L.crew }
     requires name { blank.name ≡ L.name }
     requires parts { blank.parts ≡ L.parts }
-    requires one_each { blank.parts ≡ workers }
-    ensures answer { IfOk result (λ run. IsSerialAnswer (origin verified.now arguments.now memory workers) run.finished) }
-    ensures replays { IfOk result (λ run. LeadTo (origin verified.now arguments.now memory workers) run.history.events run.finished) }
-    ensures admitted { IsAdmitted verified.now arguments.now memory workers result }
+    requires one_each { blank.parts ≡ launch.workers }
+    ensures answer { IfOk result (λ run. IsSerialAnswer (start_of launch.entry) run.finished) }
+    ensures replays { IfOk result (λ run. LeadTo (start_of launch.entry) run.history.events run.finished) }
+    ensures admitted { IsAdmitted launch.entry.verified.now launch.entry.arguments.now launch.entry.memory launch.entry.workers result }
 {
+    let Launch {
+        verified,
+        arguments,
+        memory,
+        workers,
+    } = launch;
     let (mut shared, mut seats) = Shared::<L>::new(
         alloc, verified, arguments, memory, workers, keeping, blank,
     )?;
@@ -60,9 +63,10 @@ pub(crate) fn run_by<L: Bench + Send + Sync, G: Gate + Sync, R: Threads + Wait +
         return Err(RunFault::OutOfMemory);
     };
     for _ in rt.forever() {
-        let own = figures.as_mut_slice();
-        let round = round(rt, alloc, verified, &code, &shared, seats, own, gate);
-        let Ok((back, left)) = round else {
+        let Ok(crew) = crew_of(alloc, seats, figures.as_slice(), verified, &code) else {
+            return Err(RunFault::OutOfMemory);
+        };
+        let Ok((back, left)) = round(rt, alloc, &shared, crew, figures.as_mut_slice(), gate) else {
             return Err(RunFault::OutOfMemory);
         };
         match (shared.finish(back), what_next(left.as_slice())) {
@@ -84,25 +88,20 @@ pub(crate) fn run_by<L: Bench + Send + Sync, G: Gate + Sync, R: Threads + Wait +
     unreachable!()
 }
 
-/// Lets all workers work until they leave: their seats, and why each of them left.
+/// Lets all workers work until they leave: their seats, and why each of them left. What they have done by now goes into `figures`.
 fn round<L: Bench + Send + Sync, G: Gate + Sync, R: Threads + Wait + Clock + Sync>(
     rt: &R,
     alloc: Global,
-    verified: &Verified,
-    code: &Decoded,
     shared: &Shared<'_, L>,
-    seats: Vec<Seat<L>>,
+    crew: Vec<Mutex<Worker<'_, L>>>,
     figures: &mut [Figures],
     gate: &G,
 ) -> Result<(Vec<Seat<L>>, Vec<Quit>), OutOfMemory>
-    requires code { verified.now ≡ L.code }
-    requires decoded { IsCodeOf verified.now code.now }
-    ensures seats { IfOk result (λ back. vec_len back.0 ≡ vec_len seats) }
-    ensures left { IfOk result (λ back. vec_len back.1 ≡ vec_len seats) }
+    ensures seats { IfOk result (λ back. vec_len back.0 ≡ vec_len crew) }
+    ensures left { IfOk result (λ back. vec_len back.1 ≡ vec_len crew) }
 {
-    let room = Vec::with_capacity(alloc, seats.len())?;
-    let left = Vec::with_capacity(alloc, seats.len())?;
-    let crew = crew_of(alloc, seats, figures, verified, code)?;
+    let room = Vec::with_capacity(alloc, crew.len())?;
+    let left = Vec::with_capacity(alloc, crew.len())?;
     work_together(rt, shared, gate, crew.as_slice());
     Ok(disband(crew, room, left, figures))
 }
@@ -119,47 +118,40 @@ fn work_together<'x, L: Bench + Send + Sync, G: Gate + Sync, R: Threads + Wait +
     let over: &AtomicBool = &word;
     let idle = CachePadded::new(Demand::of(crew.len()));
     let demand: &Demand = &idle;
-    let last = crew.len().saturating_sub(1);
-    if !gate.watches() && !begin_alone(rt, shared, demand, crew, last) {
+    let Some((last, others)) = crew.split_last() else {
+        return;
+    };
+    if !gate.watches() && !begin_alone(rt, shared, demand, last) {
         return;
     }
     thread::scope(thread::scope_env(), rt, move |scope| {
-        for number in 0..last {
-            let _ = scope.spawn(move || work_as(rt, shared, over, demand, gate, crew, number));
+        for worker in others {
+            let _ = scope.spawn(move || work_as(rt, shared, over, demand, gate, worker));
         }
-        work_as(rt, shared, over, demand, gate, crew, last);
+        work_as(rt, shared, over, demand, gate, last);
     });
 }
 
-/// The worker that stands there in the crew works alone; whether the others are to begin.
+/// The worker works alone; whether the others are to begin.
 fn begin_alone<L: Bench, R: Wait>(
     rt: &R,
     shared: &Shared<'_, L>,
     demand: &Demand,
-    crew: &[Mutex<Worker<'_, L>>],
-    number: usize,
+    worker: &Mutex<Worker<'_, L>>,
 ) -> bool {
-    match crew.get(number) {
-        Some(worker) => {
-            let mut worker = worker.lock(rt);
-            work_alone(rt, shared, demand, &mut worker)
-        }
-        None => true,
-    }
+    let mut worker = worker.lock(rt);
+    work_alone(rt, shared, demand, &mut worker)
 }
 
-/// The work of the worker that stands there in the crew. Its thread has it locked throughout.
+/// The work of a worker. Its thread has it locked throughout.
 fn work_as<L: Bench, G: Gate, R: Wait + Clock>(
     rt: &R,
     shared: &Shared<'_, L>,
     over: &AtomicBool,
     demand: &Demand,
     gate: &G,
-    crew: &[Mutex<Worker<'_, L>>],
-    number: usize,
+    worker: &Mutex<Worker<'_, L>>,
 ) {
-    if let Some(worker) = crew.get(number) {
-        let mut worker = worker.lock(rt);
-        work(rt, shared, over, demand, gate, &mut worker);
-    }
+    let mut worker = worker.lock(rt);
+    work(rt, shared, over, demand, gate, &mut worker);
 }

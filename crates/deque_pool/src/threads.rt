@@ -3,14 +3,15 @@ ghost use Rattle.std.specs.Prelude.{◌≡◌, Err, IfOk, true};
 ghost use Rattle.shared_run.specs.schedule_core.Admission.{IsAdmitted, IsNumberOfWorkers};
 ghost use Rattle.shared_run.specs.store.Made.{IsMadeFor};
 ghost use Rattle.shared_run.specs.Answer.{IsSerialAnswer, LeadTo};
-ghost use Rattle.shared_run.specs.Story.{origin};
 ghost use Rattle.deque_pool.specs.Gates.{WasAsked, WasStopped};
+ghost use Rattle.deque_pool.specs.Launching.{start_of};
 
 use crate::alone::run_alone;
 use crate::gate::Gate;
+use crate::launch::Launch;
 use crate::recorded::Recorded;
 use crate::rounds::run_by;
-use shared_run::{Finished, Keeping, Memory, RunFault, Verified};
+use shared_run::{Finished, Keeping, RunFault, Verified};
 use std::alloc::Global;
 use std::marker::Brand;
 use std::sync::Wait;
@@ -45,34 +46,26 @@ fn is_for_one<G: Gate>(verified: &Verified, workers: usize, gate: &G) -> bool
 pub fn run<G: Gate + Sync, R: Threads + Wait + Clock + Sync>(
     rt: &R,
     alloc: Global,
-    verified: &Verified,
-    arguments: &[i64],
-    memory: Memory,
-    workers: usize,
+    launch: Launch<'_>,
     gate: &G,
 ) -> Result<Finished, RunFault>
-    requires made { IsMadeFor verified.now memory }
-    ensures answer { IfOk result (λ done. IsSerialAnswer (origin verified.now arguments.now memory workers) done) }
-    ensures admitted { IsAdmitted verified.now arguments.now memory workers result }
-    ensures asked { workers ≡ 1 → IfOk result (λ done. WasAsked (G.says gate.now) done.instructions) }
-    ensures stopped { workers ≡ 1 → result ≡ Err RunFault.Stopped → WasStopped (G.says gate.now) }
+    requires made { IsMadeFor launch.verified.now launch.memory }
+    ensures answer { IfOk result (λ done. IsSerialAnswer (start_of launch.entry) done) }
+    ensures admitted { IsAdmitted launch.entry.verified.now launch.entry.arguments.now launch.entry.memory launch.entry.workers result }
+    ensures asked { launch.entry.workers ≡ 1 → IfOk result (λ done. WasAsked (G.says gate.now) done.instructions) }
+    ensures stopped { launch.entry.workers ≡ 1 → result ≡ Err RunFault.Stopped → WasStopped (G.says gate.now) }
 {
-    if is_for_one(verified, workers, gate) {
+    if is_for_one(launch.verified, launch.workers, gate) {
+        let Launch {
+            verified,
+            arguments,
+            memory,
+            workers: _,
+        } = launch;
         return run_alone(rt, alloc, verified, arguments, memory, gate);
     }
-    let blank = Blank::new(workers as u64);
-    let run = run_by::<Brand, G, R>(
-        rt,
-        alloc,
-        verified,
-        arguments,
-        memory,
-        workers,
-        gate,
-        Keeping::Nothing,
-        blank,
-    );
-    match run {
+    let blank = Blank::new(launch.workers as u64);
+    match run_by::<Brand, G, R>(rt, alloc, launch, gate, Keeping::Nothing, blank) {
         Ok(recorded) => Ok(recorded.finished),
         Err(fault) => Err(fault),
     }
@@ -86,30 +79,17 @@ pub fn run<G: Gate + Sync, R: Threads + Wait + Clock + Sync>(
 pub fn run_recorded<G: Gate + Sync, R: Threads + Wait + Clock + Sync>(
     rt: &R,
     alloc: Global,
-    verified: &Verified,
-    arguments: &[i64],
-    memory: Memory,
-    workers: usize,
+    launch: Launch<'_>,
     gate: &G,
 ) -> Result<Recorded, RunFault>
-    requires made { IsMadeFor verified.now memory }
-    ensures answer { IfOk result (λ run. IsSerialAnswer (origin verified.now arguments.now memory workers) run.finished) }
-    ensures replays { IfOk result (λ run. LeadTo (origin verified.now arguments.now memory workers) run.history.events run.finished) }
+    requires made { IsMadeFor launch.verified.now launch.memory }
+    ensures answer { IfOk result (λ run. IsSerialAnswer (start_of launch.entry) run.finished) }
+    ensures replays { IfOk result (λ run. LeadTo (start_of launch.entry) run.history.events run.finished) }
     ensures kept { IfOk result (λ run. run.history.keeping ≡ Keeping.Events) }
-    ensures admitted { IsAdmitted verified.now arguments.now memory workers result }
+    ensures admitted { IsAdmitted launch.entry.verified.now launch.entry.arguments.now launch.entry.memory launch.entry.workers result }
 {
-    let blank = Blank::new(workers as u64);
-    let run = run_by::<Brand, G, R>(
-        rt,
-        alloc,
-        verified,
-        arguments,
-        memory,
-        workers,
-        gate,
-        Keeping::Events,
-        blank,
-    )?;
+    let blank = Blank::new(launch.workers as u64);
+    let run = run_by::<Brand, G, R>(rt, alloc, launch, gate, Keeping::Events, blank)?;
     match run.history.keeping() {
         Keeping::Events => Ok(run),
         // No contract tells what stands behind a lock.

@@ -1,7 +1,7 @@
 //! A host: takes a kernel that it did not write, turns it away where it is wrong or too dear, and runs it serially, on threads and by a schedule.
 #![tactic(auto)]
 
-use deque_pool::{Event, Gate, Go, replay, run};
+use deque_pool::{Event, Gate, Go, Launch, replay, run};
 use frame::Path;
 use serial_machine::{Decoded, serial_run_by};
 use std::alloc::{AllocError, Global};
@@ -100,15 +100,13 @@ fn run_on_threads<T: Threads + Wait + Clock + Sync>(
     let Ok(memory) = Memory::zeroed(alloc, kernel) else {
         return Err(RunFault::OutOfMemory);
     };
-    let run = run(
-        rt,
-        alloc,
-        kernel,
+    let launch = Launch {
+        verified: kernel,
         arguments,
         memory,
-        WORKERS,
-        &Limit(100_000),
-    )?;
+        workers: WORKERS,
+    };
+    let run = run(rt, alloc, launch, &Limit(100_000))?;
     Ok((Some(run.result), run.instructions))
 }
 

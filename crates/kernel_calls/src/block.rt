@@ -11,6 +11,7 @@ ghost use Rattle.kernel_calls.specs.Boards.{IsNew};
 ghost use Rattle.kernel_calls.specs.Runs.{machine_of};
 
 use crate::hosted::{HostedRun, HostedWorker, Met, Progress, Stop};
+use crate::requests::BoardRequest;
 use crate::shared::Shared;
 use lists::OutOfMemory;
 use program::Program;
@@ -75,26 +76,16 @@ impl RunBlock {
     pub fn begin(
         alloc: Global,
         kernel: Shared,
-        arguments: &[i64],
         memory: Memory,
-        workers: usize,
-        fuel: u64,
+        request: &BoardRequest<'_>,
         stop: Stop,
     ) -> Result<RunBlock, RunFault>
         requires made { IsMadeFor kernel memory }
-        ensures begins { IfOk result (IsNew (origin kernel arguments.now memory workers) fuel) }
-        ensures admitted { IsAdmitted kernel arguments.now memory workers result }
+        ensures begins { IfOk result (IsNew (origin kernel request.now.arguments.now memory request.now.workers) request.now.fuel) }
+        ensures admitted { IsAdmitted kernel request.now.arguments.now memory request.now.workers result }
         ensures not_stopped { result ≢ Err RunFault.Stopped }
     {
-        let run = HostedRun::begin(
-            alloc,
-            kernel.verified(),
-            arguments,
-            memory,
-            workers,
-            fuel,
-            stop,
-        )?;
+        let run = HostedRun::begin(alloc, kernel.verified(), memory, request, stop)?;
         Ok(RunBlock {
             module: kernel,
             run,

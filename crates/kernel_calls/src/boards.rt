@@ -19,6 +19,7 @@ use crate::board_handle::{BoardHandle, WorkerHandle};
 use crate::cells::count_cells;
 use crate::handle::Handle;
 use crate::hosted::{Met, Stop};
+use crate::requests::BoardRequest;
 use crate::serial::{filled, shown};
 use crate::shared::Shared;
 use crate::stop::StopHandle;
@@ -36,16 +37,14 @@ use store::RunFault;
 fn begun(
     alloc: Global,
     kernel: &Shared,
-    fuel: u64,
-    stop: Stop,
-    arguments: &[i64],
+    request: &BoardRequest<'_>,
     cells: &[i64],
-    workers: usize,
+    stop: Stop,
 ) -> (Outcome, BoardHandle)
-    ensures begins { result.0.status ≡ done → Begins kernel.now arguments.now cells.now workers fuel result.1.run.state }
+    ensures begins { result.0.status ≡ done → Begins kernel.now request.now.arguments.now cells.now request.now.workers request.now.fuel result.1.run.state }
     ensures nothing { result.0.status ≢ done → result.1.run.state ≡ None }
-    ensures arguments { result.0.status ≡ bad_arguments → unmet_in kernel.now arguments.now ≡ Some result.0.requirement }
-    ensures workers { result.0.status ≡ bad_workers → ¬ IsNumberOfWorkers workers }
+    ensures arguments { result.0.status ≡ bad_arguments → unmet_in kernel.now request.now.arguments.now ≡ Some result.0.requirement }
+    ensures workers { result.0.status ≡ bad_workers → ¬ IsNumberOfWorkers request.now.workers }
     ensures cells { result.0.status ≡ other_cells → length cells.now ≢ sum (sizes_in kernel.now) }
     ensures statuses { IsBegunStatus result.0.status }
 {
@@ -57,7 +56,7 @@ fn begun(
     let Some(own) = kernel.another() else {
         return (plain_outcome(OUT_OF_MEMORY), none);
     };
-    match RunBlock::begin(alloc, own, arguments, memory, workers, fuel, stop) {
+    match RunBlock::begin(alloc, own, memory, request, stop) {
         Ok(run) => match Box::new(alloc, run) {
             Ok(block) => (plain_outcome(DONE), BoardHandle::kept(block)),
             Err(_) => (plain_outcome(OUT_OF_MEMORY), none),
@@ -79,21 +78,19 @@ fn begun(
 pub fn open_board(
     alloc: Global,
     handle: &mut Handle,
-    fuel: u64,
     stop: &mut StopHandle,
-    arguments: &[i64],
+    request: &BoardRequest<'_>,
     cells: &[i64],
-    workers: usize,
-    outcome: &mut Outcome,
     board: &mut BoardHandle,
-)
-    ensures begins { outcome.new.status ≡ done → BeginsAt handle.old.kernel.program arguments.now cells.now workers fuel board.new.run.state }
-    ensures nothing { outcome.new.status ≢ done → board.new.run.state ≡ None }
-    ensures arguments { outcome.new.status ≡ bad_arguments → LacksHeld handle.old.kernel.program arguments.now outcome.new.requirement }
-    ensures workers { outcome.new.status ≡ bad_workers → ¬ IsNumberOfWorkers workers }
-    ensures cells { outcome.new.status ≡ other_cells → HasOtherCellsHeld handle.old.kernel.program cells.now }
-    ensures closed { outcome.new.status ≡ closed → handle.old.kernel.program ≡ None }
-    ensures statuses { IsOpenStatus outcome.new.status }
+) -> Outcome
+    ensures begins { result.status ≡ done →
+        BeginsAt handle.old.kernel.program request.now.arguments.now cells.now request.now.workers request.now.fuel board.new.run.state }
+    ensures nothing { result.status ≢ done → board.new.run.state ≡ None }
+    ensures arguments { result.status ≡ bad_arguments → LacksHeld handle.old.kernel.program request.now.arguments.now result.requirement }
+    ensures workers { result.status ≡ bad_workers → ¬ IsNumberOfWorkers request.now.workers }
+    ensures cells { result.status ≡ other_cells → HasOtherCellsHeld handle.old.kernel.program cells.now }
+    ensures closed { result.status ≡ closed → handle.old.kernel.program ≡ None }
+    ensures statuses { IsOpenStatus result.status }
     ensures same { handle.new.kernel.program ≡ handle.old.kernel.program }
     ensures stop { stop.new.stop.kept ≡ stop.old.stop.kept }
 {
@@ -101,25 +98,16 @@ pub fn open_board(
     let (heard, own) = replace(stop, StopHandle::closed(alloc)).heard(alloc);
     *stop = own;
     let Some(heard) = heard else {
-        *outcome = plain_outcome(OUT_OF_MEMORY);
-        return;
+        return plain_outcome(OUT_OF_MEMORY);
     };
     match replace(handle, Handle::closed(alloc)).taken() {
         Some(block) => {
-            let (said, made) = begun(
-                alloc,
-                block.as_ref(),
-                fuel,
-                heard,
-                arguments,
-                cells,
-                workers,
-            );
+            let (outcome, made) = begun(alloc, block.as_ref(), request, cells, heard);
             *handle = Handle::kept(block);
-            *outcome = said;
             *board = made;
+            outcome
         }
-        None => *outcome = plain_outcome(CLOSED),
+        None => plain_outcome(CLOSED),
     }
 }
 
@@ -367,29 +355,24 @@ fn finished(alloc: Global, run: Box<RunBlock>, cells: &mut [i64]) -> (Outcome, B
 
 /// The answer of a run that has ended, whose board holds nothing then; or how far it has come.
 #[tactic(auto, using(crate::proofs::Standing::answers_held, crate::proofs::Standing::stands_held, crate::proofs::Standing::other_held))]
-pub fn finish_board(
-    alloc: Global,
-    board: &mut BoardHandle,
-    cells: &mut [i64],
-    outcome: &mut Outcome,
-)
-    ensures answer { outcome.new.status ≡ done → AnswersSerially board.old.run.state cells.new outcome.new }
-    ensures stands { outcome.new.status ≡ not_ended → StandsHeld board.old.run.state outcome.new }
-    ensures other { outcome.new.status ≡ other_cells → HasOtherCellsOfRun board.old.run.state cells.old }
-    ensures kept { outcome.new.status ≢ done → cells.new ≡ cells.old }
-    ensures same { (outcome.new.status ≡ not_ended) ⊎ (outcome.new.status ≡ other_cells) → board.new.run.state ≡ board.old.run.state }
-    ensures nothing { outcome.new.status ≡ done → board.new.run.state ≡ None }
-    ensures lost { outcome.new.status ≡ out_of_memory → board.new.run.state ≡ None }
-    ensures closed { outcome.new.status ≡ closed → board.old.run.state ≡ None }
-    ensures statuses { IsFinishHeldStatus outcome.new.status }
+pub fn finish_board(alloc: Global, board: &mut BoardHandle, cells: &mut [i64]) -> Outcome
+    ensures answer { result.status ≡ done → AnswersSerially board.old.run.state cells.new result }
+    ensures stands { result.status ≡ not_ended → StandsHeld board.old.run.state result }
+    ensures other { result.status ≡ other_cells → HasOtherCellsOfRun board.old.run.state cells.old }
+    ensures kept { result.status ≢ done → cells.new ≡ cells.old }
+    ensures same { (result.status ≡ not_ended) ⊎ (result.status ≡ other_cells) → board.new.run.state ≡ board.old.run.state }
+    ensures nothing { result.status ≡ done → board.new.run.state ≡ None }
+    ensures lost { result.status ≡ out_of_memory → board.new.run.state ≡ None }
+    ensures closed { result.status ≡ closed → board.old.run.state ≡ None }
+    ensures statuses { IsFinishHeldStatus result.status }
 {
     match replace(board, BoardHandle::closed(alloc)).taken() {
         Some(run) => {
-            let (said, back) = finished(alloc, run, cells);
-            *outcome = said;
+            let (outcome, back) = finished(alloc, run, cells);
             *board = back;
+            outcome
         }
-        None => *outcome = plain_outcome(CLOSED),
+        None => plain_outcome(CLOSED),
     }
 }
 

@@ -15,6 +15,16 @@ use program::{Global, Program};
 use std::alloc::Global as Heap;
 use std::mem::replace;
 
+/// Where the cells of a global begin in the row of all cells, and how many it has.
+#[derive(Clone, Copy)]
+pub struct GlobalCells {
+    pub first: u64,
+    pub count: u64,
+}
+
+/// Those of no global.
+const NONE: GlobalCells = GlobalCells { first: 0, count: 0 };
+
 /// How many globals the module has.
 #[tactic(auto, using(crate::proofs::Holding::globals_held, crate::proofs::Holding::globals_none))]
 pub fn count_globals(alloc: Heap, handle: &mut Handle) -> usize
@@ -81,53 +91,44 @@ fn find(globals: &[Global], name: &[u8]) -> Option<usize>
     None
 }
 
-/// Finds a global by its name: where its cells begin, and how many it has.
+/// Finds a global by its name.
 #[tactic(auto, using(crate::proofs::Finding::global_found, std::proofs::lemmas::Option::slice_get_within))]
-fn global_of(program: &Program, name: &[u8]) -> Option<(u64, u64)>
-    ensures found { IfSome result (λ place. IsGlobalOf program.now name.now place.0 place.1) }
+fn global_of(program: &Program, name: &[u8]) -> Option<GlobalCells>
+    ensures found { IfSome result (λ cells. IsGlobalOf program.now name.now cells.first cells.count) }
     ensures none { IfNone result (LacksName program.now.globals name.now) }
 {
     let globals = program.globals.as_slice();
     let number = find(globals, name)?;
-    Some((cells_of(&globals[..number]), globals[number].cells))
+    Some(GlobalCells {
+        first: cells_of(&globals[..number]),
+        count: globals[number].cells,
+    })
 }
 
 /// Finds a global of the module by its name.
-pub fn find_global(
-    alloc: Heap,
-    handle: &mut Handle,
-    name: &[u8],
-    first: &mut u64,
-    cells: &mut u64,
-) -> u32
-    ensures found { result ≡ done → OfHeld handle.old.kernel.program (λ p. IsGlobalOf p name.now first.new cells.new) }
-    ensures lacks { result ≡ not_found → OfHeld handle.old.kernel.program (λ p. LacksName p.globals name.now) }
-    ensures none { result ≢ done → (first.new ≡ 0) × (cells.new ≡ 0) }
-    ensures closed { result ≡ closed → handle.old.kernel.program ≡ None }
+pub fn find_global(alloc: Heap, handle: &mut Handle, name: &[u8]) -> (u32, GlobalCells)
+    ensures found { result.0 ≡ done → OfHeld handle.old.kernel.program (λ p. IsGlobalOf p name.now result.1.first result.1.count) }
+    ensures lacks { result.0 ≡ not_found → OfHeld handle.old.kernel.program (λ p. LacksName p.globals name.now) }
+    ensures none { result.0 ≢ done → (result.1.first ≡ 0) × (result.1.count ≡ 0) }
+    ensures closed { result.0 ≡ closed → handle.old.kernel.program ≡ None }
     ensures same { handle.new.kernel.program ≡ handle.old.kernel.program }
-    ensures statuses { IsFoundStatus result }
+    ensures statuses { IsFoundStatus result.0 }
 {
-    *first = 0;
-    *cells = 0;
     let Some(block) = replace(handle, Handle::closed(alloc)).taken() else {
-        return CLOSED;
+        return (CLOSED, NONE);
     };
-    let status = match global_of(block.as_ref().verified().program(), name) {
-        Some((begins, count)) => {
-            *first = begins;
-            *cells = count;
-            DONE
-        }
-        None => NOT_FOUND,
+    let found = match global_of(block.as_ref().verified().program(), name) {
+        Some(cells) => (DONE, cells),
+        None => (NOT_FOUND, NONE),
     };
     *handle = Handle::kept(block);
-    status
+    found
 }
 
 /// Tells the global of this number: its name is written as far as there is room.
 #[tactic(auto, using(crate::proofs::Finding::global_at))]
-fn told(program: &Program, number: usize, out: &mut [u8], needed: &mut usize) -> Option<(u64, u64)>
-    ensures found { IfSome result (λ place. (name : List ℕ) × IsGlobalAt program.now number name place.0 place.1
+fn told(program: &Program, number: usize, out: &mut [u8], needed: &mut usize) -> Option<GlobalCells>
+    ensures found { IfSome result (λ cells. (name : List ℕ) × IsGlobalAt program.now number name cells.first cells.count
         × StandsIn out.old name out.new needed.new) }
     ensures none { IfNone result ((length program.now.globals ≤ number) × (out.new ≡ out.old) × (needed.new ≡ needed.old)) }
 {
@@ -137,7 +138,10 @@ fn told(program: &Program, number: usize, out: &mut [u8], needed: &mut usize) ->
     }
     let global = &globals[number];
     put(global.name.as_bytes(), out, needed);
-    Some((cells_of(&globals[..number]), global.cells))
+    Some(GlobalCells {
+        first: cells_of(&globals[..number]),
+        count: global.cells,
+    })
 }
 
 /// Tells the global of this number, from 0.
@@ -147,31 +151,23 @@ pub fn tell_global(
     number: usize,
     out: &mut [u8],
     needed: &mut usize,
-    first: &mut u64,
-    cells: &mut u64,
-) -> u32
-    ensures found { result ≡ done → OfHeld handle.old.kernel.program (λ p. (name : List ℕ) × IsGlobalAt p number name first.new cells.new
+) -> (u32, GlobalCells)
+    ensures found { result.0 ≡ done → OfHeld handle.old.kernel.program (λ p. (name : List ℕ) × IsGlobalAt p number name result.1.first result.1.count
         × StandsIn out.old name out.new needed.new) }
-    ensures lacks { result ≡ not_found → OfHeld handle.old.kernel.program (λ p. length p.globals ≤ number) }
-    ensures none { result ≢ done → (first.new ≡ 0) × (cells.new ≡ 0) × (needed.new ≡ 0) × (out.new ≡ out.old) }
-    ensures closed { result ≡ closed → handle.old.kernel.program ≡ None }
+    ensures lacks { result.0 ≡ not_found → OfHeld handle.old.kernel.program (λ p. length p.globals ≤ number) }
+    ensures none { result.0 ≢ done → (result.1.first ≡ 0) × (result.1.count ≡ 0) × (needed.new ≡ 0) × (out.new ≡ out.old) }
+    ensures closed { result.0 ≡ closed → handle.old.kernel.program ≡ None }
     ensures same { handle.new.kernel.program ≡ handle.old.kernel.program }
-    ensures statuses { IsFoundStatus result }
+    ensures statuses { IsFoundStatus result.0 }
 {
-    *first = 0;
-    *cells = 0;
     *needed = 0;
     let Some(block) = replace(handle, Handle::closed(alloc)).taken() else {
-        return CLOSED;
+        return (CLOSED, NONE);
     };
-    let status = match told(block.as_ref().verified().program(), number, out, needed) {
-        Some((begins, count)) => {
-            *first = begins;
-            *cells = count;
-            DONE
-        }
-        None => NOT_FOUND,
+    let found = match told(block.as_ref().verified().program(), number, out, needed) {
+        Some(cells) => (DONE, cells),
+        None => (NOT_FOUND, NONE),
     };
     *handle = Handle::kept(block);
-    status
+    found
 }

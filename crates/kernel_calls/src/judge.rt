@@ -57,9 +57,9 @@ pub fn rejection(why: Unverified) -> Verdict
     }
 }
 
-/// The verdict on a text.
+/// Verifies a module within some effort.
 #[tactic(auto, using(crate::proofs::Bounded::bounded_is))]
-fn judged(alloc: Global, text: &[u8], seed: &Seed, effort: u64) -> Verdict
+pub fn verify(alloc: Global, text: &[u8], seed: &Seed, effort: u64) -> Verdict
     ensures accepted { result.status ≡ done → Accepts text.now result }
     ensures refused { result.status ≡ refused → Refuses text.now result.rule result.line }
     ensures effort { result.status ≡ out_of_effort → effort ≢ unbounded }
@@ -69,25 +69,4 @@ fn judged(alloc: Global, text: &[u8], seed: &Seed, effort: u64) -> Verdict
         Ok(kernel) => acceptance(&kernel),
         Err(why) => rejection(why),
     }
-}
-
-/// Verifies a module within some effort.
-pub fn verify(
-    alloc: Global,
-    text: &[u8],
-    seed_low: u64,
-    seed_high: u64,
-    effort: u64,
-    verdict: &mut Verdict,
-)
-    ensures accepted { verdict.new.status ≡ done → Accepts text.now verdict.new }
-    ensures refused { verdict.new.status ≡ refused → Refuses text.now verdict.new.rule verdict.new.line }
-    ensures effort { verdict.new.status ≡ out_of_effort → effort ≢ unbounded }
-    ensures statuses { IsVerdictStatus verdict.new.status }
-{
-    let seed = Seed {
-        low: seed_low,
-        high: seed_high,
-    };
-    *verdict = judged(alloc, text, &seed, effort);
 }

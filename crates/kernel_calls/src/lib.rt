@@ -16,7 +16,7 @@
 //!
 //! What is told, and what is held:
 //!
-//! - `told`: verdicts, outcomes and statuses, as the header has them.
+//! - `requests`: what a host asks of runs. `told`: verdicts, outcomes and statuses, as the header has them.
 //! - `handle`, `board_handle`: what a host holds between its calls (`Handle`, `BoardHandle`, `WorkerHandle`).
 //! - `kernel`, `run_at`, `worker_at`, `stop_at`: what handles hold, as pointers of no type. `loose`: a box as its
 //!   pointer.
@@ -46,6 +46,7 @@ mod open;
 mod prepared;
 mod range;
 mod replay;
+mod requests;
 mod rows;
 mod run;
 mod run_at;
@@ -66,14 +67,18 @@ pub use boards::{
     turn_worker,
 };
 pub use handle::Handle;
-pub use inside::{count_arguments, count_frame_cells, count_globals, find_global, tell_global};
+pub use inside::{
+    GlobalCells, count_arguments, count_frame_cells, count_globals, find_global, tell_global,
+};
 pub use judge::verify;
 pub use open::{close_module, open_module, share_module};
 pub use range::{Range, tell_argument};
 pub use replay::replay_module;
+pub use requests::{BoardRequest, RowsRequest, RunRequest};
 pub use rows::run_each_row;
 pub use run::run_module;
 pub use schedule::write_schedule;
+pub use seed::Seed;
 pub use serial::verify_and_run;
 pub use stop::{StopHandle, clear_stop, close_stop, is_stop_set, open_stop, set_stop, share_stop};
 pub use told::{Outcome, Verdict};

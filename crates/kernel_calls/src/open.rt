@@ -55,25 +55,19 @@ fn opened(alloc: Global, text: &[u8], seed: &Seed, effort: u64) -> (Verdict, Han
 pub fn open_module(
     alloc: Global,
     text: &[u8],
-    seed_low: u64,
-    seed_high: u64,
+    seed: &Seed,
     effort: u64,
-    verdict: &mut Verdict,
     handle: &mut Handle,
-)
-    ensures accepted { verdict.new.status ≡ done → Opens text.now verdict.new handle.new.kernel.program }
-    ensures refused { verdict.new.status ≡ refused → Refuses text.now verdict.new.rule verdict.new.line }
-    ensures effort { verdict.new.status ≡ out_of_effort → effort ≢ unbounded }
-    ensures closed { verdict.new.status ≢ done → handle.new.kernel.program ≡ None }
-    ensures statuses { IsVerdictStatus verdict.new.status }
+) -> Verdict
+    ensures accepted { result.status ≡ done → Opens text.now result handle.new.kernel.program }
+    ensures refused { result.status ≡ refused → Refuses text.now result.rule result.line }
+    ensures effort { result.status ≡ out_of_effort → effort ≢ unbounded }
+    ensures closed { result.status ≢ done → handle.new.kernel.program ≡ None }
+    ensures statuses { IsVerdictStatus result.status }
 {
-    let seed = Seed {
-        low: seed_low,
-        high: seed_high,
-    };
-    let (said, made) = opened(alloc, text, &seed, effort);
-    *verdict = said;
+    let (verdict, made) = opened(alloc, text, seed, effort);
     *handle = made;
+    verdict
 }
 
 /// Another handle on a module, where memory is given and there are not as many as can be counted.

@@ -115,31 +115,31 @@ pub fn replay_module(
     cells: &mut [i64],
     workers: usize,
     schedule: &[u8],
-    outcome: &mut Outcome,
-)
-    ensures ended { outcome.new.status ≡ done → ByText schedule.now (λ events. OfHeld handle.old.kernel.program
-        (λ p. EndsBy p arguments.now cells.old cells.new workers events outcome.new)) }
-    ensures stands { outcome.new.status ≡ not_ended → ByText schedule.now (λ events. OfHeld handle.old.kernel.program
-        (λ p. StandsBy p arguments.now cells.old workers events outcome.new)) }
-    ensures bad { outcome.new.status ≡ bad_schedule → IsBadLine schedule.now outcome.new.line }
-    ensures long { outcome.new.status ≡ long_schedule → IsTooLong schedule.now outcome.new.line }
-    ensures arguments { outcome.new.status ≡ bad_arguments → LacksHeld handle.old.kernel.program arguments.now outcome.new.requirement }
-    ensures workers { outcome.new.status ≡ bad_workers → ¬ IsNumberOfWorkers workers }
-    ensures cells { outcome.new.status ≡ other_cells → HasOtherCellsHeld handle.old.kernel.program cells.old }
-    ensures closed { outcome.new.status ≡ closed → handle.old.kernel.program ≡ None }
-    ensures kept { outcome.new.status ≢ done → cells.new ≡ cells.old }
-    ensures statuses { IsScheduleStatus outcome.new.status }
+) -> Outcome
+    ensures ended { result.status ≡ done → ByText schedule.now (λ events. OfHeld handle.old.kernel.program
+        (λ p. EndsBy p arguments.now cells.old cells.new workers events result)) }
+    ensures stands { result.status ≡ not_ended → ByText schedule.now (λ events. OfHeld handle.old.kernel.program
+        (λ p. StandsBy p arguments.now cells.old workers events result)) }
+    ensures bad { result.status ≡ bad_schedule → IsBadLine schedule.now result.line }
+    ensures long { result.status ≡ long_schedule → IsTooLong schedule.now result.line }
+    ensures arguments { result.status ≡ bad_arguments → LacksHeld handle.old.kernel.program arguments.now result.requirement }
+    ensures workers { result.status ≡ bad_workers → ¬ IsNumberOfWorkers workers }
+    ensures cells { result.status ≡ other_cells → HasOtherCellsHeld handle.old.kernel.program cells.old }
+    ensures closed { result.status ≡ closed → handle.old.kernel.program ≡ None }
+    ensures kept { result.status ≢ done → cells.new ≡ cells.old }
+    ensures statuses { IsScheduleStatus result.status }
     ensures same { handle.new.kernel.program ≡ handle.old.kernel.program }
 {
     match read_schedule(alloc, schedule) {
         Ok(events) => match replace(handle, Handle::closed(alloc)).taken() {
             Some(block) => {
                 let (kernel, events) = (block.verified(), events.as_slice());
-                *outcome = replay_over(alloc, kernel, arguments, cells, workers, events);
+                let outcome = replay_over(alloc, kernel, arguments, cells, workers, events);
                 *handle = Handle::kept(block);
+                outcome
             }
-            None => *outcome = plain_outcome(CLOSED),
+            None => plain_outcome(CLOSED),
         },
-        Err(fault) => *outcome = schedule_fault(fault),
+        Err(fault) => schedule_fault(fault),
     }
 }

@@ -6,6 +6,7 @@ ghost use Rattle.kernel_calls.specs.Held.{AreRuns, IsRun};
 use crate::handle::Handle;
 use crate::hosted::Stop;
 use crate::prepared::Prepared;
+use crate::requests::{RowsRequest, RunRequest};
 use crate::serial::run_over;
 use crate::stop::StopHandle;
 use crate::told::{CLOSED, OUT_OF_MEMORY, Outcome, plain_outcome};
@@ -16,14 +17,13 @@ use std::mem::replace;
 fn run_row(
     alloc: Global,
     kernel: &Prepared,
-    fuel: u64,
-    arguments: &[i64],
+    request: &RunRequest<'_>,
     cells: &mut [i64],
     stop: &Stop,
 ) -> Outcome
-    ensures { IsRun (Some kernel.now) fuel arguments.now cells.old cells.new result }
+    ensures { IsRun (Some kernel.now) request.now.fuel request.now.arguments.now cells.old cells.new result }
 {
-    run_over(alloc, kernel, fuel, arguments, cells, stop)
+    run_over(alloc, kernel, request, cells, stop)
 }
 
 /// Where the numbers of a row end: it has as many as each row, or what is left.
@@ -38,29 +38,24 @@ fn end_of(first: usize, each: usize, all: usize) -> usize
 fn run_rows(
     alloc: Global,
     kernel: &Prepared,
-    fuel: u64,
     stop: &Stop,
-    arguments_each: usize,
-    arguments: &[i64],
-    cells_each: usize,
+    rows: &RowsRequest<'_>,
     cells: &mut [i64],
     outcomes: &mut [Outcome],
 )
-    ensures { AreRuns (Some kernel.now) fuel arguments_each cells_each arguments.now cells.old cells.new outcomes.new }
+    ensures { AreRuns (Some kernel.now) rows.now.fuel rows.now.arguments_each rows.now.cells_each rows.now.arguments.now cells.old cells.new outcomes.new }
 {
     let mut argument = 0;
     let mut cell = 0;
     for row in 0..outcomes.len() {
-        let argument_end = end_of(argument, arguments_each, arguments.len());
-        let cell_end = end_of(cell, cells_each, cells.len());
-        outcomes[row] = run_row(
-            alloc,
-            kernel,
-            fuel,
-            &arguments[argument..argument_end],
-            &mut cells[cell..cell_end],
-            stop,
-        );
+        let argument_end = end_of(argument, rows.arguments_each, rows.arguments.len());
+        let cell_end = end_of(cell, rows.cells_each, cells.len());
+        let request = RunRequest {
+            arguments: &rows.arguments[argument..argument_end],
+            fuel: rows.fuel,
+        };
+        let own = &mut cells[cell..cell_end];
+        outcomes[row] = run_row(alloc, kernel, &request, own, stop);
         argument = argument_end;
         cell = cell_end;
     }
@@ -70,30 +65,17 @@ fn run_rows(
 fn run_rows_held(
     alloc: Global,
     handle: Handle,
-    fuel: u64,
     stop: &Stop,
-    arguments_each: usize,
-    arguments: &[i64],
-    cells_each: usize,
+    rows: &RowsRequest<'_>,
     cells: &mut [i64],
     outcomes: &mut [Outcome],
 ) -> Handle
-    ensures rows { AreRuns handle.kernel.program fuel arguments_each cells_each arguments.now cells.old cells.new outcomes.new }
+    ensures rows { AreRuns handle.kernel.program rows.now.fuel rows.now.arguments_each rows.now.cells_each rows.now.arguments.now cells.old cells.new outcomes.new }
     ensures same { result.kernel.program ≡ handle.kernel.program }
 {
     match handle.taken() {
         Some(block) => {
-            run_rows(
-                alloc,
-                block.module(),
-                fuel,
-                stop,
-                arguments_each,
-                arguments,
-                cells_each,
-                cells,
-                outcomes,
-            );
+            run_rows(alloc, block.module(), stop, rows, cells, outcomes);
             Handle::kept(block)
         }
         None => {
@@ -108,15 +90,12 @@ fn run_rows_held(
 pub fn run_each_row(
     alloc: Global,
     handle: &mut Handle,
-    fuel: u64,
     stop: &mut StopHandle,
-    arguments_each: usize,
-    arguments: &[i64],
-    cells_each: usize,
+    rows: &RowsRequest<'_>,
     cells: &mut [i64],
     outcomes: &mut [Outcome],
 )
-    ensures rows { AreRuns handle.old.kernel.program fuel arguments_each cells_each arguments.now cells.old cells.new outcomes.new }
+    ensures rows { AreRuns handle.old.kernel.program rows.now.fuel rows.now.arguments_each rows.now.cells_each rows.now.arguments.now cells.old cells.new outcomes.new }
     ensures same { handle.new.kernel.program ≡ handle.old.kernel.program }
     ensures stop { stop.new.stop.kept ≡ stop.old.stop.kept }
 {
@@ -127,15 +106,5 @@ pub fn run_each_row(
         return;
     };
     let held = replace(handle, Handle::closed(alloc));
-    *handle = run_rows_held(
-        alloc,
-        held,
-        fuel,
-        &heard,
-        arguments_each,
-        arguments,
-        cells_each,
-        cells,
-        outcomes,
-    );
+    *handle = run_rows_held(alloc, held, &heard, rows, cells, outcomes);
 }

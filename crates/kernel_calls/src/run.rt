@@ -5,6 +5,7 @@ ghost use Rattle.kernel_calls.specs.Told.{bad_arguments, done, other_cells, out_
 ghost use Rattle.kernel_calls.specs.Held.{ExceedsHeld, HasOtherCellsHeld, IsHeldStatus, LacksHeld, RunsHeld, closed};
 
 use crate::handle::Handle;
+use crate::requests::RunRequest;
 use crate::serial::run_over;
 use crate::stop::StopHandle;
 use crate::told::{CLOSED, OUT_OF_MEMORY, Outcome, plain_outcome};
@@ -16,34 +17,32 @@ use std::mem::replace;
 pub fn run_module(
     alloc: Global,
     handle: &mut Handle,
-    fuel: u64,
     stop: &mut StopHandle,
-    arguments: &[i64],
+    request: &RunRequest<'_>,
     cells: &mut [i64],
-    outcome: &mut Outcome,
-)
-    ensures ran { outcome.new.status ≡ done → RunsHeld handle.old.kernel.program fuel arguments.now cells.old cells.new outcome.new }
-    ensures fuel { outcome.new.status ≡ out_of_fuel → ExceedsHeld handle.old.kernel.program fuel arguments.now cells.old }
-    ensures arguments { outcome.new.status ≡ bad_arguments → LacksHeld handle.old.kernel.program arguments.now outcome.new.requirement }
-    ensures cells { outcome.new.status ≡ other_cells → HasOtherCellsHeld handle.old.kernel.program cells.old }
-    ensures closed { outcome.new.status ≡ closed → handle.old.kernel.program ≡ None }
-    ensures kept { outcome.new.status ≢ done → cells.new ≡ cells.old }
-    ensures stopped { outcome.new.status ≡ stopped → IsSome stop.old.stop.kept }
-    ensures statuses { IsHeldStatus outcome.new.status }
+) -> Outcome
+    ensures ran { result.status ≡ done → RunsHeld handle.old.kernel.program request.now.fuel request.now.arguments.now cells.old cells.new result }
+    ensures fuel { result.status ≡ out_of_fuel → ExceedsHeld handle.old.kernel.program request.now.fuel request.now.arguments.now cells.old }
+    ensures arguments { result.status ≡ bad_arguments → LacksHeld handle.old.kernel.program request.now.arguments.now result.requirement }
+    ensures cells { result.status ≡ other_cells → HasOtherCellsHeld handle.old.kernel.program cells.old }
+    ensures closed { result.status ≡ closed → handle.old.kernel.program ≡ None }
+    ensures kept { result.status ≢ done → cells.new ≡ cells.old }
+    ensures stopped { result.status ≡ stopped → IsSome stop.old.stop.kept }
+    ensures statuses { IsHeldStatus result.status }
     ensures same { handle.new.kernel.program ≡ handle.old.kernel.program }
     ensures stop { stop.new.stop.kept ≡ stop.old.stop.kept }
 {
     let (heard, own) = replace(stop, StopHandle::closed(alloc)).heard(alloc);
     *stop = own;
     let Some(heard) = heard else {
-        *outcome = plain_outcome(OUT_OF_MEMORY);
-        return;
+        return plain_outcome(OUT_OF_MEMORY);
     };
     match replace(handle, Handle::closed(alloc)).taken() {
         Some(block) => {
-            *outcome = run_over(alloc, block.module(), fuel, arguments, cells, &heard);
+            let outcome = run_over(alloc, block.module(), request, cells, &heard);
             *handle = Handle::kept(block);
+            outcome
         }
-        None => *outcome = plain_outcome(CLOSED),
+        None => plain_outcome(CLOSED),
     }
 }

@@ -14,6 +14,7 @@ use crate::cells::count_cells;
 use crate::hosted::Stop;
 use crate::judge::rejection;
 use crate::prepared::Prepared;
+use crate::requests::RunRequest;
 use crate::seed::{Seed, verify_seeded};
 use crate::told::{
     BAD_ARGUMENTS, DONE, OTHER_CELLS, OUT_OF_FUEL, OUT_OF_MEMORY, Outcome, STOPPED, plain_outcome,
@@ -70,14 +71,13 @@ fn run_by(
     alloc: Global,
     kernel: &Verified,
     code: &Decoded,
-    fuel: u64,
-    arguments: &[i64],
+    request: &RunRequest<'_>,
     cells: &mut [i64],
 ) -> Outcome
     requires code { IsCodeOf kernel.now code.now }
-    ensures ran { result.status ≡ done → RunsProgram kernel.now fuel arguments.now cells.old cells.new result }
-    ensures fuel { result.status ≡ out_of_fuel → ExceedsProgram kernel.now fuel arguments.now cells.old }
-    ensures arguments { result.status ≡ bad_arguments → unmet_in kernel.now arguments.now ≡ Some result.requirement }
+    ensures ran { result.status ≡ done → RunsProgram kernel.now request.now.fuel request.now.arguments.now cells.old cells.new result }
+    ensures fuel { result.status ≡ out_of_fuel → ExceedsProgram kernel.now request.now.fuel request.now.arguments.now cells.old }
+    ensures arguments { result.status ≡ bad_arguments → unmet_in kernel.now request.now.arguments.now ≡ Some result.requirement }
     ensures cells { result.status ≡ other_cells → length cells.old ≢ sum (sizes_in kernel.now) }
     ensures kept { result.status ≢ done → cells.new ≡ cells.old }
     ensures statuses { IsRunStatus result.status }
@@ -86,7 +86,7 @@ fn run_by(
         Ok(memory) => memory,
         Err(status) => return plain_outcome(status),
     };
-    match serial_run_within_by(alloc, kernel, code, arguments, memory, fuel) {
+    match serial_run_within_by(alloc, kernel, code, request.arguments, memory, request.fuel) {
         Ok(finished) => shown(&finished, cells),
         Err(Unfinished::OutOfFuel { .. }) => plain_outcome(OUT_OF_FUEL),
         Err(Unfinished::Fault(RunFault::BadArguments { requirement, .. })) => Outcome {
@@ -102,14 +102,13 @@ fn run_by(
 fn run_on(
     alloc: Global,
     kernel: &Verified,
-    fuel: u64,
-    stop: &Stop,
-    arguments: &[i64],
+    request: &RunRequest<'_>,
     cells: &mut [i64],
+    stop: &Stop,
 ) -> Outcome
-    requires taken { unmet_in kernel.now arguments.now ≡ None }
-    ensures ran { result.status ≡ done → RunsProgram kernel.now fuel arguments.now cells.old cells.new result }
-    ensures fuel { result.status ≡ out_of_fuel → ExceedsProgram kernel.now fuel arguments.now cells.old }
+    requires taken { unmet_in kernel.now request.now.arguments.now ≡ None }
+    ensures ran { result.status ≡ done → RunsProgram kernel.now request.now.fuel request.now.arguments.now cells.old cells.new result }
+    ensures fuel { result.status ≡ out_of_fuel → ExceedsProgram kernel.now request.now.fuel request.now.arguments.now cells.old }
     ensures cells { result.status ≡ other_cells → length cells.old ≢ sum (sizes_in kernel.now) }
     ensures kept { result.status ≢ done → cells.new ≡ cells.old }
     ensures stopped { result.status ≡ stopped → IsSome stop.now.word }
@@ -119,7 +118,7 @@ fn run_on(
         Ok(memory) => memory,
         Err(status) => return plain_outcome(status),
     };
-    match run_watched(alloc, kernel, fuel, stop, arguments, memory) {
+    match run_watched(alloc, kernel, request.fuel, stop, request.arguments, memory) {
         Watched::Finished(finished) => shown(&finished, cells),
         Watched::OutOfFuel => plain_outcome(OUT_OF_FUEL),
         Watched::Stopped => plain_outcome(STOPPED),
@@ -133,14 +132,13 @@ fn run_on(
 pub fn run_over(
     alloc: Global,
     kernel: &Prepared,
-    fuel: u64,
-    arguments: &[i64],
+    request: &RunRequest<'_>,
     cells: &mut [i64],
     stop: &Stop,
 ) -> Outcome
-    ensures ran { result.status ≡ done → RunsProgram kernel.now fuel arguments.now cells.old cells.new result }
-    ensures fuel { result.status ≡ out_of_fuel → ExceedsProgram kernel.now fuel arguments.now cells.old }
-    ensures arguments { result.status ≡ bad_arguments → unmet_in kernel.now arguments.now ≡ Some result.requirement }
+    ensures ran { result.status ≡ done → RunsProgram kernel.now request.now.fuel request.now.arguments.now cells.old cells.new result }
+    ensures fuel { result.status ≡ out_of_fuel → ExceedsProgram kernel.now request.now.fuel request.now.arguments.now cells.old }
+    ensures arguments { result.status ≡ bad_arguments → unmet_in kernel.now request.now.arguments.now ≡ Some result.requirement }
     ensures cells { result.status ≡ other_cells → length cells.old ≢ sum (sizes_in kernel.now) }
     ensures kept { result.status ≢ done → cells.new ≡ cells.old }
     ensures stopped { result.status ≡ stopped → IsSome stop.now.word }
@@ -150,40 +148,44 @@ pub fn run_over(
         return plain_outcome(STOPPED);
     }
     let (module, code) = (kernel.verified(), kernel.code());
-    if !stop.is_live() || fuel <= FIRST {
-        return run_by(alloc, module, code, fuel, arguments, cells);
+    if !stop.is_live() || request.fuel <= FIRST {
+        return run_by(alloc, module, code, request, cells);
     }
-    let outcome = run_by(alloc, module, code, FIRST, arguments, cells);
+    let first = RunRequest {
+        fuel: FIRST,
+        ..*request
+    };
+    let outcome = run_by(alloc, module, code, &first, cells);
     if outcome.status == OUT_OF_FUEL {
-        run_on(alloc, module, fuel, stop, arguments, cells)
+        run_on(alloc, module, request, cells, stop)
     } else {
         outcome
     }
 }
 
-/// Verifies a text within some effort, and runs its module within some fuel.
+/// Verifies a module within some effort, and runs its serial elision within some fuel from the numbers of its globals, each global after the
+/// one before it.
 #[tactic(auto, using(crate::proofs::Bounded::bounded_is))]
-fn run_text(
+pub fn verify_and_run(
     alloc: Global,
     text: &[u8],
     seed: &Seed,
     effort: u64,
-    fuel: u64,
-    arguments: &[i64],
+    request: &RunRequest<'_>,
     cells: &mut [i64],
 ) -> Outcome
-    ensures ran { result.status ≡ done → Runs text.now fuel arguments.now cells.old cells.new result }
-    ensures fuel { result.status ≡ out_of_fuel → Exceeds text.now fuel arguments.now cells.old }
+    ensures ran { result.status ≡ done → Runs text.now request.now.fuel request.now.arguments.now cells.old cells.new result }
+    ensures fuel { result.status ≡ out_of_fuel → Exceeds text.now request.now.fuel request.now.arguments.now cells.old }
     ensures refused { result.status ≡ refused → Refuses text.now result.rule result.line }
     ensures effort { result.status ≡ out_of_effort → effort ≢ unbounded }
-    ensures arguments { result.status ≡ bad_arguments → Lacks text.now arguments.now result.requirement }
+    ensures arguments { result.status ≡ bad_arguments → Lacks text.now request.now.arguments.now result.requirement }
     ensures cells { result.status ≡ other_cells → HasOtherCells text.now cells.old }
     ensures kept { result.status ≢ done → cells.new ≡ cells.old }
     ensures statuses { IsOutcomeStatus result.status }
 {
     match verify_seeded(alloc, seed, text, effort) {
         Ok(kernel) => match Decoded::of(alloc, &kernel) {
-            Ok(code) => run_by(alloc, &kernel, &code, fuel, arguments, cells),
+            Ok(code) => run_by(alloc, &kernel, &code, request, cells),
             Err(OutOfMemory) => plain_outcome(OUT_OF_MEMORY),
         },
         Err(why) => {
@@ -195,33 +197,4 @@ fn run_text(
             }
         }
     }
-}
-
-/// Verifies a module within some effort, and runs its serial elision within some fuel from the numbers of its globals, each global after the
-/// one before it.
-pub fn verify_and_run(
-    alloc: Global,
-    text: &[u8],
-    seed_low: u64,
-    seed_high: u64,
-    effort: u64,
-    fuel: u64,
-    arguments: &[i64],
-    cells: &mut [i64],
-    outcome: &mut Outcome,
-)
-    ensures ran { outcome.new.status ≡ done → Runs text.now fuel arguments.now cells.old cells.new outcome.new }
-    ensures fuel { outcome.new.status ≡ out_of_fuel → Exceeds text.now fuel arguments.now cells.old }
-    ensures refused { outcome.new.status ≡ refused → Refuses text.now outcome.new.rule outcome.new.line }
-    ensures effort { outcome.new.status ≡ out_of_effort → effort ≢ unbounded }
-    ensures arguments { outcome.new.status ≡ bad_arguments → Lacks text.now arguments.now outcome.new.requirement }
-    ensures cells { outcome.new.status ≡ other_cells → HasOtherCells text.now cells.old }
-    ensures kept { outcome.new.status ≢ done → cells.new ≡ cells.old }
-    ensures statuses { IsOutcomeStatus outcome.new.status }
-{
-    let seed = Seed {
-        low: seed_low,
-        high: seed_high,
-    };
-    *outcome = run_text(alloc, text, &seed, effort, fuel, arguments, cells);
 }

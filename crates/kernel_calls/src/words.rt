@@ -123,8 +123,7 @@ fn reasons(
 pub fn write_explanation(
     alloc: Global,
     text: &[u8],
-    seed_low: u64,
-    seed_high: u64,
+    seed: &Seed,
     effort: u64,
     out: &mut [u8],
     needed: &mut usize,
@@ -136,12 +135,8 @@ pub fn write_explanation(
     ensures none { result ≡ out_of_memory → HasNone out.old out.new needed.new }
     ensures statuses { IsExplainStatus result }
 {
-    let seed = Seed {
-        low: seed_low,
-        high: seed_high,
-    };
     *needed = 0;
-    match reasons(alloc, text, &seed, effort) {
+    match reasons(alloc, text, seed, effort) {
         Ok((words, status)) => {
             put(words.as_bytes(), out, needed);
             status

@@ -1,6 +1,7 @@
 //! The program `tapirvm` for a page: the one export that its WebAssembly module has. What it calls stands in `cli_verbs`.
 #![tactic(auto)]
 
+use cli_verbs::{Seed, Texts, answer_line};
 use std::alloc::Global;
 
 /// Answers a command line, the program's own name first and a word in each line. It writes as many bytes of the answer as there is room for, and says how
@@ -19,5 +20,10 @@ pub extern "C" fn play_answer(
     out: &mut [u8],
     needed: &mut usize,
 ) -> u32 {
-    cli_verbs::answer_line(alloc, line, module, schedule, input, low, high, out, needed)
+    let texts = Texts {
+        module,
+        schedule,
+        input,
+    };
+    answer_line(alloc, line, texts, &Seed { low, high }, out, needed)
 }

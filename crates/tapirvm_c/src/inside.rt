@@ -52,7 +52,10 @@ pub extern "C" fn tapirvm_global(
     ensures same { handle.new.kernel.program ≡ handle.old.kernel.program }
     ensures statuses { IsFoundStatus result }
 {
-    kernel_calls::find_global(alloc, handle, name, first, cells)
+    let (status, global) = kernel_calls::find_global(alloc, handle, name);
+    *first = global.first;
+    *cells = global.count;
+    status
 }
 
 /// Tells the global of this number, from 0.
@@ -74,7 +77,10 @@ pub extern "C" fn tapirvm_global_at(
     ensures same { handle.new.kernel.program ≡ handle.old.kernel.program }
     ensures statuses { IsFoundStatus result }
 {
-    kernel_calls::tell_global(alloc, handle, number, out, needed, first, cells)
+    let (status, global) = kernel_calls::tell_global(alloc, handle, number, out, needed);
+    *first = global.first;
+    *cells = global.count;
+    status
 }
 
 /// Tells the argument of this number, from 0: its name is written as far as there is room.

@@ -4,7 +4,7 @@ ghost use Rattle.std.specs.Prelude.{◌≡◌, ◌≢◌, None};
 ghost use Rattle.kernel_calls.specs.Held.{IsShareStatus, Opens, closed};
 ghost use Rattle.kernel_calls.specs.Told.{Accepts, IsVerdictStatus, Refuses, done, out_of_effort, refused, unbounded};
 
-use kernel_calls::{Handle, Verdict};
+use kernel_calls::{Handle, Seed, Verdict};
 use std::alloc::Global;
 
 /// Verifies a module within some effort.
@@ -22,7 +22,11 @@ pub extern "C" fn tapirvm_verify(
     ensures effort { verdict.new.status ≡ out_of_effort → effort ≢ unbounded }
     ensures statuses { IsVerdictStatus verdict.new.status }
 {
-    kernel_calls::verify(alloc, text, seed_low, seed_high, effort, verdict);
+    let seed = Seed {
+        low: seed_low,
+        high: seed_high,
+    };
+    *verdict = kernel_calls::verify(alloc, text, &seed, effort);
 }
 
 /// Verifies a module within some effort and keeps it. What the handle held is given back.
@@ -42,7 +46,11 @@ pub extern "C" fn tapirvm_open(
     ensures closed { verdict.new.status ≢ done → handle.new.kernel.program ≡ None }
     ensures statuses { IsVerdictStatus verdict.new.status }
 {
-    kernel_calls::open_module(alloc, text, seed_low, seed_high, effort, verdict, handle);
+    let seed = Seed {
+        low: seed_low,
+        high: seed_high,
+    };
+    *verdict = kernel_calls::open_module(alloc, text, &seed, effort, handle);
 }
 
 /// Keeps in another handle what this one keeps, so that both can run it at the same time. What the other one held is given back.

@@ -8,7 +8,7 @@ ghost use Rattle.kernel_calls.specs.Told.{bad_arguments, done, other_cells, out_
 ghost use Rattle.schedule_core.specs.Admission.{IsNumberOfWorkers};
 ghost use Rattle.schedule_text.specs.ScheduleText.{IsBadLine, IsTooLong};
 
-use kernel_calls::{Handle, Outcome, StopHandle};
+use kernel_calls::{Handle, Outcome, RowsRequest, RunRequest, Seed, StopHandle};
 use std::alloc::Global;
 
 /// Verifies a module within some effort, and runs its serial elision within some fuel from the numbers of its globals, each global after the
@@ -34,9 +34,12 @@ pub extern "C" fn tapirvm_serial(
     ensures kept { outcome.new.status ≢ done → cells.new ≡ cells.old }
     ensures statuses { IsOutcomeStatus outcome.new.status }
 {
-    kernel_calls::verify_and_run(
-        alloc, text, seed_low, seed_high, effort, fuel, arguments, cells, outcome,
-    );
+    let seed = Seed {
+        low: seed_low,
+        high: seed_high,
+    };
+    let request = RunRequest { arguments, fuel };
+    *outcome = kernel_calls::verify_and_run(alloc, text, &seed, effort, &request, cells);
 }
 
 /// Runs the serial elision of the module that is held, within some fuel and unless it is stopped, from the numbers of its globals, each global after the one
@@ -62,7 +65,8 @@ pub extern "C" fn tapirvm_run(
     ensures same { handle.new.kernel.program ≡ handle.old.kernel.program }
     ensures stop { stop.new.stop.kept ≡ stop.old.stop.kept }
 {
-    kernel_calls::run_module(alloc, handle, fuel, stop, arguments, cells, outcome);
+    let request = RunRequest { arguments, fuel };
+    *outcome = kernel_calls::run_module(alloc, handle, stop, &request, cells);
 }
 
 /// Runs the module that is held once for each outcome, as `tapirvm_run` does: the first run has the first of the arguments and of the cells, so
@@ -83,17 +87,13 @@ pub extern "C" fn tapirvm_rows(
     ensures same { handle.new.kernel.program ≡ handle.old.kernel.program }
     ensures stop { stop.new.stop.kept ≡ stop.old.stop.kept }
 {
-    kernel_calls::run_each_row(
-        alloc,
-        handle,
-        fuel,
-        stop,
-        arguments_each,
+    let rows = RowsRequest {
         arguments,
+        arguments_each,
         cells_each,
-        cells,
-        outcomes,
-    );
+        fuel,
+    };
+    kernel_calls::run_each_row(alloc, handle, stop, &rows, cells, outcomes);
 }
 
 /// Runs the module that is held by a schedule, from the numbers of its globals, each global after the one before it.
@@ -121,5 +121,5 @@ pub extern "C" fn tapirvm_replay(
     ensures statuses { IsScheduleStatus outcome.new.status }
     ensures same { handle.new.kernel.program ≡ handle.old.kernel.program }
 {
-    kernel_calls::replay_module(alloc, handle, arguments, cells, workers, schedule, outcome);
+    *outcome = kernel_calls::replay_module(alloc, handle, arguments, cells, workers, schedule);
 }

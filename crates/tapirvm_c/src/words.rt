@@ -4,6 +4,7 @@ ghost use Rattle.std.specs.Prelude.{◌≡◌, ◌≢◌, ◌⊎◌};
 ghost use Rattle.kernel_calls.specs.Told.{BreaksRule, HasProgram, done, out_of_effort, out_of_memory, refused, unbounded};
 ghost use Rattle.kernel_calls.specs.Words.{HasNone, HasWords, IsExplainStatus, IsRuleStatus, not_found};
 
+use kernel_calls::Seed;
 use std::alloc::Global;
 
 /// Writes what a status means.
@@ -49,5 +50,9 @@ pub extern "C" fn tapirvm_explain(
     ensures none { result ≡ out_of_memory → HasNone out.old out.new needed.new }
     ensures statuses { IsExplainStatus result }
 {
-    kernel_calls::write_explanation(alloc, text, seed_low, seed_high, effort, out, needed)
+    let seed = Seed {
+        low: seed_low,
+        high: seed_high,
+    };
+    kernel_calls::write_explanation(alloc, text, &seed, effort, out, needed)
 }

@@ -4,7 +4,7 @@
 use crate::endings::{Ending, is_so, leads_to};
 use crate::report::Report;
 use crate::threads::gates::Tally;
-use deque_pool::{Figures, Gate, Hands, OpenGate, Recorded, Taken, run_recorded};
+use deque_pool::{Figures, Gate, Hands, Launch, OpenGate, Recorded, Taken, run_recorded};
 use lists::OutOfMemory;
 use shared_run::{Event, Memory, Ticket, Verified, replay};
 use std::alloc::Global;
@@ -21,8 +21,13 @@ fn recorded<G: Gate + Sync, R: Threads + Wait + Clock + Sync>(
     workers: usize,
     gate: &G,
 ) -> Option<(Recorded, Vec<Event>)> {
-    let memory = Memory::zeroed(alloc, verified).ok()?;
-    let run = run_recorded(rt, alloc, verified, arguments, memory, workers, gate).ok()?;
+    let launch = Launch {
+        verified,
+        arguments,
+        memory: Memory::zeroed(alloc, verified).ok()?,
+        workers,
+    };
+    let run = run_recorded(rt, alloc, launch, gate).ok()?;
     let events = run.history.events(alloc).ok()?;
     Some((run, events))
 }

@@ -3,50 +3,58 @@
 use crate::endings::{Ending, is_so};
 use crate::report::Report;
 use crate::threads::gates::{Asleep, Meeting, Stop};
-use deque_pool::{Gate, run};
+use deque_pool::{Gate, Launch, run};
 use shared_run::{Memory, RunFault, Verified};
 use std::alloc::Global;
 use std::sync::Wait;
 use std::thread::Threads;
 use std::time::Clock;
 
-/// Whether a run of the module on so many workers under a gate comes to the answer, or is stopped, where none is wanted.
+/// A run of a module on so many workers, and the answer that is wanted; none where its gate is to stop it.
+#[derive(Clone, Copy)]
+struct Case<'a> {
+    verified: &'a Verified,
+    arguments: &'a [i64],
+    workers: usize,
+    wanted: Option<Ending>,
+}
+
+/// Whether the run under a gate comes to the answer, or is stopped, where none is wanted.
 fn comes_to<G: Gate + Sync, R: Threads + Wait + Clock + Sync>(
     rt: &R,
     alloc: Global,
-    verified: &Verified,
-    arguments: &[i64],
-    workers: usize,
+    case: Case<'_>,
     gate: &G,
-    wanted: Option<Ending>,
 ) -> bool {
-    let Ok(memory) = Memory::zeroed(alloc, verified) else {
+    let Ok(memory) = Memory::zeroed(alloc, case.verified) else {
         return false;
     };
-    let end = run(rt, alloc, verified, arguments, memory, workers, gate);
-    match (end, wanted) {
+    let launch = Launch {
+        verified: case.verified,
+        arguments: case.arguments,
+        memory,
+        workers: case.workers,
+    };
+    match (run(rt, alloc, launch, gate), case.wanted) {
         (Ok(done), Some(wanted)) => is_so(&done, wanted),
         (Err(RunFault::Stopped), None) => true,
         _ => false,
     }
 }
 
-/// Whether worker 0 of so many does a run without borders in so many strands, each with its gate before it; where no answer is wanted the gate of the last
+/// Whether worker 0 does a run without borders in so many strands, each with its gate before it; where no answer is wanted the gate of the last
 /// one stops the run.
 fn has_strands<R: Threads + Wait + Clock + Sync>(
     rt: &R,
     alloc: Global,
-    verified: &Verified,
-    arguments: &[i64],
-    workers: usize,
+    case: Case<'_>,
     strands: u64,
-    wanted: Option<Ending>,
 ) -> bool {
-    let stop = Stop::at(match wanted {
+    let stop = Stop::at(match case.wanted {
         Some(_) => strands,
         None => strands.saturating_sub(1),
     });
-    comes_to(rt, alloc, verified, arguments, workers, &stop, wanted) && stop.was_asked(strands)
+    comes_to(rt, alloc, case, &stop) && stop.was_asked(strands)
 }
 
 /// Two workers of `pair.ll` wait for each other in their gates, and both come while the other waits.
@@ -57,7 +65,13 @@ pub fn answer_inside<R: Threads + Wait + Clock + Sync>(
     report: &mut Report,
 ) {
     let meeting = Meeting::new();
-    let is_done = comes_to(rt, alloc, pair, &[7], 2, &meeting, Some((14, 14, 2)));
+    let case = Case {
+        verified: pair,
+        arguments: &[7],
+        workers: 2,
+        wanted: Some((14, 14, 2)),
+    };
+    let is_done = comes_to(rt, alloc, case, &meeting);
     report.holds(
         "two workers are inside at once",
         is_done && meeting.is_met(),
@@ -72,19 +86,38 @@ pub fn answer_strands<R: Threads + Wait + Clock + Sync>(
     long: &Verified,
     report: &mut Report,
 ) {
-    let wanted = Some((0, 1546, 1));
-    let has_two = has_strands(rt, alloc, stores, &[], 1, 2, wanted);
+    let two = Case {
+        verified: stores,
+        arguments: &[],
+        workers: 1,
+        wanted: Some((0, 1546, 1)),
+    };
+    let has_two = has_strands(rt, alloc, two, 2);
     report.holds("each of two strands is after its gate", has_two);
     // After 65,536 instructions stands the return.
-    let wanted = Some((16_383, 65_537, 1));
-    let has_one = has_strands(rt, alloc, long, &[16_383], 1, 1, wanted);
+    let one = Case {
+        verified: long,
+        arguments: &[16_383],
+        workers: 1,
+        wanted: Some((16_383, 65_537, 1)),
+    };
+    let has_one = has_strands(rt, alloc, one, 1);
     report.holds("a border at the limit is the strand's", has_one);
-    let wanted = Some((16_384, 65_541, 1));
-    let has_two = has_strands(rt, alloc, long, &[16_384], 1, 2, wanted);
+    let two = Case {
+        arguments: &[16_384],
+        wanted: Some((16_384, 65_541, 1)),
+        ..one
+    };
+    let has_two = has_strands(rt, alloc, two, 2);
     report.holds("past the limit goes the next strand", has_two);
     // 200,005 instructions are three strands of 65,536 and one of 3,397.
-    let wanted = Some((50_000, 200_005, 1));
-    let has_four = has_strands(rt, alloc, long, &[50_000], 2, 4, wanted);
+    let four = Case {
+        verified: long,
+        arguments: &[50_000],
+        workers: 2,
+        wanted: Some((50_000, 200_005, 1)),
+    };
+    let has_four = has_strands(rt, alloc, four, 4);
     report.holds(
         "of two workers one does a long loop in four strands",
         has_four,
@@ -136,12 +169,23 @@ pub fn answer_stops<R: Threads + Wait + Clock + Sync>(
     report: &mut Report,
 ) {
     for workers in [1usize, 2, 4] {
-        let wanted = Some((50_000, 200_005, 1));
-        let has_all = comes_to(rt, alloc, long, &[50_000], workers, &Asleep, wanted);
+        let case = Case {
+            verified: long,
+            arguments: &[50_000],
+            workers,
+            wanted: Some((50_000, 200_005, 1)),
+        };
+        let has_all = comes_to(rt, alloc, case, &Asleep);
         report.holds("a gate that does not watch stops no run", has_all);
         for stop in STOPS {
-            let (rounds, strands) = ([stop.rounds], stop.strands);
-            let is_so = has_strands(rt, alloc, long, &rounds, workers, strands, stop.wanted);
+            let rounds = [stop.rounds];
+            let case = Case {
+                verified: long,
+                arguments: &rounds,
+                workers,
+                wanted: stop.wanted,
+            };
+            let is_so = has_strands(rt, alloc, case, stop.strands);
             report.holds(stop.sentence, is_so);
         }
     }

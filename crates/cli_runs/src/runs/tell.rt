@@ -5,7 +5,7 @@ ghost use Rattle.serial_machine.specs.store.Made.{IsMadeFor};
 use crate::runs::halt::Halt;
 use crate::runs::job::Job;
 use crate::runs::running::{prepared, print_finished, print_replayed, scheduled};
-use crate::runs::telling::tell;
+use crate::runs::telling::{Account, tell};
 use crate::watch::{Course, Draw, Listed};
 use cli_words::{Beside, Status, Telling};
 use debugger::{Event, Finished, Memory, replay};
@@ -100,8 +100,12 @@ pub fn page_of<C: Course, W: Write>(
 ) -> Result<Option<String>, Halt>
     requires { IsMadeFor job.now.verified.now memory }
 {
-    let (crew, wanted) = (Crew::none(), Wanted::page());
-    let (told, _machine) = tell(job, memory, course, crew, Some(whole), wanted, output)?;
+    let account = Account {
+        crew: Crew::none(),
+        whole: Some(whole),
+        wanted: Wanted::page(),
+    };
+    let (told, _machine) = tell(job, memory, course, account, output)?;
     Ok(told.page)
 }
 
@@ -116,8 +120,12 @@ pub fn tell_course<C: Course, W: Write>(
 ) -> Result<Status, Halt>
     requires { IsMadeFor job.now.verified.now memory }
 {
-    let wanted = wanted_of(&job.request.telling);
-    let (told, machine) = tell(job, memory, course, crew, None, wanted, output)?;
+    let account = Account {
+        crew,
+        whole: None,
+        wanted: wanted_of(&job.request.telling),
+    };
+    let (told, machine) = tell(job, memory, course, account, output)?;
     print_replayed(job, machine, output, beside)?;
     keep_told(job, told, output, beside)
 }

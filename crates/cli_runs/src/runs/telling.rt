@@ -12,6 +12,15 @@ use std::alloc::{AllocError, Global};
 use std::io::Write;
 use views::{Crew, Names, Settings, Start, Teller, Told, Wanted, Whole, Words};
 
+/// What is told of a run beside its events.
+#[derive(Clone, Copy)]
+pub(crate) struct Account<'a> {
+    pub crew: Crew<'a>,
+    /// What the run came to, where its events are only the first ones.
+    pub whole: Option<Whole>,
+    pub wanted: Wanted,
+}
+
 /// What a run that has ended came to.
 fn ended(alloc: Global, value: i64, instructions: u64, peak: u64) -> Result<String, AllocError> {
     format!(in alloc; "result {value}, instructions {instructions}, peak {peak}")
@@ -121,21 +130,12 @@ fn tell_all<C: Course, W: Write>(
 /// A run that has begun, told with these names and lines.
 fn tell_from<C: Course, W: Write>(
     job: &Job<'_>,
-    names: &Names<'_>,
-    lines: &[&str],
+    words: Words<'_>,
     watch: &mut Watch<'_>,
     course: &mut C,
-    crew: Crew<'_>,
-    whole: Option<Whole>,
     wanted: Wanted,
     output: &mut W,
 ) -> Result<Told, Halt> {
-    let words = Words {
-        names,
-        lines,
-        crew,
-        whole,
-    };
     let mut teller = teller_of(job, words, watch, wanted)?;
     tell_all(words, watch, &mut teller, course, output)?;
     let answer = answer_of(job.alloc, words, watch.machine())?;
@@ -147,9 +147,7 @@ fn tell_named<C: Course, W: Write>(
     job: &Job<'_>,
     watch: &mut Watch<'_>,
     course: &mut C,
-    crew: Crew<'_>,
-    whole: Option<Whole>,
-    wanted: Wanted,
+    account: Account<'_>,
     output: &mut W,
 ) -> Result<Told, Halt> {
     // It was read before.
@@ -157,10 +155,13 @@ fn tell_named<C: Course, W: Write>(
         && let Ok(names) = Names::of(job.alloc, job.verified.program(), &module)
         && let Ok(lines) = job.lines()
     {
-        let lines = lines.as_slice();
-        return tell_from(
-            job, &names, lines, watch, course, crew, whole, wanted, output,
-        );
+        let words = Words {
+            names: &names,
+            lines: lines.as_slice(),
+            crew: account.crew,
+            whole: account.whole,
+        };
+        return tell_from(job, words, watch, course, account.wanted, output);
     }
     Err(Halt::Memory)
 }
@@ -171,9 +172,7 @@ pub(crate) fn tell<'v, C: Course, W: Write>(
     job: &Job<'v>,
     memory: Memory,
     course: &mut C,
-    crew: Crew<'_>,
-    whole: Option<Whole>,
-    wanted: Wanted,
+    account: Account<'_>,
     output: &mut W,
 ) -> Result<(Told, Machine<'v>), Halt>
     requires { IsMadeFor job.now.verified.now memory }
@@ -181,6 +180,6 @@ pub(crate) fn tell<'v, C: Course, W: Write>(
     let args = job.request.args.as_slice();
     let workers = job.request.workers;
     let mut watch = Watch::start(job.alloc, job.verified, args, memory, workers)?;
-    let told = tell_named(job, &mut watch, course, crew, whole, wanted, output)?;
+    let told = tell_named(job, &mut watch, course, account, output)?;
     Ok((told, watch.into_machine()))
 }

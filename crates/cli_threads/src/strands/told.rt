@@ -4,8 +4,9 @@ ghost use Rattle.std.specs.Prelude.{◌≡◌, ◌<◌};
 ghost use Rattle.shared_run.specs.store.Made.{IsMadeFor};
 
 use crate::strands::walk::told_along;
+use deque_pool::Launch;
 use lists::OutOfMemory;
-use shared_run::{Bench, Board, Decoded, Entry, Keeping, Memory, RunFault, Verified, WorkerStrand};
+use shared_run::{Bench, Board, Entry, Keeping, RunFault};
 use std::alloc::Global;
 use std::marker::Brand;
 use std::sync::ledger::Blank;
@@ -31,7 +32,7 @@ pub(crate) fn last_round(rounds: &Rounds, workers: usize) -> u64 {
     last
 }
 
-/// Tells of a run that was recorded by these entries. Where a scene is wanted, each task is told by itself.
+/// Tells of a run that was recorded by these entries, from its start on. Where a scene is wanted, each task is told by itself.
 ///
 /// # Errors
 ///
@@ -39,41 +40,39 @@ pub(crate) fn last_round(rounds: &Rounds, workers: usize) -> u64 {
 /// 803 where memory is refused, or the entries are not those of a run from this start.
 pub fn run_again(
     alloc: Global,
-    verified: &Verified,
-    arguments: &[i64],
-    memory: Memory,
-    workers: usize,
+    launch: Launch<'_>,
     entries: &[Entry],
     has_scene: bool,
 ) -> Result<Told, RunFault>
-    requires { IsMadeFor verified.now memory }
+    requires { IsMadeFor launch.verified.now launch.memory }
 {
-    let blank = Blank::new(workers as u64);
-    run_by::<Brand>(
-        alloc, verified, arguments, memory, workers, entries, has_scene, blank,
-    )
+    let blank = Blank::new(launch.workers as u64);
+    run_by::<Brand>(alloc, launch, entries, has_scene, blank)
 }
 
 /// Does the recorded run once more on a board of the ledger that `blank` begins, and tells of it.
 fn run_by<L: Bench>(
     alloc: Global,
-    verified: &Verified,
-    arguments: &[i64],
-    memory: Memory,
-    workers: usize,
+    launch: Launch<'_>,
     entries: &[Entry],
     has_scene: bool,
     blank: Blank,
 ) -> Result<Told, RunFault>
-    requires made { IsMadeFor verified.now memory }
-    requires code { verified.now ≡ L.code }
-    requires arguments { arguments.now ≡ L.arguments }
-    requires memory { memory ≡ L.memory }
-    requires crew { workers ≡ L.crew }
+    requires made { IsMadeFor launch.verified.now launch.memory }
+    requires code { launch.verified.now ≡ L.code }
+    requires arguments { launch.arguments.now ≡ L.arguments }
+    requires memory { launch.memory ≡ L.memory }
+    requires crew { launch.workers ≡ L.crew }
     requires name { blank.name ≡ L.name }
     requires parts { blank.parts ≡ L.parts }
-    requires one_each { blank.parts ≡ workers }
+    requires one_each { blank.parts ≡ launch.workers }
 {
+    let Launch {
+        verified,
+        arguments,
+        memory,
+        workers,
+    } = launch;
     let (board, seats) = Board::<L>::new(
         alloc,
         verified,
@@ -83,15 +82,10 @@ fn run_by<L: Bench>(
         Keeping::Nothing,
         blank,
     )?;
-    if let Ok(code) = Decoded::of(alloc, verified)
-        && let Ok(strand) = WorkerStrand::new(alloc, verified, &code)
-    {
-        let program = verified.program();
-        if let Ok(told) = told_along(alloc, program, board, seats, strand, entries, has_scene) {
-            return Ok(told);
-        }
+    match told_along(alloc, verified, board, seats, entries, has_scene) {
+        Ok(told) => Ok(told),
+        Err(OutOfMemory) => Err(RunFault::OutOfMemory),
     }
-    Err(RunFault::OutOfMemory)
 }
 
 /// Before the first event.

@@ -1,5 +1,7 @@
 //! A recorded run, done once more by its events at a board, with strands for steps in a row (replay).
 
+ghost use Rattle.std.specs.Prelude.{◌≡◌};
+
 use crate::strands::ahead::{Ahead, Runs, Then};
 use crate::strands::levels::Levels;
 use crate::strands::told::{Told, last_round, nothing_told};
@@ -8,7 +10,8 @@ use frame::Path;
 use lists::OutOfMemory;
 use program::Program;
 use shared_run::{
-    Bench, Board, Claimed, Entry, Loaded, Published, Seat, Standing, Stepped, Ticket, WorkerStrand,
+    Bench, Board, Claimed, Decoded, Entry, Loaded, Published, Seat, Standing, Stepped, Ticket,
+    Verified, WorkerStrand,
 };
 use std::alloc::Global;
 use views::{Act, Moment, Outcome, Rounds, Tally};
@@ -27,18 +30,21 @@ struct Walk<'a, 'p, L: Bench> {
     told: Told,
 }
 
-/// What is told of a run whose board has not begun: by these entries, on this stack.
+/// What is told of a run whose board has not begun, by these entries.
 pub(crate) fn told_along<L: Bench>(
     alloc: Global,
-    program: &Program,
+    verified: &Verified,
     board: Board<'_, L>,
     seats: Vec<Seat<L>>,
-    strand: WorkerStrand<'_, L>,
     entries: &[Entry],
     has_scene: bool,
-) -> Result<Told, OutOfMemory> {
-    let workers = seats.len();
-    if let Ok(runs) = Runs::of(alloc, program)
+) -> Result<Told, OutOfMemory>
+    requires { verified.now ≡ L.code }
+{
+    let (program, workers) = (verified.program(), seats.len());
+    let code = Decoded::of(alloc, verified)?;
+    if let Ok(strand) = WorkerStrand::new(alloc, verified, &code)
+        && let Ok(runs) = Runs::of(alloc, program)
         && let Ok(rounds) = Rounds::new(alloc, workers)
         && let Ok(told) = nothing_told(alloc, workers, has_scene)
     {

@@ -33,7 +33,7 @@ pub(crate) fn annotation(
         pruned(alloc, state, text, effort)?
     } else {
         let more = annotated(alloc, state, text, effort)?;
-        note_limits(alloc, state, file, text, more.as_slice(), effort, beside)?;
+        note_limits(question, text, more.as_slice(), effort, beside)?;
         more
     };
     if request.annotating.writes {

@@ -1,16 +1,13 @@
 //! Notes of what was not looked at for annotations, since a text meets a limit.
 
 use annotate::{is_long, limits_met};
-use cli_words::Beside;
-use std::alloc::{AllocError, Global};
-use std::hash::RandomState;
+use cli_words::{Beside, Question};
+use std::alloc::AllocError;
 use verifier::{Effort, Refused};
 
 /// Says which limits a text meets, so that lines that follow may be missing; `annotated` is the text with those that were put in.
 pub(crate) fn note_limits(
-    alloc: Global,
-    state: RandomState,
-    file: &str,
+    question: Question<'_>,
     text: &[u8],
     annotated: &[u8],
     effort: &Effort,
@@ -24,8 +21,9 @@ pub(crate) fn note_limits(
             "the text has more than 65,536 bytes: only what is sure is tried, and no zones are found",
         );
     }
-    match limits_met(alloc, state, text, annotated) {
+    match limits_met(question.alloc, question.state, text, annotated) {
         Ok(met) => {
+            let file = question.request.file.as_str();
             for next in &met {
                 beside.note_at(file, u64::from(next.line), next.limit.text());
             }

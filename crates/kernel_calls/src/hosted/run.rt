@@ -13,6 +13,7 @@ ghost use Rattle.shared_run.specs.Story.{origin, reached};
 use crate::hosted::met::{Met, Progress, progress_of, told};
 use crate::hosted::stop::Stop;
 use crate::hosted::worker::{Ears, HostedWorker};
+use crate::requests::BoardRequest;
 use lists::OutOfMemory;
 use serial_machine::Decoded;
 use shared_run::turns::{Habits, Met as Served, Offers, meet};
@@ -89,48 +90,6 @@ fn note(offers: &mut Offers, served: Served) -> Served {
     } else {
         served
     }
-}
-
-/// A worker meets the board, where there is fuel.
-#[tactic(auto, using(crate::proofs::hosted::Standing::stands, crate::proofs::hosted::Standing::told_here, crate::proofs::hosted::Standing::ended_here))]
-fn meet_as<L: Bench>(
-    alloc: Global,
-    verified: &Verified,
-    blank: Blank,
-    board: BoardRest,
-    offers: &mut Offers,
-    fuel: u64,
-    code: &Decoded,
-    number: u8,
-    strand: StrandRest,
-    habits: &mut Habits,
-) -> (BoardRest, StrandRest, (Met, usize))
-    requires code { verified.now ≡ L.code }
-    requires name { blank.name ≡ L.name }
-    requires parts { blank.parts ≡ L.parts }
-    requires one { blank.parts ≡ 1 }
-    requires board { IsAtRest (origin L.code L.arguments L.memory L.crew) board }
-    requires decoded { IsCodeOf verified.now code.now }
-    requires strand { StaysPut verified.now strand }
-    ensures board { IsAtRest (origin L.code L.arguments L.memory L.crew) result.0 }
-    ensures strand { StaysPut L.code result.1 }
-    ensures told { IsTold (reached (origin L.code L.arguments L.memory L.crew) result.0.history.events) fuel result.2.0 }
-    ensures not_stopped { result.2.0 ≢ Stopped }
-{
-    let has_seat = usize::from(number) < board.workers();
-    let own = if has_seat { number } else { 0 };
-    let (mut board, mut seat) = board.wake::<L>(alloc, verified, blank, own);
-    let mut strand = strand.wake::<L>(verified, code);
-    let done = board.machine().instructions();
-    let (served, offered) = match told(board.end(), done, fuel, Served::Work) {
-        Met::Work if has_seat => meet(&mut board, offers, &mut seat, &mut strand, habits),
-        _ => (Served::Idle, 0),
-    };
-    let served = note(offers, served);
-    let ended = board.end();
-    let instructions = board.machine().instructions();
-    let met = told(ended, instructions, fuel, served);
-    (board.rest(), strand.rest(), (met, offered))
 }
 
 /// How far a run has come.
@@ -222,19 +181,22 @@ impl HostedRun {
     pub fn begin(
         alloc: Global,
         verified: &Verified,
-        arguments: &[i64],
         memory: Memory,
-        workers: usize,
-        fuel: u64,
+        request: &BoardRequest<'_>,
         stop: Stop,
     ) -> Result<HostedRun, RunFault>
         requires made { IsMadeFor verified.now memory }
-        ensures runs { IfOk result (RunsFrom (origin verified.now arguments.now memory workers)) }
+        ensures runs { IfOk result (RunsFrom (origin verified.now request.now.arguments.now memory request.now.workers)) }
         ensures new { IfOk result (λ run. run.board.history.events ≡ []) }
-        ensures fuel { IfOk result (λ run. run.fuel ≡ fuel) }
-        ensures admitted { IsAdmitted verified.now arguments.now memory workers result }
+        ensures fuel { IfOk result (λ run. run.fuel ≡ request.now.fuel) }
+        ensures admitted { IsAdmitted verified.now request.now.arguments.now memory request.now.workers result }
         ensures not_stopped { result ≢ Err RunFault.Stopped }
     {
+        let BoardRequest {
+            arguments,
+            workers,
+            fuel,
+        } = *request;
         let blank = Blank::new(workers as u64);
         let board = board_as::<Brand>(alloc, verified, arguments, memory, workers, blank)?;
         match Offers::new(alloc, workers) {
@@ -297,6 +259,33 @@ impl HostedRun {
         if self.stop.is_set() {
             return (self, worker, (Met::Stopped, 0));
         }
+        self.meet_as::<Brand>(alloc, verified, code, Blank::new(1), worker)
+    }
+
+    /// A worker meets the board, where there is fuel.
+    #[tactic(auto, using(crate::proofs::hosted::Standing::stands, crate::proofs::hosted::Standing::told_here, crate::proofs::hosted::Standing::ended_here))]
+    fn meet_as<L: Bench>(
+        self,
+        alloc: Global,
+        verified: &Verified,
+        code: &Decoded,
+        blank: Blank,
+        worker: HostedWorker,
+    ) -> (HostedRun, HostedWorker, (Met, usize))
+        requires code { verified.now ≡ L.code }
+        requires name { blank.name ≡ L.name }
+        requires parts { blank.parts ≡ L.parts }
+        requires one { blank.parts ≡ 1 }
+        requires board { IsAtRest (origin L.code L.arguments L.memory L.crew) self.board }
+        requires decoded { IsCodeOf verified.now code.now }
+        requires strand { StaysPut verified.now worker.strand }
+        ensures board { IsAtRest (origin L.code L.arguments L.memory L.crew) result.0.board }
+        ensures fuel { result.0.fuel ≡ self.fuel }
+        ensures strand { StaysPut L.code result.1.strand }
+        ensures number { result.1.number ≡ worker.number }
+        ensures told { IsTold (reached (origin L.code L.arguments L.memory L.crew) result.0.board.history.events) self.fuel result.2.0 }
+        ensures not_stopped { result.2.0 ≢ Stopped }
+    {
         let HostedRun {
             board,
             mut offers,
@@ -304,31 +293,38 @@ impl HostedRun {
             stop,
         } = self;
         let (number, strand, mut habits, ears) = worker.parts();
-        let (board, strand, met) = meet_as::<Brand>(
-            alloc,
-            verified,
-            Blank::new(1),
-            board,
-            &mut offers,
-            fuel,
-            code,
-            number,
-            strand,
-            &mut habits,
-        );
+        let has_seat = usize::from(number) < board.workers();
+        let own = if has_seat { number } else { 0 };
+        let (mut board, mut seat) = board.wake::<L>(alloc, verified, blank, own);
+        let mut strand = strand.wake::<L>(verified, code);
+        let done = board.machine().instructions();
+        let (served, offered) = match told(board.end(), done, fuel, Served::Work) {
+            Met::Work if has_seat => meet(
+                &mut board,
+                &mut offers,
+                &mut seat,
+                &mut strand,
+                &mut habits,
+            ),
+            _ => (Served::Idle, 0),
+        };
+        let served = note(&mut offers, served);
+        let ended = board.end();
+        let instructions = board.machine().instructions();
+        let met = told(ended, instructions, fuel, served);
         let run = HostedRun {
-            board,
+            board: board.rest(),
             offers,
             fuel,
             stop,
         };
         let worker = HostedWorker {
             number,
-            strand,
+            strand: strand.rest(),
             habits,
             ears,
         };
-        (run, worker, met)
+        (run, worker, (met, offered))
     }
 
     /// How far the run has come.

@@ -17,13 +17,13 @@ loop-row-preserved c =
     let l = c.loop-row in
     let kept = l.invariant in
     let within : l.row < length l.outcomes = let outcomes = l.auto.outcomes in let on = c.loop-row-test.true in omega (arith, outcomes, on) in
-    let argument = suc-mul l.row c.args.arguments_each in
-    let cell = suc-mul l.row c.args.cells_each in
+    let argument = suc-mul l.row c.args.rows.now.arguments_each in
+    let cell = suc-mul l.row c.args.rows.now.cells_each in
     let argument_end = c.end_of-argument_end.ensures in
     let cell_end = c.end_of-cell_end.ensures in
-    let long = c.run_row.auto.cells ∙ part_long (l.row * c.args.cells_each) c.args.cells_each _ _ l.cells kept.from cell_end in
-    let put = ap (λ (rest : List ℤ). take l.cell l.cells ++ (c.run_row.new.cells ++ rest)) (rest_is (l.row * c.args.cells_each) c.args.cells_each _ _ l.cells kept.from cell_end) in
-    let same = as_long (l.row * c.args.cells_each) c.args.cells_each _ _ l.cells kept.from cell_end c.run_row.new.cells _ long put in
+    let long = c.run_row.auto.cells ∙ part_long (l.row * c.args.rows.now.cells_each) c.args.rows.now.cells_each _ _ l.cells kept.from cell_end in
+    let put = ap (λ (rest : List ℤ). take l.cell l.cells ++ (c.run_row.new.cells ++ rest)) (rest_is (l.row * c.args.rows.now.cells_each) c.args.rows.now.cells_each _ _ l.cells kept.from cell_end) in
+    let same = as_long (l.row * c.args.rows.now.cells_each) c.args.rows.now.cells_each _ _ l.cells kept.from cell_end c.run_row.new.cells _ long put in
     record {
       first = omega (arith, kept.first, argument, argument_end);
       from = omega (arith, kept.from, cell, cell_end, same);
@@ -40,5 +40,5 @@ returns c =
     let all : c.loop-row.row ≡ length count = omega (arith, over, end, same) in
     record {
       runs = λ row o is. done.runs row o (let within = slice_get_within count row o is in omega (arith, within, all)) is;
-      others = subst (λ (n : ℕ). drop (n * c.args.cells_each) c.loop-row.cells ≡ drop (n * c.args.cells_each) c.args.cells.now) all done.others;
+      others = subst (λ (n : ℕ). drop (n * c.args.rows.now.cells_each) c.loop-row.cells ≡ drop (n * c.args.rows.now.cells_each) c.args.cells.now) all done.others;
     }

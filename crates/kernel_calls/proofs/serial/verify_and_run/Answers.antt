@@ -1,7 +1,7 @@
 use Rattle.std.proofs.Common.{◌≡◌, subst, ℕ}
 use Rattle.kernel_calls.specs.Told.{granted_by, out_of_effort, refused}
 use Rattle.kernel_calls.proofs.Bounded.{bounded_is}
-use Rattle.kernel_calls.proofs.serial.run_text.Goals as goal
+use Rattle.kernel_calls.proofs.serial.verify_and_run.Goals as goal
 
 pub returns-clause-refused : goal.returns-clause-refused
 returns-clause-refused c = λ is_refused.

@@ -1,6 +1,6 @@
 use Rattle.kernel_calls.specs.Told.{granted_by}
 use Rattle.kernel_calls.proofs.Bounded.{bounded_is}
-use Rattle.kernel_calls.proofs.judge.judged.Goals as goal
+use Rattle.kernel_calls.proofs.judge.verify.Goals as goal
 
 pub returns-in-Err-clause-refused : goal.returns-in-Err-clause-refused
 returns-in-Err-clause-refused c = c.rejection.ensures.refused c.args.text.now (granted_by c.args.effort) c.in-Err.ensures.refused
