@@ -5,7 +5,7 @@ use Rattle.std.specs.Option.{option_map}
 use Rattle.std.proofs.lemmas.Bool.{ne_eqb, false≢true}
 use Rattle.std.proofs.lemmas.Bool.Decides.{eqb_tells}
 use Rattle.std.proofs.lemmas.List.Elements.{All-head, All-tail}
-use Rattle.semantics.specs.Effect.{entry_for}
+use Rattle.program.specs.Phis.{entry_for}
 use Rattle.linear.specs.declared.form.RegisterId.{RegisterId}
 use Rattle.linear.specs.Forms.{register_form, value}
 use Rattle.linear.specs.Terms.{Combination}

@@ -12,7 +12,8 @@ use Rattle.std.proofs.lemmas.List.Elements.{All-nil, All-head, All-tail, All-app
 use Rattle.semantics.specs.Paths.{Path}
 use Rattle.semantics.specs.Arithmetic.{compares}
 use Rattle.semantics.specs.Frames.{Word, Truth, Registers, Frame, Does, item_of, item_at, phis_at, and_then, truth_of, word_at, set_register}
-use Rattle.semantics.specs.Effect.{Effect, Plain, given, enters, jumps, case_for, registers_along, entry_for, with_phis, terminator_action}
+use Rattle.semantics.specs.Effect.{Effect, Plain, given, enters, jumps, case_for, registers_along, with_phis, terminator_action}
+use Rattle.program.specs.Phis.{entry_for}
 use Rattle.semantics.proofs.Actions.{same_effect}
 use Rattle.linear.specs.Forms.{Holds}
 use Rattle.linear_shown.specs.Shown.{AllHold}
