@@ -22,8 +22,8 @@ pub fn frame_strands_are_steps()
     ensures { FrameStrandsAreSteps }
 {}
 
-/// The same of any machine that has not trapped, where the loaded frame may go on and each cell that the strand wrote holds a value:
-/// no such step traps.
+/// A strand is as many steps of its worker, and none of them traps, from any machine that has not trapped, where the loaded frame may go on
+/// and each cell that the strand wrote holds a value.
 pub fn frame_strands_are_steps_where_defined()
     ensures { FrameStrandsAreStepsWhereDefined }
 {}
