@@ -43,7 +43,8 @@ successors (Jump target) = successor ByBranch target Silent ∷ []
 successors (Branch condition when_true when_false) =
     successor ByBranch when_true (Tested condition true) ∷ (successor ByBranch when_false (Tested condition false) ∷ [])
 successors (Switch width value default cases) = successor ByBranch default Silent ∷ map (case_successor value) cases
-successors (Detach region body continuation) = successor Detached body Silent ∷ (successor Continued continuation Silent ∷ [])
+successors (Detach region body continuation) =
+    successor Detached body Silent ∷ (successor Continued continuation Silent ∷ [])
 successors (Sync region target) = successor (Synced region) target Silent ∷ []
 successors other = []
 
