@@ -1,63 +1,17 @@
 //! Whether a text is another one with annotations put in.
 
-ghost use Rattle.std.specs.Prelude.{◌≡◌, ◌<◌, ◌≤◌, ◌+◌, ◌∷◌, length, IsTrue, IfSome, List, ℕ};
-ghost use Rattle.std.specs.List.{prefix_len};
+ghost use Rattle.std.specs.Prelude.{◌≡◌, ◌∷◌, IsTrue, IfSome, List, ℕ};
 ghost use Rattle.annotate.specs.Kept.{AreLinesAmong, IsAnnotated, is_annotation};
-ghost use Rattle.ir_lex.specs.Spelling.{is_note_mark, is_space};
-ghost use Rattle.ir_reader.specs.Lines.{content, is_inner, lines_of};
+ghost use Rattle.ir_reader.specs.Lines.{content, lines_of};
 
-/// How many bytes of a text stand before its first LF.
-fn line_len(text: &[u8]) -> usize
-    ensures value { result ≡ prefix_len is_inner text.now }
-    ensures within { result ≤ length text.now }
-{
-    text.iter().take_while(|b| **b != b'\n').count()
-}
-
-/// The first line, with the LF that ends it, and what follows it.
-fn cut_line(text: &[u8]) -> (&[u8], &[u8])
-    requires { 0 < length text.now }
-    ensures lines { lines_of text.now ≡ result.0.now ∷ lines_of result.1.now }
-    ensures lengths { length result.0.now + length result.1.now ≡ length text.now }
-    ensures some { 0 < length result.0.now }
-{
-    let len = line_len(text);
-    let end = text.len().min(len + 1);
-    (&text[..end], &text[end..])
-}
-
-/// A line without its LF.
-fn content(line: &[u8]) -> &[u8]
-    ensures { result.now ≡ content line.now }
-{
-    &line[..line_len(line)]
-}
-
-/// How many spaces and tabs stand at the front.
-fn spaces(line: &[u8]) -> usize
-    ensures value { result ≡ prefix_len is_space line.now }
-    ensures within { result ≤ length line.now }
-{
-    line.iter()
-        .take_while(|b| **b == b' ' || **b == b'\t')
-        .count()
-}
+use ir_lex::{is_note_mark, spaces};
+use ir_reader::{content, cut_line};
 
 /// Whether two lines are the same, with or without the LF that ends them.
 fn are_same(line: &[u8], other: &[u8]) -> bool
     ensures { IsTrue result → content line.now ≡ content other.now }
 {
     content(line) == content(other)
-}
-
-/// Whether a line, or what is left of it, begins with the mark of an annotation.
-fn is_note_mark(rest: &[u8]) -> bool
-    ensures { result ≡ is_note_mark rest.now }
-{
-    match rest {
-        [first, second, ..] => *first == b';' && *second == b'!',
-        _ => false,
-    }
 }
 
 /// Whether a line is an annotation.

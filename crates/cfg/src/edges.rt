@@ -1,26 +1,14 @@
 //! The edges at the end of each block (its successors), with the moves of the phis that are made on them.
 
-ghost use Rattle.std.specs.Prelude.{◌≡◌, ◌++◌, OnOk, IfOk, ℕ};
-ghost use Rattle.std.specs.List.{flat_map};
-ghost use Rattle.cfg.specs.Edges.{value_from, moves_from, edge_to, edges_along, edges_at_end, graph_of};
-ghost use Rattle.cfg.specs.declared.structure.Way.TheVariants.{Branch};
+ghost use Rattle.std.specs.Prelude.{◌≡◌, ◌++◌, ◌∷◌, [], OnOk, IfOk};
+ghost use Rattle.std.specs.List.{filter_map};
+ghost use Rattle.cfg.specs.Edges.{moves_from, edge_of, edges_at_end, graph_of};
 
-use crate::structure::{BlockEdges, Edge, FunctionGraph, Move, Way};
+use crate::structure::{BlockEdges, Edge, FunctionGraph, Move, Successor};
+use crate::targets::successors;
 use lists::Seq;
-use program::{Block, BlockId, Case, Ending, Function, Operand, Phi, PhiEntry, Terminator};
+use program::{Block, BlockId, Ending, Function, Phi, entry_for};
 use std::alloc::{AllocError, Global};
-
-/// The value of the first entry that names a predecessor.
-fn find_value(entries: &[PhiEntry], from: usize) -> Option<Operand>
-    ensures { result ≡ value_from from entries.now }
-{
-    for entry in entries {
-        if entry.predecessor.0 == from {
-            return Some(entry.value);
-        }
-    }
-    None
-}
 
 /// What the phis of a block take on an edge from a block.
 pub fn make_moves(alloc: Global, phis: &[Phi], from: usize) -> Result<Seq<Move>, AllocError>
@@ -28,7 +16,7 @@ pub fn make_moves(alloc: Global, phis: &[Phi], from: usize) -> Result<Seq<Move>,
 {
     let mut moves = Vec::new(alloc);
     for phi in phis {
-        if let Some(value) = find_value(phi.entries.as_slice(), from) {
+        if let Some(value) = entry_for(phi.entries.as_slice(), BlockId(from)) {
             moves.push(Move {
                 register: phi.register,
                 value,
@@ -38,79 +26,40 @@ pub fn make_moves(alloc: Global, phis: &[Phi], from: usize) -> Result<Seq<Move>,
     Ok(Seq::from_vec(moves))
 }
 
-/// Adds the edge to a block, where the function has that block.
+/// Adds the edge of an successor, where the function has the block that it leads to.
 fn push_edge(
     alloc: Global,
     blocks: &[Block],
     from: usize,
-    way: Way,
-    to: BlockId,
+    successor: Successor,
     edges: &mut Vec<Edge>,
 ) -> Result<(), AllocError>
-    ensures { OnOk result (edges.new.items ≡ edges.old.items ++ edge_to blocks.now from way to) }
+    ensures { OnOk result (edges.new.items ≡ edges.old.items ++ filter_map (edge_of blocks.now from) (successor ∷ [])) }
 {
-    if let Some(target) = blocks.get(to.0) {
-        let moves = make_moves(alloc, target.phis.as_slice(), from)?;
-        edges.push(Edge { to, way, moves })?;
+    if let Some(target) = blocks.get(successor.to.0) {
+        edges.push(Edge {
+            to: successor.to,
+            way: successor.way,
+            moves: make_moves(alloc, target.phis.as_slice(), from)?,
+        })?;
     }
     Ok(())
 }
 
-/// Adds the edges of the cases of a switch.
-fn push_cases(
-    alloc: Global,
-    blocks: &[Block],
-    from: usize,
-    cases: &[Case],
-    edges: &mut Vec<Edge>,
-) -> Result<(), AllocError>
-    ensures { OnOk result (edges.new.items ≡ edges.old.items ++ flat_map (λ c. edge_to blocks.now from Branch c.target) cases.now) }
-{
-    for case in cases {
-        push_edge(alloc, blocks, from, Way::Branch, case.target, edges)?;
-    }
-    Ok(())
-}
-
-/// Adds the edges of a terminator in its order.
+/// Adds the edges of successors.
 fn push_edges(
     alloc: Global,
     blocks: &[Block],
     from: usize,
-    terminator: &Terminator,
+    successors: &[Successor],
     edges: &mut Vec<Edge>,
 ) -> Result<(), AllocError>
-    ensures { OnOk result (edges.new.items ≡ edges.old.items ++ edges_along blocks.now from terminator.now) }
+    ensures { OnOk result (edges.new.items ≡ edges.old.items ++ filter_map (edge_of blocks.now from) successors.now) }
 {
-    match terminator {
-        Terminator::Jump { target } => {
-            push_edge(alloc, blocks, from, Way::Branch, *target, edges)
-        }
-        Terminator::Branch {
-            when_true,
-            when_false,
-            ..
-        } => {
-            push_edge(alloc, blocks, from, Way::Branch, *when_true, edges)?;
-            push_edge(alloc, blocks, from, Way::Branch, *when_false, edges)
-        }
-        Terminator::Switch { default, cases, .. } => {
-            push_edge(alloc, blocks, from, Way::Branch, *default, edges)?;
-            push_cases(alloc, blocks, from, cases.as_slice(), edges)
-        }
-        Terminator::Detach {
-            body,
-            continuation,
-            ..
-        } => {
-            push_edge(alloc, blocks, from, Way::Detached, *body, edges)?;
-            push_edge(alloc, blocks, from, Way::Continued, *continuation, edges)
-        }
-        Terminator::Sync { region, target } => {
-            push_edge(alloc, blocks, from, Way::Synced(*region), *target, edges)
-        }
-        Terminator::Return { .. } | Terminator::Reattach { .. } => Ok(()),
+    for successor in successors {
+        push_edge(alloc, blocks, from, *successor, edges)?;
     }
+    Ok(())
 }
 
 /// The edges at the end of a block.
@@ -124,7 +73,8 @@ fn block_edges(
 {
     let mut edges = Vec::new(alloc);
     if let Some(ending) = ending {
-        push_edges(alloc, blocks, from, &ending.terminator, &mut edges)?;
+        let successors = successors(alloc, &ending.terminator)?;
+        push_edges(alloc, blocks, from, successors.as_slice(), &mut edges)?;
     }
     Ok(BlockEdges {
         edges: Seq::from_vec(edges),

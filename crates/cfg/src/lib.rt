@@ -18,6 +18,7 @@ mod judge;
 mod program_graph;
 mod reach;
 mod structure;
+mod targets;
 
 pub use build::graph;
 pub use edges::make_moves;
@@ -25,4 +26,5 @@ pub use program_graph::Graph;
 pub use reach::reached;
 pub use reachability::{no_marks, one_mark};
 pub use refusal::Refused as GraphFault;
-pub use structure::{BlockEdges, Edge, FunctionGraph, Move, Way};
+pub use structure::{BlockEdges, Edge, FunctionGraph, Guard, Move, Successor, Way};
+pub use targets::successors;

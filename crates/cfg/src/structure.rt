@@ -16,6 +16,25 @@ pub enum Way {
     Synced(RegisterId),
 }
 
+/// What it tells of a terminator's operand that a run goes to one of its successors.
+#[derive(Clone, Copy)]
+pub enum Guard {
+    /// Nothing: the successor has no test of its own, as a jump's or a switch's default.
+    Silent,
+    /// The condition of a branch holds, or it does not.
+    Tested { condition: RegisterId, holds: bool },
+    /// The operand of a switch is the number of a case.
+    Matched { value: Operand, number: i64 },
+}
+
+/// Where a terminator leads, by which way, and what that tells.
+#[derive(Clone, Copy)]
+pub struct Successor {
+    pub to: BlockId,
+    pub way: Way,
+    pub guard: Guard,
+}
+
 /// The value that a phi takes on an edge.
 #[derive(Clone, Copy)]
 pub struct Move {
@@ -50,13 +69,7 @@ impl BlockEdges {
 }
 
 /// The edges of a function, a block each.
+#[derive(Drop)]
 pub struct FunctionGraph {
     pub blocks: Seq<BlockEdges>,
-}
-
-/// Written out, so that no crate above proves it anew.
-impl Drop for FunctionGraph {
-    fn drop(self) {
-        let FunctionGraph { blocks: _ } = self;
-    }
 }

@@ -31,7 +31,8 @@ fn above_self_call(rise: u64, depth: u64) -> u64
     }
 }
 
-/// What a call of this measure costs where its budget has two self calls or more: it at least doubles with the measure, so the loop soon ends at `MAX`.
+/// What a call of this measure costs at most, summed level by level. With two self calls and more it doubles with the measure, so that it soon is past all
+/// bounds, where the sum ends.
 fn climbing_cost(calls: u128, instructions: u128, measure: u64) -> u128
     ensures { (budget : Budget) → budget.self_calls ≡ calls → budget.instructions ≡ instructions → result ≡ as_u128 (cost_below budget (suc measure)) }
 {

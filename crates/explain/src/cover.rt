@@ -2,9 +2,8 @@
 
 use crate::spot::Spot;
 use crate::widen::in_numbers;
-use footprints::same_object;
 use lists::TextBuffer;
-use program::{ObjectName, Zone};
+use program::{ObjectName, Zone, same_object};
 
 impl Spot<'_, '_> {
     /// The first of the zones here that is of this object.

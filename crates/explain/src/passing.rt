@@ -5,11 +5,11 @@ use crate::spot::{Spot, spot_where};
 use crate::widen::{both, lowest, touched_zone, with_ends, zone_at_target};
 use crate::zone_text::{as_written, placed, push_why_not, push_zone};
 use explain_facts::{Means, coefficient};
-use footprints::{covers, is_empty, passes_on, same_object};
+use footprints::{covers, hands_on, is_empty, passes_on};
 use linear::Form;
 use linear_shown::FactBranches;
 use lists::{ListBuffer, TextBuffer};
-use program::{Block, Function, Pending, RegisterId, Terminator, Zone};
+use program::{Block, Function, Pending, RegisterId, Terminator, Zone, same_object};
 use ranges::{EdgeFacts, Way};
 
 /// A zone that children of a region may still touch.
@@ -36,15 +36,6 @@ pub fn foot_of<'a>(blocks: &'a [Block], terminator: &Terminator) -> &'a [Zone] {
             None => &[],
         },
         _ => &[],
-    }
-}
-
-/// Whether what is pending of a region goes on along an edge.
-fn goes_on(way: Way, region: RegisterId) -> bool {
-    match way {
-        Way::Branch | Way::Continued => true,
-        Way::Detached => false,
-        Way::Synced(synced) => synced.0 != region.0,
     }
 }
 
@@ -226,7 +217,7 @@ impl Spot<'_, '_> {
         let known = self.trying.known;
         let mut owed: ListBuffer<Owed<'_>> = ListBuffer::new(known.means.alloc);
         for item in self.place.pending {
-            if goes_on(way, item.region) {
+            if hands_on(way, item.region) {
                 owed.push(Owed {
                     region: item.region,
                     zone: &item.zone,

@@ -1,19 +1,12 @@
 //! How zones are spelled where they are judged, and why one covers another not.
 
 use explain_facts::{Known, Means, Trying, is_against, lack_of, line_at, plural, push_form};
-use footprints::{PlacedZone, mode_covers, same_object};
+use footprints::{PlacedZone, mode_covers};
+use ir_annotation::mode_text;
 use linear::Form;
 use lists::TextBuffer;
-use program::{Mode, Zone};
+use program::{Zone, same_object};
 use ranges::{Move, Sum};
-
-fn mode_word(mode: Mode) -> &'static str {
-    match mode {
-        Mode::Reads => "reads",
-        Mode::Writes => "writes",
-        Mode::Adds => "adds",
-    }
-}
 
 /// A zone where it is placed.
 pub fn placed<'a>(zone: &'a Zone, moves: &'a [Move]) -> PlacedZone<'a> {
@@ -45,7 +38,7 @@ fn push_placed_form(known: Known<'_>, moves: &[Move], form: &Form, out: &mut Tex
 /// `writes @a 0 %i+1`, with what phis or arguments put in.
 pub fn push_zone(known: Known<'_>, y: &PlacedZone<'_>, out: &mut TextBuffer) {
     let (sigil, name) = known.scene.object(y.object);
-    let mode = mode_word(y.zone.mode);
+    let mode = mode_text(y.zone.mode);
     write!(out, "{mode} {sigil}{name}");
     push_placed_form(known, y.moves, &y.zone.low, out);
     push_placed_form(known, y.moves, &y.zone.high, out);
@@ -97,8 +90,8 @@ pub fn push_why_not(
     }
     push_candidate(trying.text(), z.zone.line, out);
     if !mode_covers(z.zone.mode, y.zone.mode) {
-        let mode = mode_word(y.zone.mode);
-        let own = mode_word(z.zone.mode);
+        let mode = mode_text(y.zone.mode);
+        let own = mode_text(z.zone.mode);
         writeln!(
             out,
             "      it has the cells for `{own}`, and not for `{mode}`"

@@ -430,7 +430,7 @@ pub fn cost_findings(
     told_cost_findings(alloc, None, matched, effort)
 }
 
-/// All faults of costs that [`cost_findings`] names, each with what is known of it and with lines to try, if there is a text to try them in.
+/// All faults of costs as far as the effort reaches; where there is a text, each with what is known at its place and lines to try there.
 pub fn told_cost_findings(
     alloc: Global,
     source: Option<Source<'_>>,

@@ -80,12 +80,7 @@ fn least_amount(means: &Means<'_>, known: &Known<'_>, form: &Form, most: i128) -
 
 /// The coefficient that a register has in a form.
 pub fn coefficient(form: &Form, register: RegisterId) -> i64 {
-    for term in form.terms.as_slice() {
-        if term.register == register {
-            return term.coefficient;
-        }
-    }
-    0
+    linear::coefficient(form.terms.as_slice(), register)
 }
 
 /// How many registers stand in a form and do not fall out of it.

@@ -1,9 +1,9 @@
 //! A function of a program beside the names of its text, to spell registers and forms.
 
-use lists::{ListBuffer, Name, OutOfMemory};
+use lists::{Name, OutOfMemory};
 use program::{BlockId, Function, ObjectName, Program, RegisterId};
-use std::alloc::{AllocError, Global};
-use syntax::{Module, Parameter};
+use std::alloc::Global;
+use syntax::{Module, register_names};
 
 /// A function of a program, and the names that its text gives to registers, in their order.
 #[derive(Drop)]
@@ -13,35 +13,6 @@ pub struct Scene<'a> {
     pub function: &'a Function,
     pub written: &'a syntax::Function,
     registers: Vec<&'a Name>,
-}
-
-/// Adds the names of the registers that a block defines, in the order of the text.
-fn push_block_names<'a>(names: &mut ListBuffer<&'a Name>, block: &'a syntax::Block) {
-    for phi in block.phis.as_slice() {
-        names.push(&phi.register);
-    }
-    for step in block.steps.as_slice() {
-        if let Some(name) = step.instruction.register() {
-            names.push(name);
-        }
-    }
-}
-
-/// The names of the registers: parameters first, then in the order of the text.
-fn register_names<'a>(
-    alloc: Global,
-    function: &'a syntax::Function,
-) -> Result<Vec<&'a Name>, AllocError> {
-    let mut names: ListBuffer<&'a Name> = ListBuffer::new(alloc);
-    for parameter in function.parameters.as_slice() {
-        match parameter {
-            Parameter::Number { name } | Parameter::Pointer { name, .. } => names.push(name),
-        }
-    }
-    for block in function.blocks.as_slice() {
-        push_block_names(&mut names, block);
-    }
-    names.finish()
 }
 
 impl<'a> Scene<'a> {

@@ -17,7 +17,8 @@ use Rattle.ranges.specs.ranges_owed.declared.sum.Part.{Part}
 use Rattle.ranges.specs.ranges_owed.Inequalities.{parts_of}
 use Rattle.ranges.specs.Truth.{parts_value}
 use Rattle.ranges.proofs.Truth.{shown_true}
-use Rattle.footprints_feet.specs.footprints_zones.Zones.{Span, as_written, same_object, mode_covers, modes_agree, between, shows_order, is_empty, covers, is_apart, conflict, is_covered}
+use Rattle.footprints_feet.specs.footprints_zones.Zones.{Span, as_written, mode_covers, modes_agree, between, shows_order, is_empty, covers, is_apart, conflict, is_covered}
+use Rattle.program.specs.ObjectNames.{same_object}
 use Rattle.footprints.specs.Cells.{moved, terms_value, end_value, HasCell}
 
 -- ---- the value of a difference

@@ -26,8 +26,8 @@ pub use access::{Cell, Pointer, address_cell, cells_zone, pointers_of};
 pub use check::check_zones;
 pub use footprints_feet::{
     Place, PlacedZone, Use, conflict, covers, is_allowed, is_apart, is_clear, is_covered, is_empty,
-    mode_covers, modes_agree, same_object,
+    mode_covers, modes_agree,
 };
-pub use pass::passes_on;
+pub use pass::{hands_on, passes_on};
 pub use ranges::{Effort, Unverified, check_ranges};
 pub use touch::{end_use, put_object, step_use};

@@ -14,7 +14,7 @@ use ranges::{EdgeFacts, FactBranches, Known, Unanswered, Way};
 use std::alloc::Global;
 
 /// Whether what is pending of a region goes on along an edge: not into a detached block, and not where the region was synced.
-fn hands_on(way: Way, region: RegisterId) -> bool
+pub fn hands_on(way: Way, region: RegisterId) -> bool
     ensures { result ≡ hands_on way region }
 {
     match way {

@@ -4,7 +4,8 @@ use Rattle.std.specs.Prelude.{not, ◌&&◌, ◌||◌}
 use Rattle.std.specs.List.{list_any, list_all}
 use Rattle.linear.specs.declared.form.Fact.{Fact}
 use Rattle.program.specs.declared.annotation.Pending.{Pending}
-use Rattle.footprints_zones.specs.Zones.{Span, as_written, same_object, modes_agree, is_empty, shows_order, is_apart}
+use Rattle.footprints_zones.specs.Zones.{Span, as_written, modes_agree, is_empty, shows_order, is_apart}
+use Rattle.program.specs.ObjectNames.{same_object}
 use Rattle.footprints_zones.specs.Zones.{conflict}
 use Rattle.footprints_zones.specs.Meets.{meets}
 use Rattle.footprints_zones.specs.Places.{Place, is_clear}

@@ -9,7 +9,8 @@ use Rattle.linear.specs.declared.form.Fact.{Fact}
 use Rattle.program.specs.declared.annotation.Pending.{Pending}
 use Rattle.program.specs.declared.annotation.Zone.{Zone}
 use Rattle.footprints_zones.specs.declared.measured.MeasuredZone.{MeasuredZone}
-use Rattle.footprints_zones.specs.Zones.{Span, as_written, same_object, mode_covers, modes_agree, shows_order, is_empty}
+use Rattle.footprints_zones.specs.Zones.{Span, as_written, mode_covers, modes_agree, shows_order, is_empty}
+use Rattle.program.specs.ObjectNames.{same_object}
 use Rattle.footprints_zones.specs.Zones.{covers, is_covered}
 use Rattle.footprints_zones.specs.Meets.{meets}
 use Rattle.footprints_zones.specs.Places.{Place, is_clear}

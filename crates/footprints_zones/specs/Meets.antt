@@ -1,7 +1,8 @@
 -- Whether zones conflict where one is known not to be empty.
 use Rattle.std.specs.Prelude.{Bool, not, ◌||◌, List}
 use Rattle.linear.specs.declared.form.Fact.{Fact}
-use Rattle.footprints_zones.specs.Zones.{Span, same_object, modes_agree, shows_order, is_empty}
+use Rattle.footprints_zones.specs.Zones.{Span, modes_agree, shows_order, is_empty}
+use Rattle.program.specs.ObjectNames.{same_object}
 
 -- they may, where the second has any cell, and the order of its uses may matter
 unfoldable pub meets : List Fact → Span → Span → Bool

@@ -1,5 +1,5 @@
 -- Zones at a place, and what facts show of them.
-use Rattle.std.specs.Prelude.{◌==◌, pos, negsuc, ◌-ℤ◌, Bool, true, false, not, ◌&&◌, ◌||◌, List, [], ◌++◌}
+use Rattle.std.specs.Prelude.{pos, negsuc, ◌-ℤ◌, Bool, true, false, not, ◌&&◌, ◌||◌, List, [], ◌++◌}
 use Rattle.std.specs.List.{list_any}
 use Rattle.syntax.specs.declared.operator.Mode.{Mode}
 use Rattle.syntax.specs.declared.operator.Mode.TheVariants.{Reads, Writes, Adds}
@@ -7,7 +7,7 @@ use Rattle.linear.specs.declared.form.Fact.{Fact}
 use Rattle.linear.specs.Terms.{Combination}
 use Rattle.program.specs.declared.annotation.Zone.{Zone}
 use Rattle.program.specs.declared.identifier.ObjectName.{ObjectName}
-use Rattle.program.specs.declared.identifier.ObjectName.TheVariants.{Global, Alloca, Parameter}
+use Rattle.program.specs.ObjectNames.{same_object}
 use Rattle.ranges.specs.cfg.declared.structure.Move.{Move}
 use Rattle.ranges.specs.ranges_owed.declared.sum.Sum.{Sum}
 use Rattle.ranges.specs.Sums.{shows}
@@ -26,13 +26,7 @@ span object moves zone = record { object = object; moves = moves; zone = zone }
 abbrev pub as_written : Zone → Span
 as_written zone = span zone.object [] zone
 
--- ---- objects and modes
-
-abbrev pub same_object : ObjectName → ObjectName → Bool
-same_object (Global a) (Global b) = a.0 == b.0
-same_object (Alloca a) (Alloca b) = a.0 == b.0
-same_object (Parameter a) (Parameter b) = a.0 == b.0
-same_object one other = false
+-- ---- modes
 
 -- a zone of this mode lets its cells be used by that mode: `writes` by every mode, any other only by its own
 abbrev pub mode_covers : Mode → Mode → Bool

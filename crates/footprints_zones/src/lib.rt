@@ -19,5 +19,4 @@ pub use place::{Place, Use, as_written, index_for, is_allowed, is_clear};
 pub use ranges::Unanswered;
 pub use zone::{
     PlacedZone, conflict, covers, is_apart, is_covered, is_empty, mode_covers, modes_agree,
-    same_object,
 };

@@ -2,12 +2,13 @@
 
 ghost use Rattle.std.specs.Prelude.{◌≡◌, ◌||◌, IfOk};
 ghost use Rattle.std.specs.List.{list_any};
-ghost use Rattle.footprints_zones.specs.Zones.{span, as_written, same_object, mode_covers, modes_agree};
+ghost use Rattle.footprints_zones.specs.Zones.{span, as_written, mode_covers, modes_agree};
+ghost use Rattle.program.specs.ObjectNames.{same_object};
 ghost use Rattle.footprints_zones.specs.Zones.{shows_order, is_empty, covers, is_apart, conflict, is_covered};
 ghost use Rattle.footprints_zones.specs.Meets.{meets};
 
 use crate::order::{may_precede, shows_order};
-use program::{Mode, ObjectName, Zone};
+use program::{Mode, ObjectName, Zone, same_object};
 use ranges::{Known, Move, Unanswered};
 use std::alloc::Global;
 
@@ -17,21 +18,6 @@ pub struct PlacedZone<'a> {
     pub object: ObjectName,
     pub moves: &'a [Move],
     pub zone: &'a Zone,
-}
-
-/// Whether two names of a function are of one object: its own names are of different objects.
-#[inline]
-pub fn same_object(left: ObjectName, right: ObjectName) -> bool
-    ensures { result ≡ same_object left right }
-{
-    match (left, right) {
-        (ObjectName::Global(a), ObjectName::Global(b)) => a.0 == b.0,
-        (ObjectName::Alloca(a), ObjectName::Alloca(b)) => a.0 == b.0,
-        (ObjectName::Parameter(a), ObjectName::Parameter(b)) => a.0 == b.0,
-        (ObjectName::Global(_), ObjectName::Alloca(_) | ObjectName::Parameter(_))
-        | (ObjectName::Alloca(_), ObjectName::Global(_) | ObjectName::Parameter(_))
-        | (ObjectName::Parameter(_), ObjectName::Global(_) | ObjectName::Alloca(_)) => false,
-    }
 }
 
 /// Whether a zone of this mode lets its cells be used by that mode: `writes` by every mode, any other only by its own.

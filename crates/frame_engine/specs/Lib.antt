@@ -6,6 +6,7 @@ pub mod Shows
 pub mod Did
 pub mod Fits
 pub mod Moves
+pub mod Phis
 pub mod Border
 pub mod Pause
 pub mod Flat

@@ -32,6 +32,7 @@ pub use beginning::{blank, first_registers};
 pub use borders::taker;
 pub use cells::Cells;
 pub use clearing::write_zeros;
+pub use entering::move_all;
 pub use flat::Flat;
 pub use functions::{frame_cells, function_at, most_moves};
 pub use items::Item;

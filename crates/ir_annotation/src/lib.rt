@@ -21,6 +21,7 @@ mod words;
 
 pub use lines::read_annotation;
 pub use meaning::{Annotation, AnnotationLine};
+pub use pieces::mode_text;
 pub use refusal::Refused as AnnotationFault;
 pub use spelling::{
     push_budget, push_foot, push_form, push_inequality, push_left, push_measure, push_pending,

@@ -24,7 +24,8 @@ pub enum Piece<'a> {
     Count(u64),
 }
 
-fn mode_text(mode: Mode) -> &'static str
+/// The word of a mode.
+pub fn mode_text(mode: Mode) -> &'static str
     ensures { result.now ≡ mode_text mode }
 {
     match mode {

@@ -9,5 +9,5 @@ mod token;
 pub use numeral::{is_numeral, small_value};
 pub use refusal::Refused as TextFault;
 pub use scan::lex;
-pub use spelling::{is_name, is_text};
+pub use spelling::{is_name, is_note_mark, is_text, spaces};
 pub use token::{Kind, Token};

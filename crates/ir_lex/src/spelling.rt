@@ -105,6 +105,7 @@ pub fn kind_of(run: &[u8]) -> Option<Kind>
     }
 }
 
+/// Whether a line, or what is left of it, begins with the mark of an annotation.
 pub fn is_note_mark(rest: &[u8]) -> bool
     ensures { result ≡ is_note_mark rest.now }
 {

@@ -18,5 +18,6 @@ mod reader;
 mod scope;
 
 pub use item::{Item, Line, items_are_read_back, judge_line, lines_are_read_back, read_line};
+pub use lines::{content, cut_line};
 pub use reader::read;
 pub use refusal::Refused as TextFault;

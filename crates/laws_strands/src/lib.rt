@@ -22,8 +22,8 @@ pub fn frame_strands_are_steps()
     ensures { FrameStrandsAreSteps }
 {}
 
-/// Where a strand fits a machine that has not trapped, its frame may go on, and each cell that it wrote holds a value, it is as many steps of
-/// the worker that runs the frame: each is enabled, none traps, and the machine is left as the strand says.
+/// A strand is as many steps of its worker, and none of them traps, from any machine that has not trapped, where the loaded frame may go on
+/// and each cell that the strand wrote holds a value.
 pub fn frame_strands_are_steps_where_defined()
     ensures { FrameStrandsAreStepsWhereDefined }
 {}

@@ -35,13 +35,14 @@ use Rattle.program.specs.declared.instruction.Terminator.TheVariants as terminat
 use Rattle.program.specs.Steps.{first_said, or_else}
 use Rattle.cfg.specs.declared.structure.Move.{Move}
 use Rattle.cfg.specs.declared.structure.Way.TheVariants.{Branch, Detached, Continued, Synced}
-use Rattle.cfg.specs.Edges.{moves_from, value_from}
+use Rattle.cfg.specs.Edges.{case_successor, moves_from}
+use Rattle.program.specs.Phis.{entry_for}
 use Rattle.ranges.specs.declared.edge.Comparison.{Comparison}
 use Rattle.ranges.specs.declared.edge.EdgeSums.{EdgeSums}
 use Rattle.ranges.specs.ranges_owed.declared.sum.Obligation.{Obligation}
 use Rattle.ranges.specs.ranges_owed.declared.sum.Part.{Part}
 use Rattle.ranges.specs.ranges_owed.declared.sum.Sum.{Sum}
-use Rattle.ranges.specs.Edges.{compare_of, compared, at_least, above, compare_sums, branch_sums, case_sums, edge_to, edges_out, keeps_of}
+use Rattle.ranges.specs.Edges.{compare_of, compared, at_least, above, compare_sums, branch_sums, case_sums, edge_to, edge_along, edges_out, keeps_of}
 use Rattle.ranges.specs.ranges_owed.Inequalities.{difference_of, argument_moves, result_of, result_moves}
 use Rattle.ranges.specs.ranges_owed.Scales.{scale_of}
 use Rattle.ranges.specs.Learned.{learned}
@@ -218,13 +219,13 @@ first_word : (b : Bool) (v : Operand) (o : Option Operand) → IsWord v → IsWo
 first_word true v o h k = h
 first_word false v o h k = k
 
-entry_word : (from : ℕ) (entries : List PhiEntry) → All IsEntryWord entries → IsWordIfAny (value_from from entries)
+entry_word : (from : ℕ) (entries : List PhiEntry) → All IsEntryWord entries → IsWordIfAny (entry_for from entries)
 entry_word from [] words = tt
-entry_word from (e ∷ es) words = first_word (e.predecessor.0 == from) e.value (value_from from es) (All-head IsEntryWord e es words) (entry_word from es (All-tail IsEntryWord e es words))
+entry_word from (e ∷ es) words = first_word (e.predecessor.0 == from) e.value (entry_for from es) (All-head IsEntryWord e es words) (entry_word from es (All-tail IsEntryWord e es words))
 
 moves_words : (from : ℕ) (phis : List Phi) → All TakesWords phis → AreWords (moves_from from phis)
 moves_words from [] words = All-nil IsMoveWord
-moves_words from (phi ∷ phis) words = by (value_from from phi.entries) (entry_word from phi.entries (All-head TakesWords phi phis words)) (moves_words from phis (All-tail TakesWords phi phis words))
+moves_words from (phi ∷ phis) words = by (entry_for from phi.entries) (entry_word from phi.entries (All-head TakesWords phi phis words)) (moves_words from phis (All-tail TakesWords phi phis words))
   where
     by : (o : Option Operand) → IsWordIfAny o → AreWords (moves_from from phis) → AreWords (cons_option (option_map (λ v. record { register = phi.register; value = v }) o) (moves_from from phis))
     by None here rest = rest
@@ -298,9 +299,9 @@ case_formed (Register r) number low =
 abbrev KnowsForms : EdgeSums → Type 0
 KnowsForms e = HaveForms e.sums
 
-cases_formed : (value : Operand) (cases : List Case) → All IsCaseNumber cases → All KnowsForms (map (λ c. edge_to c.target Branch (case_sums value c.number)) cases)
-cases_formed value [] h = All-nil KnowsForms
-cases_formed value (c ∷ cases) h = All-cons KnowsForms _ _ (case_formed value c.number (All-head IsCaseNumber c cases h)) (cases_formed value cases (All-tail IsCaseNumber c cases h))
+cases_formed : (steps : List Step) (value : Operand) (cases : List Case) → All IsCaseNumber cases → All KnowsForms (map (edge_along steps) (map (case_successor value) cases))
+cases_formed steps value [] h = All-nil KnowsForms
+cases_formed steps value (c ∷ cases) h = All-cons KnowsForms (edge_along steps (case_successor value c)) (map (edge_along steps) (map (case_successor value) cases)) (case_formed value c.number (All-head IsCaseNumber c cases h)) (cases_formed steps value cases (All-tail IsCaseNumber c cases h))
 
 edges_formed : (steps : List Step) (t : Terminator) → All IsStepLimited steps → EndsInWords t → All KnowsForms (edges_out steps t)
 edges_formed steps (terminator.Jump target) h words = All-cons KnowsForms (edge_to target Branch []) [] none_formed (All-nil KnowsForms)
@@ -310,7 +311,7 @@ edges_formed steps (terminator.Branch condition when_true when_false) h words =
     All-cons KnowsForms (edge_to when_true Branch (branch_sums c true)) (otherwise ∷ []) (branch_formed c true (compared_words condition steps h))
     (All-cons KnowsForms otherwise [] (branch_formed c false (compared_words condition steps h)) (All-nil KnowsForms))
 edges_formed steps (terminator.Switch width value default cases) h words =
-    All-cons KnowsForms (edge_to default Branch []) (map (λ c. edge_to c.target Branch (case_sums value c.number)) cases) none_formed (cases_formed value cases words)
+    All-cons KnowsForms (edge_to default Branch []) (map (edge_along steps) (map (case_successor value) cases)) none_formed (cases_formed steps value cases words)
 edges_formed steps (terminator.Return value) h words = All-nil KnowsForms
 edges_formed steps (terminator.Detach region body continuation) h words =
     All-cons KnowsForms (edge_to body Detached []) (edge_to continuation Continued [] ∷ []) none_formed

@@ -9,4 +9,4 @@ mod side;
 
 pub use fault::FormFault;
 pub use form::{Fact, Form, RegisterId, Term};
-pub use side::{Side, side_of};
+pub use side::{Side, coefficient, side_of};

@@ -1,9 +1,11 @@
 //! The terms and the constant of a form, lent to who compares two forms.
 
+
 ghost use Rattle.std.specs.Prelude.{◌≡◌, ◌<◌, ◌^◌, unsigned_abs};
 ghost use Rattle.linear.specs.Forms.{AreSmall, IsRising};
+ghost use Rattle.linear.specs.Lookup.{looked_up};
 
-use crate::form::{Form, Term};
+use crate::form::{Form, RegisterId, Term};
 
 /// The terms and the constant of a form.
 #[derive(Clone, Copy)]
@@ -24,4 +26,17 @@ pub fn side_of(form: &Form) -> Side<'_>
         terms: form.terms.as_slice(),
         constant: form.constant,
     }
+}
+
+/// The coefficient of a register, 0 where the terms have none.
+pub fn coefficient(terms: &[Term], register: RegisterId) -> i64
+    ensures value { result ≡ looked_up terms.now register.0 }
+    ensures small { AreSmall terms.now → unsigned_abs result < 2 ^ 24 }
+{
+    for term in terms {
+        if term.register.0 == register.0 {
+            return term.coefficient;
+        }
+    }
+    0
 }

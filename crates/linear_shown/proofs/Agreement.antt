@@ -5,7 +5,8 @@ use Rattle.std.proofs.lemmas.Int.{ints}
 use Rattle.std.proofs.lemmas.Bool.{cases_eq, ne_eqb}
 use Rattle.std.proofs.lemmas.List.Elements.{All-head, All-tail}
 use Rattle.linear.specs.declared.form.Term.{Term}
-use Rattle.linear_shown.specs.Search.{looked_up, Agrees}
+use Rattle.linear.specs.Lookup.{looked_up}
+use Rattle.linear_shown.specs.Search.{Agrees}
 
 pub named_or_zero : (P : ℕ → Type 0) (ts : List Term) (r : ℕ) → All (λ t. P t.register.0) ts → P r ⊎ (looked_up ts r ≡ pos 0)
 named_or_zero P [] r all = inr refl

@@ -6,7 +6,8 @@ use Rattle.std.proofs.lemmas.Bool.{cases_eq, ne_eqb}
 use Rattle.linear.specs.declared.form.Term.{Term}
 use Rattle.linear.specs.Forms.{IsRising}
 use Rattle.linear.specs.Terms.{coefficient_of}
-use Rattle.linear_shown.specs.Search.{looked_up, Agrees}
+use Rattle.linear.specs.Lookup.{looked_up}
+use Rattle.linear_shown.specs.Search.{Agrees}
 use Rattle.linear.proofs.Coefficients.{none_above}
 
 zero_plus : (x : ℤ) → pos 0 +ℤ x ≡ x

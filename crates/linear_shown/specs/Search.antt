@@ -1,18 +1,14 @@
 -- The search for what shows a form: factors and facts by their places.
-use Rattle.std.specs.Prelude.{◌≡◌, ℕ, ℤ, pos, ◌+ℤ◌, ◌*ℤ◌, ◌==◌, Bool, true, not, List, [], ◌∷◌, map, reverse, Contains}
+use Rattle.std.specs.Prelude.{◌≡◌, ℕ, ℤ, pos, ◌+ℤ◌, ◌*ℤ◌, Bool, true, not, List, [], ◌∷◌, map, reverse, Contains}
 use Rattle.std.specs.Prelude.{Option, Some, None}
-use Rattle.std.specs.Prelude.{slice_index_or, unsigned_abs, if◌then◌else◌}
+use Rattle.std.specs.Prelude.{slice_index_or, unsigned_abs}
 use Rattle.std.specs.Ordering.{int_eq}
 use Rattle.linear.specs.declared.form.RegisterId.{RegisterId}
 use Rattle.linear.specs.declared.form.Term.{Term}
 use Rattle.linear.specs.declared.form.Fact.{Fact}
 use Rattle.linear.specs.Terms.{Combination, coefficient_of, constant_form}
+use Rattle.linear.specs.Lookup.{looked_up}
 use Rattle.linear_shown.specs.Shown.{IsSum}
-
--- the coefficient in the first term of a register
-abbrev pub looked_up : List Term → ℕ → ℤ
-looked_up [] r = pos 0
-looked_up (t ∷ ts) r = if t.register.0 == r then t.coefficient else looked_up ts r
 
 abbrev pub Agrees : List Term → ℕ → List Term → ℕ → List Term → ℕ → Type 0
 Agrees e a f b g r = looked_up e r ≡ (pos a *ℤ looked_up f r) +ℤ (pos b *ℤ looked_up g r)

@@ -128,7 +128,8 @@ fn risen_far(entries: &[Entry], from: usize, a: u32, beside: u128, total: u128) 
     place
 }
 
-/// The first entry from a place on with which a times its key is not too small beside this. Mostly it is one of the first two: these are looked at inline.
+/// The first entry from a place on with which a times its key reaches the total. Mostly it is one of the first two, which are looked at where this is
+/// called.
 #[inline(always)]
 pub fn risen(entries: &[Entry], from: usize, a: u32, beside: u128, total: u128) -> usize
     requires order { AreInOrder entries.now }
@@ -173,7 +174,8 @@ fn fallen_far(entries: &[Entry], upto: usize, b: u32, beside: u128, total: u128)
     count
 }
 
-/// How many of the first entries are left where b times each key at the end is too great beside this. Mostly all are: the last one is looked at inline.
+/// How many entries are left when those at the end are gone with which b times the key is past the total. Mostly all are, as the last one, which is
+/// looked at where this is called, is not too great.
 #[inline(always)]
 pub fn fallen(entries: &[Entry], upto: usize, b: u32, beside: u128, total: u128) -> usize
     requires order { AreInOrder entries.now }

@@ -4,22 +4,9 @@ ghost use Rattle.std.specs.Prelude.{◌≡◌, ◌<◌, ◌≤◌, ◌+◌, ◌^
 ghost use Rattle.linear.specs.Forms.{AreSmall, IsRising, Holds};
 ghost use Rattle.linear_shown.specs.Shown.{IsSum, IsShown, AllHold};
 ghost use Rattle.linear_shown.specs.Tested.{is_shown};
-ghost use Rattle.linear_shown.specs.Search.{looked_up, Agrees, factors, side_at, IsLeft, has_some, IsFoundByB, IsFoundByA, IsFoundWith, IsFoundFrom, IsFound};
+ghost use Rattle.linear_shown.specs.Search.{Agrees, factors, side_at, IsLeft, has_some, IsFoundByB, IsFoundByA, IsFoundWith, IsFoundFrom, IsFound};
 
-use linear::{Fact, Form, RegisterId, Side, Term, side_of};
-
-/// The coefficient of a register, 0 where the terms have none.
-fn coefficient(terms: &[Term], register: RegisterId) -> i64
-    ensures value { result ≡ looked_up terms.now register.0 }
-    ensures small { AreSmall terms.now → unsigned_abs result < 2 ^ 24 }
-{
-    for term in terms {
-        if term.register.0 == register.0 {
-            return term.coefficient;
-        }
-    }
-    0
-}
+use linear::{Fact, Form, RegisterId, Side, Term, coefficient, side_of};
 
 /// A coefficient times a factor.
 pub fn scaled(factor: u32, coefficient: i64) -> i64

@@ -1,5 +1,8 @@
 //! The numbers by which globals, functions, blocks and allocas go, and names of whole objects.
 
+ghost use Rattle.std.specs.Prelude.{◌≡◌};
+ghost use Rattle.program.specs.ObjectNames.{same_object};
+
 use linear::RegisterId;
 
 /// A global, by its place in the text, from 0.
@@ -25,4 +28,19 @@ pub enum ObjectName {
     Alloca(AllocaId),
     /// The object that a pointer parameter was given.
     Parameter(RegisterId),
+}
+
+/// Whether two names of a function are of one object: its own names are of different objects.
+#[inline]
+pub fn same_object(left: ObjectName, right: ObjectName) -> bool
+    ensures { result ≡ same_object left right }
+{
+    match (left, right) {
+        (ObjectName::Global(a), ObjectName::Global(b)) => a.0 == b.0,
+        (ObjectName::Alloca(a), ObjectName::Alloca(b)) => a.0 == b.0,
+        (ObjectName::Parameter(a), ObjectName::Parameter(b)) => a.0 == b.0,
+        (ObjectName::Global(_), ObjectName::Alloca(_) | ObjectName::Parameter(_))
+        | (ObjectName::Alloca(_), ObjectName::Global(_) | ObjectName::Parameter(_))
+        | (ObjectName::Parameter(_), ObjectName::Global(_) | ObjectName::Alloca(_)) => false,
+    }
 }

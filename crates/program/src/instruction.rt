@@ -1,5 +1,8 @@
 //! Instructions, phis and terminators with resolved names: operands, addresses and targets are numbers.
 
+ghost use Rattle.std.specs.Prelude.{◌≡◌, IsSome, Some};
+ghost use Rattle.program.specs.Phis.{entry_for};
+
 use crate::annotation::Inequality;
 use crate::identifier::{AllocaId, BlockId, FunctionId, ObjectName};
 use linear::RegisterId;
@@ -40,6 +43,31 @@ pub struct Phi {
     pub register: RegisterId,
     pub width: Width,
     pub entries: Seq<PhiEntry>,
+}
+
+/// The value of the first entry that names a predecessor.
+#[inline(always)]
+pub fn entry_for(entries: &[PhiEntry], predecessor: BlockId) -> Option<Operand>
+    ensures { result ≡ entry_for predecessor.0 entries.now }
+{
+    for entry in entries {
+        if entry.predecessor.0 == predecessor.0 {
+            return Some(entry.value);
+        }
+    }
+    None
+}
+
+/// What a phi takes where the run comes from a block that one of its entries names.
+#[inline(always)]
+pub fn entry_from(entries: &[PhiEntry], predecessor: BlockId) -> Operand
+    requires { IsSome (entry_for predecessor.0 entries.now) }
+    ensures { entry_for predecessor.0 entries.now ≡ Some result }
+{
+    match entry_for(entries, predecessor) {
+        Some(value) => value,
+        None => unreachable!(),
+    }
 }
 
 /// An instruction that is neither a phi nor a terminator. `register` is the register that it defines.

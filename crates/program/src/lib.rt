@@ -10,9 +10,10 @@ mod width;
 
 pub use annotation::{Budget, Inequality, Left, Measure, Pending, Zone};
 pub use function::{Alloca, Block, Function, Global, Parameter, Program, RegisterKind};
-pub use identifier::{AllocaId, BlockId, FunctionId, GlobalId, ObjectName};
+pub use identifier::{AllocaId, BlockId, FunctionId, GlobalId, ObjectName, same_object};
 pub use instruction::{
     Address, Argument, Case, Ending, Instruction, Operand, Phi, PhiEntry, Step, Terminator,
+    entry_for, entry_from,
 };
 pub use linear::{Fact, Form, RegisterId, Term};
 pub use syntax::{BinaryOperator, Conversion, Mode, Predicate, ResultType, Width};

@@ -16,12 +16,13 @@ use Rattle.program.specs.declared.instruction.Operand.{Operand}
 use Rattle.program.specs.declared.instruction.Operand.TheVariants.{Number, Register}
 use Rattle.program.specs.declared.instruction.Step.{Step}
 use Rattle.program.specs.declared.instruction.Terminator.{Terminator}
-use Rattle.program.specs.declared.instruction.Terminator.TheVariants as terminator
 use Rattle.program.specs.declared.function.Block.{Block}
 use Rattle.program.specs.Steps.{first_said}
 use Rattle.ranges_owed.specs.cfg.declared.structure.Way.{Way}
-use Rattle.ranges_owed.specs.cfg.declared.structure.Way.TheVariants.{Branch, Detached, Continued, Synced}
-use Rattle.ranges_owed.specs.cfg.Edges.{moves_from}
+use Rattle.ranges_owed.specs.cfg.declared.structure.Guard.{Guard}
+use Rattle.ranges_owed.specs.cfg.declared.structure.Guard.TheVariants.{Silent, Tested, Matched}
+use Rattle.ranges_owed.specs.cfg.declared.structure.Successor.{Successor}
+use Rattle.ranges_owed.specs.cfg.Edges.{moves_from, successors}
 use Rattle.ranges_owed.specs.declared.sum.Sum.{Sum}
 use Rattle.ranges_owed.specs.declared.sum.Obligation.{Obligation}
 use Rattle.ranges.specs.declared.edge.Comparison.{Comparison}
@@ -78,17 +79,18 @@ case_sums (Register r) number = one (negsuc 0 *ℤ number) (pos 1) (Register r) 
 abbrev pub edge_to : BlockId → Way → List Sum → EdgeSums
 edge_to to way sums = record { to = to; way = way; sums = sums }
 
+-- what it makes known that a run goes to a successor
+abbrev pub guard_sums : List Step → Guard → List Sum
+guard_sums steps Silent = []
+guard_sums steps (Tested condition holds) = branch_sums (compared condition steps) holds
+guard_sums steps (Matched value number) = case_sums value number
+
+abbrev pub edge_along : List Step → Successor → EdgeSums
+edge_along steps x = edge_to x.to x.way (guard_sums steps x.guard)
+
 -- the edges of a terminator in its order, each with what its being taken makes known; a reattach has none
 abbrev pub edges_out : List Step → Terminator → List EdgeSums
-edges_out steps (terminator.Jump target) = edge_to target Branch [] ∷ []
-edges_out steps (terminator.Branch condition when_true when_false) = edge_to when_true Branch (branch_sums
-    (compared condition steps) true) ∷ (edge_to when_false Branch (branch_sums (compared condition steps) false) ∷ [])
-edges_out steps (terminator.Switch width value default cases) = edge_to default Branch [] ∷
-    map (λ c. edge_to c.target Branch (case_sums value c.number)) cases
-edges_out steps (terminator.Detach region body continuation) = edge_to body Detached [] ∷
-    (edge_to continuation Continued [] ∷ [])
-edges_out steps (terminator.Sync region target) = edge_to target (Synced region) [] ∷ []
-edges_out steps other = []
+edges_out steps t = map (edge_along steps) (successors t)
 
 -- ---- at the target
 

@@ -1,12 +1,10 @@
 //! What an edge makes known where it is taken: the outcome of a branch's `icmp`, or the case of a switch.
 
-ghost use Rattle.std.specs.Prelude.{◌≡◌, ◌++◌, ◌∷◌, [], List, true, false, pos, negsuc, ◌*ℤ◌, map, IfOk, OnOk};
+ghost use Rattle.std.specs.Prelude.{◌≡◌, ◌++◌, ◌∷◌, [], List, true, false, pos, negsuc, ◌*ℤ◌, IfOk, OnOk};
 ghost use Rattle.program.specs.syntax.declared.operator.Predicate.TheVariants.{Equal};
-ghost use Rattle.ranges_owed.specs.cfg.declared.structure.Way.TheVariants.{Branch};
-ghost use Rattle.program.specs.declared.instruction.Case.{Case};
 ghost use Rattle.ranges.specs.Sums.{facts_of};
 ghost use Rattle.ranges_owed.specs.Sums.{one, two};
-ghost use Rattle.ranges.specs.Edges.{compare_of, compared, at_least, above, compare_sums, branch_sums, case_sums, edge_to, edges_out};
+ghost use Rattle.ranges.specs.Edges.{compare_of, compared, at_least, above, compare_sums, branch_sums, case_sums, guard_sums, edge_along, edges_out};
 ghost use Rattle.linear.specs.declared.form.Fact.{Fact};
 ghost use Rattle.ranges.specs.Edges.{edge_facts, all_edge_facts};
 ghost use Rattle.ranges.specs.Tables.{with_known, all_with_known};
@@ -15,10 +13,8 @@ use crate::know::push_facts;
 use crate::table::EdgeFacts;
 use linear_shown::{Effort, FactList};
 use lists::{OutOfMemory, Seq};
-use program::{
-    Block, BlockId, Case, Instruction, Operand, Predicate, RegisterId, Step, Terminator,
-};
-use ranges_owed::{Sum, Way, make_moves};
+use program::{Block, BlockId, Instruction, Operand, Predicate, RegisterId, Step, Terminator};
+use ranges_owed::{Guard, Successor, Sum, Way, make_moves, successors};
 use std::alloc::Global;
 
 /// What an `icmp` compares.
@@ -196,117 +192,28 @@ fn case_sums(alloc: Global, value: Operand, number: i64) -> Result<Seq<Sum>, Out
     Ok(sums)
 }
 
-/// Adds the edges of the cases of a switch.
-fn push_cases(
-    alloc: Global,
-    edges: &mut Vec<EdgeSums>,
-    value: Operand,
-    cases: &[Case],
-) -> Result<(), OutOfMemory>
-    ensures { OnOk result (edges.new.items ≡ edges.old.items ++ map (λ (c : Case). edge_to c.target Branch (case_sums value c.number)) cases.now) }
+/// What it makes known that a run goes to a successor.
+fn guard_sums(alloc: Global, steps: &[Step], guard: Guard) -> Result<Seq<Sum>, OutOfMemory>
+    ensures { IfOk result (λ sums. sums ≡ guard_sums steps.now guard) }
 {
-    for case in cases {
-        edges.push(EdgeSums {
-            to: case.target,
-            way: Way::Branch,
-            sums: case_sums(alloc, value, case.number)?,
-        })?;
+    match guard {
+        Guard::Silent => Ok(Seq::new(alloc)),
+        Guard::Tested { condition, holds } => {
+            branch_sums(alloc, compared(condition, steps), holds)
+        }
+        Guard::Matched { value, number } => case_sums(alloc, value, number),
     }
-    Ok(())
 }
 
-/// Adds the edge of a branch that is taken where its compare holds, or where it does not.
-fn push_side(
-    alloc: Global,
-    edges: &mut Vec<EdgeSums>,
-    comparison: Option<Comparison>,
-    holds: bool,
-    to: BlockId,
-) -> Result<(), OutOfMemory>
-    ensures { OnOk result (edges.new.items ≡ edges.old.items ++ edge_to to Branch (branch_sums comparison holds) ∷ []) }
+/// The edge to a successor, with what its being taken makes known.
+fn edge_along(alloc: Global, steps: &[Step], successor: Successor) -> Result<EdgeSums, OutOfMemory>
+    ensures { IfOk result (λ edge. edge ≡ edge_along steps.now successor) }
 {
-    edges.push(EdgeSums {
-        to,
-        way: Way::Branch,
-        sums: branch_sums(alloc, comparison, holds)?,
-    })?;
-    Ok(())
-}
-
-/// The two edges of a branch.
-fn push_branch(
-    alloc: Global,
-    edges: &mut Vec<EdgeSums>,
-    comparison: Option<Comparison>,
-    when_true: BlockId,
-    when_false: BlockId,
-) -> Result<(), OutOfMemory>
-    ensures { OnOk result (edges.new.items
-        ≡ edges.old.items
-        ++ (edge_to when_true Branch (branch_sums comparison true) ∷ (edge_to when_false Branch (branch_sums comparison false) ∷ []))) }
-{
-    push_side(alloc, edges, comparison, true, when_true)?;
-    push_side(alloc, edges, comparison, false, when_false)
-}
-
-/// Adds an edge whose being taken says nothing.
-fn push_plain(
-    alloc: Global,
-    edges: &mut Vec<EdgeSums>,
-    to: BlockId,
-    way: Way,
-) -> Result<(), OutOfMemory>
-    ensures { OnOk result (edges.new.items ≡ edges.old.items ++ edge_to to way [] ∷ []) }
-{
-    edges.push(EdgeSums {
-        to,
-        way,
-        sums: Seq::new(alloc),
-    })?;
-    Ok(())
-}
-
-/// Adds the edges of a terminator in its order, each with what its being taken makes known.
-fn push_edges(
-    alloc: Global,
-    edges: &mut Vec<EdgeSums>,
-    steps: &[Step],
-    terminator: &Terminator,
-) -> Result<(), OutOfMemory>
-    ensures { OnOk result (edges.new.items ≡ edges.old.items ++ edges_out steps.now terminator.now) }
-{
-    match terminator {
-        Terminator::Jump { target } => push_plain(alloc, edges, *target, Way::Branch),
-        Terminator::Branch {
-            condition,
-            when_true,
-            when_false,
-        } => {
-            let comparison = compared(*condition, steps);
-            push_branch(alloc, edges, comparison, *when_true, *when_false)
-        }
-        Terminator::Switch {
-            value,
-            default,
-            cases,
-            ..
-        } => {
-            push_plain(alloc, edges, *default, Way::Branch)?;
-            push_cases(alloc, edges, *value, cases.as_slice())
-        }
-        Terminator::Detach {
-            body,
-            continuation,
-            ..
-        } => {
-            push_plain(alloc, edges, *body, Way::Detached)?;
-            push_plain(alloc, edges, *continuation, Way::Continued)
-        }
-        Terminator::Sync { region, target } => {
-            push_plain(alloc, edges, *target, Way::Synced(*region))
-        }
-        Terminator::Return { .. } | Terminator::Reattach { .. } => Ok(()),
-    }
+    Ok(EdgeSums {
+        to: successor.to,
+        way: successor.way,
+        sums: guard_sums(alloc, steps, successor.guard)?,
+    })
 }
 
 /// The edges of a terminator in its order, each with what its being taken makes known.
@@ -317,8 +224,11 @@ pub fn edges_out(
 ) -> Result<Vec<EdgeSums>, OutOfMemory>
     ensures { IfOk result (λ edges. edges.items ≡ edges_out steps.now terminator.now) }
 {
+    let list = successors(alloc, terminator)?;
     let mut edges = Vec::new(alloc);
-    push_edges(alloc, &mut edges, steps, terminator)?;
+    for successor in list.as_slice() {
+        edges.push(edge_along(alloc, steps, *successor)?)?;
+    }
     Ok(edges)
 }
 

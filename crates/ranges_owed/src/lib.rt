@@ -6,7 +6,7 @@ mod owe;
 mod scale;
 mod sum;
 
-pub use cfg::{Move, Way, make_moves};
+pub use cfg::{Guard, Move, Successor, Way, make_moves, successors};
 pub use inequality::{
     argument_moves, call_moves, difference_of, differences_of, operand_for, push_parts,
     result_moves,

@@ -4,15 +4,9 @@ use crate::task::Task;
 use lists::Seq;
 
 /// The task of each block of a function.
+#[derive(Drop)]
 pub struct FunctionTasks {
     pub tasks: Seq<Task>,
-}
-
-/// Written out, so that no crate above proves it anew.
-impl Drop for FunctionTasks {
-    fn drop(self) {
-        let FunctionTasks { tasks: _ } = self;
-    }
 }
 
 /// The tasks of the blocks of each function.
@@ -20,6 +14,7 @@ pub struct Regions {
     pub functions: Seq<FunctionTasks>,
 }
 
+/// Written out, so that no crate above proves it anew.
 impl Drop for Regions {
     fn drop(self) {
         let Regions { functions: _ } = self;

@@ -10,15 +10,14 @@ use Rattle.semantics.specs.Frames.{Value, Word, Truth, Pointer, Region, Register
 use Rattle.semantics.specs.Frames.{Item, Does, Ends, item_at, phis_at}
 use Rattle.semantics.specs.Frames.{cells_of, truth_of, region_of, set_register, word_at, object_at, first_cell, cell_at}
 use Rattle.program.specs.linear.declared.form.RegisterId.{RegisterId}
+use Rattle.program.specs.Phis.{entry_for}
 use Rattle.program.specs.declared.function.Program.{Program}
 use Rattle.program.specs.declared.instruction.Instruction.{Instruction}
 use Rattle.program.specs.declared.instruction.Instruction.TheVariants as instruction
 use Rattle.program.specs.declared.instruction.Terminator.{Terminator}
 use Rattle.program.specs.declared.instruction.Terminator.TheVariants as terminator
 use Rattle.program.specs.declared.instruction.Phi.{Phi}
-use Rattle.program.specs.declared.instruction.PhiEntry.{PhiEntry}
 use Rattle.program.specs.declared.instruction.Case.{Case}
-use Rattle.program.specs.declared.instruction.Operand.{Operand}
 use Rattle.program.specs.declared.instruction.Argument.{Argument}
 use Rattle.program.specs.declared.instruction.Argument.TheVariants as argument
 
@@ -108,10 +107,6 @@ adds_to f c z None = record (stops Undefined f) { adds = λ x. cond (same_cell c
 adds_to f c z (Some old) = record (goes_on f) { adds = λ x. cond (same_cell c x) (Some z) None }
 
 -- ---- along an edge (LLVM Language Reference, "phi")
-
-abbrev pub entry_for : ℕ → List PhiEntry → Option Operand
-entry_for from [] = None
-entry_for from (e ∷ entries) = cond (eqb e.predecessor.0 from) (Some e.value) (entry_for from entries)
 
 abbrev pub phi_value : Registers → ℕ → Phi → Option ℤ
 phi_value before from phi = and_then (entry_for from phi.entries) (word_at before)

@@ -6,6 +6,7 @@
 mod annotation;
 mod instruction;
 mod module;
+mod names;
 mod operator;
 mod terminator;
 
@@ -16,5 +17,6 @@ pub use annotation::{
 pub use instruction::{Address, AllocaSize, Argument, Instruction, Operand, Phi, PhiEntry, Step};
 pub use lists::{Name, Seq};
 pub use module::{Block, Function, Global, Module, Parameter, ResultType};
+pub use names::register_names;
 pub use operator::{BinaryOperator, Conversion, Mode, Predicate, Width};
 pub use terminator::{Case, Ending, Terminator};

@@ -39,7 +39,8 @@ use Rattle.types.specs.names.Address.{Items}
 use Rattle.types.specs.Apart.{InstructionNames, IsBlockAt, IsInstructionAt, IsNamedBy, in_instruction, in_zone, in_pending, in_foot, Reaches, itself, through, NamesGlobal, parameters_at, CallsApart}
 use Rattle.program.specs.Heads.{parameters_in}
 use Rattle.types.specs.Block.{head_of, body_of, block_with, block_of, blocks_of}
-use Rattle.types.specs.Call.{Named, parameter_of, is_same_object, passes, is_passed_again, are_distinct}
+use Rattle.program.specs.ObjectNames.{same_object}
+use Rattle.types.specs.Call.{Named, parameter_of, passes, is_passed_again, are_distinct}
 use Rattle.types.specs.Definitions.{DefinesFrom, KeepsParameters, IsParameterName, EachDefinesAnew}
 use Rattle.types.specs.Function.{head_of as function_head_of, head_zones_of, function_with, function_of, functions_of}
 use Rattle.types.specs.Instruction.{phi_of, phis_of, instruction_of, step_of, steps_of}
@@ -113,7 +114,7 @@ none_at test (y ∷ xs) (suc i) x h e = none_at test xs i x (or_parts (test y) (
 number_itself : (n : ℕ) → nat_eq n n ≡ true
 number_itself n = grind (arith, nat_tests)
 
-object_itself : (name : ObjectName) → is_same_object name name ≡ true
+object_itself : (name : ObjectName) → same_object name name ≡ true
 object_itself (object.Global a) = number_itself a.0
 object_itself (object.Alloca a) = number_itself a.0
 object_itself (object.Parameter a) = number_itself a.0

@@ -4,6 +4,7 @@ use Rattle.std.specs.Prelude.{slice_index_or, Option, Some, None}
 use Rattle.std.specs.Prelude.{Result, Ok, Err}
 use Rattle.std.specs.List.{list_any}
 use Rattle.std.specs.Option.{option_map}
+use Rattle.program.specs.ObjectNames.{same_object}
 use Rattle.program.specs.declared.function.Parameter.{Parameter}
 use Rattle.program.specs.declared.function.Parameter.TheVariants as parameter
 use Rattle.program.specs.declared.identifier.FunctionId.{FunctionId}
@@ -74,15 +75,9 @@ abbrev pub arguments_of : Items → Scope → ℕ → List ParameterText → Lis
 arguments_of items scope line parameters arguments =
     all_of (λ place. argument_of items scope line (expected parameters place)) arguments
 
-abbrev pub is_same_object : ObjectName → ObjectName → Bool
-is_same_object (object.Global a) (object.Global b) = nat_eq a.0 b.0
-is_same_object (object.Alloca a) (object.Alloca b) = nat_eq a.0 b.0
-is_same_object (object.Parameter a) (object.Parameter b) = nat_eq a.0 b.0
-is_same_object one other = false
-
 abbrev pub passes : ObjectName → Argument → Bool
 passes name (argument.Number value) = false
-passes name (argument.Object other) = is_same_object name other
+passes name (argument.Object other) = same_object name other
 
 abbrev pub is_passed_again : Argument → List Argument → Bool
 is_passed_again (argument.Number value) others = false

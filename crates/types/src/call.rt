@@ -12,7 +12,7 @@ use crate::names::{
     unless, wrong_count,
 };
 use lists::{Name, Seq};
-use program::{Argument, FunctionId, ObjectName, Parameter, Width};
+use program::{Argument, FunctionId, ObjectName, Parameter, Width, same_object};
 use std::alloc::Global;
 use syntax::{Function, ResultType};
 
@@ -170,32 +170,13 @@ fn resolve_arguments(
     resolved
 }
 
-fn is_same_object(first: ObjectName, second: ObjectName) -> bool
-    ensures { result ≡ spec.is_same_object first second }
-{
-    match first {
-        ObjectName::Global(a) => match second {
-            ObjectName::Global(b) => a.0 == b.0,
-            ObjectName::Alloca(_) | ObjectName::Parameter(_) => false,
-        },
-        ObjectName::Alloca(a) => match second {
-            ObjectName::Alloca(b) => a.0 == b.0,
-            ObjectName::Global(_) | ObjectName::Parameter(_) => false,
-        },
-        ObjectName::Parameter(a) => match second {
-            ObjectName::Parameter(b) => a.0 == b.0,
-            ObjectName::Global(_) | ObjectName::Alloca(_) => false,
-        },
-    }
-}
-
 /// The argument passes this object.
 fn passes(name: ObjectName, argument: Argument) -> bool
     ensures { result ≡ spec.passes name argument }
 {
     match argument {
         Argument::Number(_) => false,
-        Argument::Object(other) => is_same_object(name, other),
+        Argument::Object(other) => same_object(name, other),
     }
 }
 

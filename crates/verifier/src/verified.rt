@@ -107,8 +107,8 @@ pub fn verify(alloc: Global, state: RandomState, text: &[u8]) -> Result<Verified
     }
 }
 
-/// Judges a module within some effort. Where more is needed than a bounded one grants, there is no verdict; the answer names what was granted, and the same
-/// text may be tried again with more.
+/// Takes a module whose text is right by each phase, where this effort is enough to say so. Where more is needed than a bounded one grants, there is no
+/// verdict, and the text may be tried again with more: what was granted is named.
 ///
 /// What it answers depends on the text alone, and on memory: a text that is verified within some effort is so on every machine. The last question may take
 /// more than what is left, at most some second.

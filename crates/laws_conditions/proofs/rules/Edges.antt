@@ -3,7 +3,8 @@ use Rattle.std.proofs.Common.{◌≡◌, ℕ, zero, suc, List, [], ◌∷◌, Op
 use Rattle.semantics.specs.Frames.{Value, Word, Pointer, Registers, Frame, word_of, word_at, object_at, set_register, and_then, phis_at}
 use Rattle.semantics.specs.Cells.{Object}
 use Rattle.semantics.specs.Written.{or_zero}
-use Rattle.semantics.specs.Effect.{entry_for, phi_value, with_phis, registers_along, argument_value, argument_values}
+use Rattle.semantics.specs.Effect.{phi_value, with_phis, registers_along, argument_value, argument_values}
+use Rattle.program.specs.Phis.{entry_for}
 use Rattle.linear.specs.Forms.{register_form, value, put}
 use Rattle.linear.specs.Terms.{Combination}
 use Rattle.linear.proofs.Values.{value_constant, value_register, value_put}

@@ -2,7 +2,7 @@
 -- parameters.
 use Rattle.std.specs.Prelude.{ℕ, zero, suc, List, [], ◌∷◌, Option, Some, None, cond, eqb, pos}
 use Rattle.semantics.specs.Frames.{phis_at}
-use Rattle.semantics.specs.Effect.{entry_for}
+use Rattle.program.specs.Phis.{entry_for}
 use Rattle.linear.specs.Forms.{register_form}
 use Rattle.linear.specs.Terms.{Combination, constant_form}
 use Rattle.program.specs.declared.function.Program.{Program}

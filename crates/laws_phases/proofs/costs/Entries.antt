@@ -9,6 +9,7 @@ use Rattle.program.specs.declared.function.Function.{Function}
 use Rattle.program.specs.declared.function.Program.{Program}
 use Rattle.program.specs.declared.instruction.Case.{Case}
 use Rattle.program.specs.declared.instruction.Ending.{Ending}
+use Rattle.program.specs.declared.instruction.Operand.{Operand}
 use Rattle.program.specs.declared.instruction.Phi.{Phi}
 use Rattle.program.specs.declared.instruction.PhiEntry.{PhiEntry}
 use Rattle.program.specs.declared.instruction.Step.{Step}
@@ -18,11 +19,13 @@ use Rattle.cfg.specs.declared.structure.Edge.{Edge}
 use Rattle.cfg.specs.declared.structure.BlockEdges.{BlockEdges}
 use Rattle.cfg.specs.declared.structure.Way.{Way}
 use Rattle.cfg.specs.declared.structure.Way.TheVariants as way
-use Rattle.cfg.specs.Edges.{value_from, graph_of}
+use Rattle.cfg.specs.declared.structure.Successor.{Successor}
+use Rattle.cfg.specs.Edges.{case_successor, graph_of}
+use Rattle.program.specs.Phis.{entry_for}
 use Rattle.cfg.specs.Paths.{edges_of}
 use Rattle.cfg.specs.Rules.{leads_to, IsMatched, IsFunctionRight, IsGraphRight}
 use Rattle.ranges.specs.declared.edge.EdgeSums.{EdgeSums}
-use Rattle.ranges.specs.Edges.{compared, branch_sums, case_sums, edge_to, edges_out}
+use Rattle.ranges.specs.Edges.{compared, branch_sums, edge_along, edge_to, edges_out}
 use Rattle.laws_phases.specs.defined.Leads.{LeadsTo, IsBlock}
 use Rattle.laws_phases.proofs.defined.Lists.{none_within, within_cases, at_within}
 use Rattle.laws_phases.proofs.defined.Items.{Along, edge_behind}
@@ -35,11 +38,11 @@ use Rattle.laws_phases.proofs.costs.Moves.{HaveEntries}
 abbrev Leads : Terminator → EdgeSums → Type 0
 Leads t e = (w : Way) × LeadsTo t w e.to.0
 
-of_case : (x : Case → EdgeSums) (cases : List Case) (e : EdgeSums) → Contains (map x cases) e → (c : Case) × Contains cases c × (x c ≡ e)
-of_case x [] e within = absurd (none_within e within)
-of_case x (c ∷ cases) e within = elim (within_cases (x c) e (map x cases) within) [
+of_case : (x : Successor → EdgeSums) (value : Operand) (cases : List Case) (e : EdgeSums) → Contains (map x (map (case_successor value) cases)) e → (c : Case) × Contains cases c × (x (case_successor value c) ≡ e)
+of_case x value [] e within = absurd (none_within e within)
+of_case x value (c ∷ cases) e within = elim (within_cases (x (case_successor value c)) e (map x (map (case_successor value) cases)) within) [
   | inl same ↦ (c, (0, omega arith, refl), same)
-  | inr later ↦ let r = of_case x cases e later in (r.0, (suc r.1.0, (let l = r.1.1 in omega (arith, l)), r.1.2), r.2)
+  | inr later ↦ let r = of_case x value cases e later in (r.0, (suc r.1.0, (let l = r.1.1 in omega (arith, l)), r.1.2), r.2)
 ]
 
 only : (x e : EdgeSums) → Contains (x ∷ []) e → x ≡ e
@@ -59,10 +62,9 @@ leads steps (terminator.Branch condition x y) e within =
     ]
 leads steps (terminator.Switch width value default cases) e within =
     let first : EdgeSums = edge_to default way.Branch [] in
-    let of : Case → EdgeSums = λ c. edge_to c.target way.Branch (case_sums value c.number) in
-    elim (within_cases first e (map (λ (c : Case). edge_to c.target way.Branch (case_sums value c.number)) cases) within) [
+    elim (within_cases first e (map (edge_along steps) (map (case_successor value) cases)) within) [
       | inl same ↦ (way.Branch, inl (target_is first e same))
-      | inr later ↦ let r = of_case (λ (c : Case). edge_to c.target way.Branch (case_sums value c.number)) cases e later in (way.Branch, inr (r.0, r.1, target_is (of r.0) e r.2))
+      | inr later ↦ let r = of_case (edge_along steps) value cases e later in (way.Branch, inr (r.0, r.1, target_is (edge_along steps (case_successor value r.0)) e r.2))
     ]
 leads steps (terminator.Return value) e within = absurd (none_within e within)
 leads steps (terminator.Detach region body continuation) e within =
@@ -79,17 +81,17 @@ leads steps (terminator.Sync region target) e within =
 
 -- ---- entries
 
-some_left : (from : ℕ) (entries : List PhiEntry) → 0 < length (filter (λ e. eqb e.predecessor.0 from) entries) → is_some (value_from from entries) ≡ true
+some_left : (from : ℕ) (entries : List PhiEntry) → 0 < length (filter (λ e. eqb e.predecessor.0 from) entries) → is_some (entry_for from entries) ≡ true
 some_left from [] many = absurd (omega (arith, many))
 some_left from (e ∷ entries) many = by (eqb e.predecessor.0 from) many (some_left from entries)
   where
     by : (b : Bool) → 0 < length (cond b (e ∷ filter (λ x. eqb x.predecessor.0 from) entries) (filter (λ x. eqb x.predecessor.0 from) entries)) →
-        (0 < length (filter (λ x. eqb x.predecessor.0 from) entries) → is_some (value_from from entries) ≡ true) → is_some (cond b (Some e.value) (value_from from entries)) ≡ true
+        (0 < length (filter (λ x. eqb x.predecessor.0 from) entries) → is_some (entry_for from entries) ≡ true) → is_some (cond b (Some e.value) (entry_for from entries)) ≡ true
     by true many rest = refl
     by false many rest = rest many
 
 -- where an edge leads, each phi has an entry
-has_entry : (blocks : List BlockEdges) (from to : ℕ) (entries : List PhiEntry) (edge : Edge) → Contains (edges_of blocks from) edge → edge.to.0 ≡ to → IsMatched blocks to entries → is_some (value_from from entries) ≡ true
+has_entry : (blocks : List BlockEdges) (from to : ℕ) (entries : List PhiEntry) (edge : Edge) → Contains (edges_of blocks from) edge → edge.to.0 ≡ to → IsMatched blocks to entries → is_some (entry_for from entries) ≡ true
 has_entry blocks from to entries edge within target matched =
     let leading : leads_to to (edges_of blocks from) ≡ true =
     list_any-from_Any (λ (e : Edge). eqb e.to.0 to) (edges_of blocks from) (Any_of (λ (e : Edge). eqb e.to.0 to ≡ true) (edges_of blocks from) edge within (eq-eqb edge.to.0 to target)) in
@@ -103,5 +105,5 @@ have_entries prog graph f b function block target ending e is at within there =
     let way_is = leads block.steps ending.terminator e within in
     let edge : Along (edges_of (graph_of function).blocks b) way_is.0 e.to.0 = edge_behind prog f b e.to.0 function block target ending way_is.0 is at there way_is.1 in
     let right = All-contains IsFunctionRight prog.functions function graph (at_within prog.functions f function is.at_function) e.to.0 target there in
-    All-weaker (λ (phi : Phi). IsMatched (graph_of function).blocks e.to.0 phi.entries) (λ (phi : Phi). is_some (value_from b phi.entries) ≡ true)
+    All-weaker (λ (phi : Phi). IsMatched (graph_of function).blocks e.to.0 phi.entries) (λ (phi : Phi). is_some (entry_for b phi.entries) ≡ true)
     (λ phi matched. has_entry (graph_of function).blocks b e.to.0 phi.entries edge.edge edge.within edge.target matched) target.phis right.0

@@ -5,7 +5,7 @@ use Rattle.std.specs.Option.{option_map}
 use Rattle.std.proofs.lemmas.Bool.{ne_eqb, false≢true}
 use Rattle.std.proofs.lemmas.Bool.Decides.{eqb_tells}
 use Rattle.std.proofs.lemmas.List.Elements.{All-head, All-tail}
-use Rattle.semantics.specs.Effect.{entry_for}
+use Rattle.program.specs.Phis.{entry_for}
 use Rattle.linear.specs.declared.form.RegisterId.{RegisterId}
 use Rattle.linear.specs.Forms.{register_form, value}
 use Rattle.linear.specs.Terms.{Combination}
@@ -14,12 +14,12 @@ use Rattle.program.specs.declared.instruction.Argument.{Argument}
 use Rattle.program.specs.declared.instruction.Operand.{Operand}
 use Rattle.program.specs.declared.instruction.Operand.TheVariants.{Number, Register}
 use Rattle.program.specs.declared.instruction.Phi.{Phi}
-use Rattle.cfg.specs.Edges.{value_from, moves_from}
+use Rattle.cfg.specs.Edges.{moves_from}
 use Rattle.ranges.specs.ranges_owed.Inequalities.{operand_for, argument_operand, argument_moves}
 use Rattle.ranges.specs.Truth.{operand_value}
 use Rattle.laws_conditions.specs.rules.Edges.{operand_form, entry_form, phi_forms, argument_forms}
 use Rattle.laws_phases.specs.facts.Owing.{AreApart}
-use Rattle.laws_phases.proofs.facts.Edges.{moved_or, moved_or_is, moved_or_same, value_from_is, not_moved}
+use Rattle.laws_phases.proofs.facts.Edges.{moved_or, moved_or_is, moved_or_same, not_moved}
 use Rattle.laws_phases.proofs.facts.Calls.{argument_form_value}
 
 operand_is : (v : ℕ → ℤ) (a : Operand) → value v (operand_form a) ≡ operand_value v a
@@ -30,7 +30,7 @@ operand_is v (Register x) = value_register v x.0
 
 -- each phi has an entry for the block
 abbrev pub HaveEntries : ℕ → List Phi → Type 0
-HaveEntries from phis = All (λ phi. is_some (value_from from phi.entries) ≡ true) phis
+HaveEntries from phis = All (λ phi. is_some (entry_for from phi.entries) ≡ true) phis
 
 module _ (v : ℕ → ℤ) (from : ℕ) where
   -- a phi's value, where no later phi is of its register
@@ -50,15 +50,15 @@ module _ (v : ℕ → ℤ) (from : ℕ) where
   phis_put : (phis : List Phi) (forms : ℕ → Combination) → AreApart phis → HaveEntries from phis → (x : ℕ) → value v (phi_forms from phis forms x) ≡ moved_or (moves_from from phis) v (λ y. value v (forms y)) x
   phis_put [] forms apart there x = refl
   phis_put (phi ∷ phis) forms apart there x =
-      by (value_from from phi.entries) refl (All-head (λ (p : Phi). is_some (value_from from p.entries) ≡ true) phi phis there)
-      (phis_put phis (λ y. cond (eqb phi.register.0 y) (entry_form (entry_for from phi.entries)) (forms y)) apart.1 (All-tail (λ (p : Phi). is_some (value_from from p.entries) ≡ true) phi phis there) x)
+      by (entry_for from phi.entries) refl (All-head (λ (p : Phi). is_some (entry_for from p.entries) ≡ true) phi phis there)
+      (phis_put phis (λ y. cond (eqb phi.register.0 y) (entry_form (entry_for from phi.entries)) (forms y)) apart.1 (All-tail (λ (p : Phi). is_some (entry_for from p.entries) ≡ true) phi phis there) x)
     where
-      by : (o : Option Operand) → value_from from phi.entries ≡ o → is_some o ≡ true →
+      by : (o : Option Operand) → entry_for from phi.entries ≡ o → is_some o ≡ true →
           value v (phi_forms from phis (λ y. cond (eqb phi.register.0 y) (entry_form (entry_for from phi.entries)) (forms y)) x) ≡ moved_or (moves_from from phis) v (λ y. value v (cond (eqb phi.register.0 y) (entry_form (entry_for from phi.entries)) (forms y))) x →
           value v (phi_forms from phis (λ y. cond (eqb phi.register.0 y) (entry_form (entry_for from phi.entries)) (forms y)) x) ≡ moved_or (cons_option (option_map (λ a. record { register = phi.register; value = a }) o) (moves_from from phis)) v (λ y. value v (forms y)) x
       by None is there rest = absurd (false≢true there)
       by (Some a) is there rest =
-          let entry : entry_for from phi.entries ≡ Some a = sym (value_from_is from phi.entries) ∙ is in
+          let entry : entry_for from phi.entries ≡ Some a = is in
           rest ∙ one_put phi phis forms a (entry_form (entry_for from phi.entries)) x apart.0 (ap (λ o. value v (entry_form o)) entry ∙ operand_is v a)
 
   -- on the edge from a block

@@ -1,13 +1,12 @@
 -- What stands at a place, and the edges behind it.
-use Rattle.std.proofs.Common.{◌≡◌, ℕ, zero, suc, ◌+◌, inl, inr, List, [], ◌∷◌, ◌++◌, length, Option, Some, None, is_some, true, refl, ap, ◌∙◌, arith, slice_get, false}
-use Rattle.std.specs.List.{Contains, flat_map}
-use Rattle.std.proofs.lemmas.List.Elements.{Contains-append_left, Contains-append_right}
+use Rattle.std.proofs.Common.{◌≡◌, ℕ, zero, suc, ◌+◌, inl, inr, List, [], ◌∷◌, length, map, Option, Some, None, is_some, true, refl, sym, ap, ◌∙◌, subst, arith, slice_get, false}
+use Rattle.std.specs.List.{Contains}
+use Rattle.std.specs.Option.{option_map}
+use Rattle.linear.specs.declared.form.RegisterId.{RegisterId}
 use Rattle.semantics.specs.Frames.{and_then, Item, Does, Ends, item_of, block_at, item_at}
-use Rattle.program.specs.declared.identifier.BlockId.{BlockId}
 use Rattle.program.specs.declared.function.Block.{Block}
 use Rattle.program.specs.declared.function.Function.{Function}
 use Rattle.program.specs.declared.function.Program.{Program}
-use Rattle.program.specs.declared.instruction.Case.{Case}
 use Rattle.program.specs.declared.instruction.Ending.{Ending}
 use Rattle.program.specs.declared.instruction.Instruction.{Instruction}
 use Rattle.program.specs.declared.instruction.Step.{Step}
@@ -16,10 +15,13 @@ use Rattle.program.specs.declared.instruction.Terminator.TheVariants as terminat
 use Rattle.cfg.specs.declared.structure.Edge.{Edge}
 use Rattle.cfg.specs.declared.structure.Way.{Way}
 use Rattle.cfg.specs.declared.structure.Way.TheVariants as way
-use Rattle.cfg.specs.Edges.{moves_from, edge_to, edges_along, edges_at_end, edges_from, graph_of}
+use Rattle.cfg.specs.declared.structure.Guard.TheVariants.{Silent, Tested}
+use Rattle.cfg.specs.declared.structure.Successor.{Successor}
+use Rattle.cfg.specs.Edges.{successor, case_successor, successors, edge_into, edge_of, edges_along, edges_at_end, edges_from, graph_of}
 use Rattle.cfg.specs.Paths.{edges_of}
 use Rattle.laws_phases.specs.defined.Leads.{LeadsTo, IsBlock}
-use Rattle.laws_phases.proofs.defined.Lists.{first_within, flat_within}
+use Rattle.cfg.proofs.Searching.{Contains_map}
+use Rattle.laws_phases.proofs.defined.Lists.{first_within, later_within, chosen_within}
 
 -- ---- blocks
 
@@ -100,60 +102,67 @@ pub record Along (edges : List Edge) (w : Way) (to : ℕ) : Type 0 where
   pub target : edge.to.0 ≡ to
   pub way_is : edge.way ≡ w
 
-along_left : (xs ys : List Edge) (w : Way) (to : ℕ) → Along xs w to → Along (xs ++ ys) w to
-along_left xs ys w to h = record { edge = h.edge; within = Contains-append_left xs ys h.edge h.within; target = h.target; way_is = h.way_is }
+abbrev IsSuccessor : Terminator → Way → ℕ → Type 0
+IsSuccessor t w b = (x : Successor) × Contains (successors t) x × (x.way ≡ w) × (x.to.0 ≡ b)
 
-along_right : (xs ys : List Edge) (w : Way) (to : ℕ) → Along ys w to → Along (xs ++ ys) w to
-along_right xs ys w to h = record { edge = h.edge; within = Contains-append_right xs ys h.edge h.within; target = h.target; way_is = h.way_is }
+first_to : (t : Terminator) (x : Successor) (xs : List Successor) (b : ℕ) → successors t ≡ x ∷ xs → x.to.0 ≡ b → IsSuccessor t x.way b
+first_to t x xs b are to = (x, subst (λ ys. Contains ys x) (sym are) (first_within x xs), refl, to)
 
-module _ (blocks : List Block) (from : ℕ) where
-  edge_there : (w : Way) (to : BlockId) (b : ℕ) (target : Block) → to.0 ≡ b → slice_get blocks b ≡ Some target → Along (edge_to blocks from w to) w b
-  edge_there w to b target same at =
-      let read : slice_get blocks to.0 ≡ Some target = ap (λ n. slice_get blocks n) same ∙ at in
-      let e : Edge = record { to = to; way = w; moves = moves_from from target.phis } in
-      rw read (record { edge = e; within = first_within e []; target = same; way_is = refl })
+later_to : (t : Terminator) (y x : Successor) (xs : List Successor) (b : ℕ) → successors t ≡ y ∷ xs → Contains xs x → x.to.0 ≡ b → IsSuccessor t x.way b
+later_to t y x xs b are there to = (x, subst (λ ys. Contains ys x) (sym are) (later_within y x xs there), refl, to)
 
-  cases_there : (cases : List Case) (c : Case) (b : ℕ) (target : Block) → Contains cases c → c.target.0 ≡ b → slice_get blocks b ≡ Some target → Along (flat_map (λ (x : Case). edge_to blocks from way.Branch x.target) cases) way.Branch b
-  cases_there cases c b target within same at =
-      let h = edge_there way.Branch c.target b target same at in
-      record { edge = h.edge; within = flat_within (λ (x : Case). edge_to blocks from way.Branch x.target) cases c h.edge within h.within; target = h.target; way_is = h.way_is }
+-- where a terminator leads is one of its successors
+is_successor : (t : Terminator) (w : Way) (b : ℕ) → LeadsTo t w b → IsSuccessor t w b
+is_successor (terminator.Jump x) way.Branch b h = first_to (terminator.Jump x) (successor way.Branch x Silent) [] b refl h
+is_successor (terminator.Branch test x y) way.Branch b (inl h) =
+    first_to (terminator.Branch test x y) (successor way.Branch x (Tested test true)) (successor way.Branch y (Tested test false) ∷ []) b refl h
+is_successor (terminator.Branch test x y) way.Branch b (inr h) =
+    let second = successor way.Branch y (Tested test false) in
+    later_to (terminator.Branch test x y) (successor way.Branch x (Tested test true)) second (second ∷ []) b refl (first_within second []) h
+is_successor (terminator.Switch w a default cases) way.Branch b (inl h) = first_to (terminator.Switch w a default cases) (successor way.Branch default Silent) (map (case_successor a) cases) b refl h
+is_successor (terminator.Switch w a default cases) way.Branch b (inr h) =
+    later_to (terminator.Switch w a default cases) (successor way.Branch default Silent) (case_successor a h.0) (map (case_successor a) cases) b refl (Contains_map (case_successor a) cases h.0 h.1) h.2
+is_successor (terminator.Return v) way.Branch b h = absurd h
+is_successor (terminator.Detach r x y) way.Branch b h = absurd h
+is_successor (terminator.Reattach r x) way.Branch b h = absurd h
+is_successor (terminator.Sync r x) way.Branch b h = absurd h
+is_successor (terminator.Jump x) way.Detached b h = absurd h
+is_successor (terminator.Branch test x y) way.Detached b h = absurd h
+is_successor (terminator.Switch w a default cases) way.Detached b h = absurd h
+is_successor (terminator.Return v) way.Detached b h = absurd h
+is_successor (terminator.Detach r x y) way.Detached b h = first_to (terminator.Detach r x y) (successor way.Detached x Silent) (successor way.Continued y Silent ∷ []) b refl h
+is_successor (terminator.Reattach r x) way.Detached b h = absurd h
+is_successor (terminator.Sync r x) way.Detached b h = absurd h
+is_successor (terminator.Jump x) way.Continued b h = absurd h
+is_successor (terminator.Branch test x y) way.Continued b h = absurd h
+is_successor (terminator.Switch w a default cases) way.Continued b h = absurd h
+is_successor (terminator.Return v) way.Continued b h = absurd h
+is_successor (terminator.Detach r x y) way.Continued b h =
+    let second = successor way.Continued y Silent in
+    later_to (terminator.Detach r x y) (successor way.Detached x Silent) second (second ∷ []) b refl (first_within second []) h
+is_successor (terminator.Reattach r x) way.Continued b h = absurd h
+is_successor (terminator.Sync r x) way.Continued b h = absurd h
+is_successor (terminator.Jump x) (way.Synced region) b h = absurd h
+is_successor (terminator.Branch test x y) (way.Synced region) b h = absurd h
+is_successor (terminator.Switch w a default cases) (way.Synced region) b h = absurd h
+is_successor (terminator.Return v) (way.Synced region) b h = absurd h
+is_successor (terminator.Detach r x y) (way.Synced region) b h = absurd h
+is_successor (terminator.Reattach r x) (way.Synced region) b h = absurd h
+is_successor (terminator.Sync r x) (way.Synced region) b h =
+    let same : r ≡ region = ap (λ n. record { 0 = n }) h.0 in
+    subst (λ (q : RegisterId). IsSuccessor (terminator.Sync r x) (way.Synced q) b) same (first_to (terminator.Sync r x) (successor (way.Synced r) x Silent) [] b refl h.1)
 
-  -- an edge where a terminator leads to a block
-  pub leads_along : (t : Terminator) (w : Way) (b : ℕ) (target : Block) → slice_get blocks b ≡ Some target → LeadsTo t w b → Along (edges_along blocks from t) w b
-  leads_along (terminator.Jump x) way.Branch b target at h = edge_there way.Branch x b target h at
-  leads_along (terminator.Branch test x y) way.Branch b target at (inl h) = along_left (edge_to blocks from way.Branch x) (edge_to blocks from way.Branch y) way.Branch b (edge_there way.Branch x b target h at)
-  leads_along (terminator.Branch test x y) way.Branch b target at (inr h) = along_right (edge_to blocks from way.Branch x) (edge_to blocks from way.Branch y) way.Branch b (edge_there way.Branch y b target h at)
-  leads_along (terminator.Switch w a default cases) way.Branch b target at (inl h) =
-      along_left (edge_to blocks from way.Branch default) (flat_map (λ (x : Case). edge_to blocks from way.Branch x.target) cases) way.Branch b (edge_there way.Branch default b target h at)
-  leads_along (terminator.Switch w a default cases) way.Branch b target at (inr h) =
-      along_right (edge_to blocks from way.Branch default) (flat_map (λ (x : Case). edge_to blocks from way.Branch x.target) cases) way.Branch b (cases_there cases h.0 b target h.1 h.2 at)
-  leads_along (terminator.Return v) way.Branch b target at h = absurd h
-  leads_along (terminator.Detach r x y) way.Branch b target at h = absurd h
-  leads_along (terminator.Reattach r x) way.Branch b target at h = absurd h
-  leads_along (terminator.Sync r x) way.Branch b target at h = absurd h
-  leads_along (terminator.Jump x) way.Detached b target at h = absurd h
-  leads_along (terminator.Branch test x y) way.Detached b target at h = absurd h
-  leads_along (terminator.Switch w a default cases) way.Detached b target at h = absurd h
-  leads_along (terminator.Return v) way.Detached b target at h = absurd h
-  leads_along (terminator.Detach r x y) way.Detached b target at h = along_left (edge_to blocks from way.Detached x) (edge_to blocks from way.Continued y) way.Detached b (edge_there way.Detached x b target h at)
-  leads_along (terminator.Reattach r x) way.Detached b target at h = absurd h
-  leads_along (terminator.Sync r x) way.Detached b target at h = absurd h
-  leads_along (terminator.Jump x) way.Continued b target at h = absurd h
-  leads_along (terminator.Branch test x y) way.Continued b target at h = absurd h
-  leads_along (terminator.Switch w a default cases) way.Continued b target at h = absurd h
-  leads_along (terminator.Return v) way.Continued b target at h = absurd h
-  leads_along (terminator.Detach r x y) way.Continued b target at h = along_right (edge_to blocks from way.Detached x) (edge_to blocks from way.Continued y) way.Continued b (edge_there way.Continued y b target h at)
-  leads_along (terminator.Reattach r x) way.Continued b target at h = absurd h
-  leads_along (terminator.Sync r x) way.Continued b target at h = absurd h
-  leads_along (terminator.Jump x) (way.Synced region) b target at h = absurd h
-  leads_along (terminator.Branch test x y) (way.Synced region) b target at h = absurd h
-  leads_along (terminator.Switch w a default cases) (way.Synced region) b target at h = absurd h
-  leads_along (terminator.Return v) (way.Synced region) b target at h = absurd h
-  leads_along (terminator.Detach r x y) (way.Synced region) b target at h = absurd h
-  leads_along (terminator.Reattach r x) (way.Synced region) b target at h = absurd h
-  leads_along (terminator.Sync r x) (way.Synced region) b target at h =
-      let same : r ≡ region = ap (λ n. record { 0 = n }) h.0 in
-      rw (← same) (edge_there (way.Synced r) x b target h.1 at)
+-- an edge where a terminator leads to a block
+pub leads_along : (blocks : List Block) (from : ℕ) (t : Terminator) (w : Way) (b : ℕ) (target : Block) → slice_get blocks b ≡ Some target → LeadsTo t w b → Along (edges_along blocks from t) w b
+leads_along blocks from t w b target at h =
+    let (x, there, way_is, to) = is_successor t w b h in
+    let read : slice_get blocks x.to.0 ≡ Some target = ap (λ n. slice_get blocks n) to ∙ at in
+    record {
+      edge = edge_into from x target;
+      within = chosen_within (edge_of blocks from) (successors t) x (edge_into from x target) there (ap (option_map (edge_into from x)) read);
+      target = to;
+      way_is = way_is;
+    }
 
 -- the edge of a frame's function behind a terminator at a place
 pub edge_behind : (prog : Program) (f b to : ℕ) (function : Function) (block target : Block) (ending : Ending) (w : Way) → IsBlock prog f b function block → block.ending ≡ Some ending → slice_get function.blocks to ≡ Some target → LeadsTo ending.terminator w to →

@@ -1,6 +1,6 @@
--- Elements of lists that are joined.
-use Rattle.std.proofs.Common.{◌≡◌, ℕ, zero, suc, ◌⊎◌, inl, inr, List, [], ◌∷◌, Some, sym, ap, subst, arith, slice_get}
-use Rattle.std.specs.List.{Contains, flat_map}
+-- Elements of lists that are joined, and of those that are chosen from a list.
+use Rattle.std.proofs.Common.{◌≡◌, ℕ, zero, suc, ◌⊎◌, inl, inr, List, [], ◌∷◌, Option, Some, None, sym, ap, ◌∙◌, subst, arith, slice_get}
+use Rattle.std.specs.List.{Contains, cons_option, filter_map, flat_map}
 use Rattle.std.proofs.lemmas.List.Elements.{Contains-append_left, Contains-append_right, Contains-append_cases, Contains-push, Contains-push_cases}
 
 pub none_within : {X : Type 0} (x : X) → Contains [] x → ⊥
@@ -37,9 +37,28 @@ flat_within f (y ∷ ys) x a c h = elim (within_cases y x ys c) [
   | inr k ↦ Contains-append_right (f y) (flat_map f ys) a (flat_within f ys x a k h)
 ]
 
-pub within_flat : {X A : Type 0} (f : X → List A) (xs : List X) (a : A) → Contains (flat_map f xs) a → (x : X) × Contains xs x × Contains (f x) a
-within_flat f [] a c = absurd (none_within a c)
-within_flat f (y ∷ ys) a c = elim (Contains-append_cases (f y) (flat_map f ys) a c) [
+first_chosen : {A : Type 0} (o : Option A) (rest : List A) (a : A) → o ≡ Some a → Contains (cons_option o rest) a
+first_chosen None rest a h = absurd (cc)
+first_chosen (Some b) rest a h = let same : b ≡ a = cc in subst (λ z. Contains (z ∷ rest) a) (sym same) (first_within a rest)
+
+later_chosen : {A : Type 0} (o : Option A) (rest : List A) (a : A) → Contains rest a → Contains (cons_option o rest) a
+later_chosen None rest a c = c
+later_chosen (Some b) rest a c = later_within b a rest c
+
+chosen_cases : {A : Type 0} (o : Option A) (rest : List A) (a : A) → Contains (cons_option o rest) a → (o ≡ Some a) ⊎ Contains rest a
+chosen_cases None rest a c = inr c
+chosen_cases (Some b) rest a c = elim (within_cases b a rest c) [ inl e ↦ inl (ap (λ z. Some z) e) | inr k ↦ inr k ]
+
+pub chosen_within : {X A : Type 0} (f : X → Option A) (xs : List X) (x : X) (a : A) → Contains xs x → f x ≡ Some a → Contains (filter_map f xs) a
+chosen_within f [] x a c h = absurd (none_within x c)
+chosen_within f (y ∷ ys) x a c h = elim (within_cases y x ys c) [
+  | inl e ↦ first_chosen (f y) (filter_map f ys) a (ap f e ∙ h)
+  | inr k ↦ later_chosen (f y) (filter_map f ys) a (chosen_within f ys x a k h)
+]
+
+pub within_chosen : {X A : Type 0} (f : X → Option A) (xs : List X) (a : A) → Contains (filter_map f xs) a → (x : X) × Contains xs x × (f x ≡ Some a)
+within_chosen f [] a c = absurd (none_within a c)
+within_chosen f (y ∷ ys) a c = elim (chosen_cases (f y) (filter_map f ys) a c) [
   | inl h ↦ (y, first_within y ys, h)
-  | inr h ↦ let r = within_flat f ys a h in (r.0, later_within y r.0 ys r.1, r.2)
+  | inr h ↦ let r = within_chosen f ys a h in (r.0, later_within y r.0 ys r.1, r.2)
 ]

@@ -1,9 +1,8 @@
 -- Paths that come to a block for the first time, and what they pass on the way into a child.
-use Rattle.std.proofs.Common.{◌≡◌, ◌≢◌, ℕ, ◌⊎◌, inl, inr, List, [], ◌∷◌, ◌++◌, Option, Some, None, refl, sym, ap, subst, ◌∙◌, slice_get}
+use Rattle.std.proofs.Common.{◌≡◌, ◌≢◌, ℕ, ◌⊎◌, inl, inr, List, [], ◌∷◌, Option, Some, None, refl, sym, ap, subst, ◌∙◌, slice_get}
 use Rattle.std.specs.List.{Contains}
-use Rattle.std.specs.Option.{option_map, option_to_list}
+use Rattle.std.specs.Option.{option_map}
 use Rattle.std.proofs.lemmas.Bool.{cases_eq}
-use Rattle.std.proofs.lemmas.List.Elements.{Contains-append_cases}
 use Rattle.linear.specs.declared.form.RegisterId.{RegisterId}
 use Rattle.program.specs.declared.identifier.BlockId.{BlockId}
 use Rattle.program.specs.declared.function.Block.{Block}
@@ -17,14 +16,16 @@ use Rattle.cfg.specs.declared.structure.Edge.{Edge}
 use Rattle.cfg.specs.declared.structure.Way.{Way}
 use Rattle.cfg.specs.declared.structure.Way.TheVariants as way
 use Rattle.cfg.specs.declared.structure.BlockEdges.{BlockEdges}
-use Rattle.cfg.specs.Edges.{moves_from, edge_to, edges_along, graph_of}
+use Rattle.cfg.specs.declared.structure.Guard.TheVariants.{Silent}
+use Rattle.cfg.specs.declared.structure.Successor.{Successor}
+use Rattle.cfg.specs.Edges.{successor, edge_into, edge_of, edges_along, graph_of}
 use Rattle.cfg.specs.Paths.{edges_of, Leg, IsPath}
 use Rattle.region_match.specs.Mixed.{IsMixedIn}
 use Rattle.region_match.specs.Rules.{terminator_of, ending_of, ending_at}
 use Rattle.region_match.specs.Tasks.{task_along, task_on}
 use Rattle.region_match.specs.Matched.{AreRegionsRight}
 use Rattle.laws_phases.specs.defined.Leads.{IsBlock}
-use Rattle.laws_phases.proofs.defined.Lists.{none_within, within_cases}
+use Rattle.laws_phases.proofs.defined.Lists.{none_within, within_cases, within_chosen}
 use Rattle.laws_phases.proofs.defined.Items.{block_edges}
 use Rattle.laws_phases.proofs.defined.RegionTests.{same_or_not}
 use Rattle.laws_phases.proofs.defined.Roles.{any_function}
@@ -73,26 +74,29 @@ ending_there bodies b t e = by_block (slice_get bodies b) refl e
     by_block None at h = absurd (cc)
     by_block (Some block) at h = by_ending block at block.ending refl h
 
-edge_read : (blocks : List Block) (from : ℕ) (w : Way) (to : BlockId) (e : Edge) → Contains (edge_to blocks from w to) e → (e.to ≡ to) × (e.way ≡ w)
-edge_read blocks from w to e c = by (slice_get blocks to.0) c
+edge_read : (blocks : List Block) (from : ℕ) (x : Successor) (e : Edge) → edge_of blocks from x ≡ Some e → (e.to ≡ x.to) × (e.way ≡ x.way)
+edge_read blocks from x e is = by (slice_get blocks x.to.0) is
   where
-    by : (o : Option Block) → Contains (option_to_list (option_map (λ (target : Block). record { to = to; way = w; moves = moves_from from target.phis }) o)) e → (e.to ≡ to) × (e.way ≡ w)
-    by None h = absurd (none_within e h)
+    by : (o : Option Block) → option_map (edge_into from x) o ≡ Some e → (e.to ≡ x.to) × (e.way ≡ x.way)
+    by None h = absurd (cc)
     by (Some target) h =
-        let made : Edge = record { to = to; way = w; moves = moves_from from target.phis } in
-        elim (within_cases made e [] h) [
-          | inl same ↦ (sym (ap (λ (x : Edge). x.to) same), sym (ap (λ (x : Edge). x.way) same))
-          | inr k ↦ absurd (none_within e k)
-        ]
+        let same : edge_into from x target ≡ e = cc in
+        (sym (ap (λ (y : Edge). y.to) same), sym (ap (λ (y : Edge). y.way) same))
 
 detached_edge : (function : Function) (detach : ℕ) (region : RegisterId) (body continuation : BlockId) (e : Edge) → ending_at function.blocks detach ≡ Some (terminator.Detach region body continuation) → Contains (edges_of (graph_of function).blocks detach) e → e.way ≡ way.Detached → e.to.0 ≡ body.0
 detached_edge function detach region body continuation e ends within detached =
     let x = ending_there function.blocks detach (terminator.Detach region body continuation) ends in
     let read : edges_of (graph_of function).blocks detach ≡ edges_along function.blocks detach (terminator.Detach region body continuation) = block_edges function detach x.0 x.1 x.2 x.3 ∙ ap (λ t. edges_along function.blocks detach t) x.4 in
-    let there : Contains (edge_to function.blocks detach way.Detached body ++ edge_to function.blocks detach way.Continued continuation) e = subst (λ es. Contains es e) read within in
-    elim (Contains-append_cases (edge_to function.blocks detach way.Detached body) (edge_to function.blocks detach way.Continued continuation) e there) [
-      | inl h ↦ ap (λ (b : BlockId). b.0) (edge_read function.blocks detach way.Detached body e h).0
-      | inr h ↦ absurd (let k : way.Continued ≡ way.Detached = sym (edge_read function.blocks detach way.Continued continuation e h).1 ∙ detached in cc)
+    let first : Successor = successor way.Detached body Silent in
+    let second : Successor = successor way.Continued continuation Silent in
+    let (along, among, is) = within_chosen (edge_of function.blocks detach) (first ∷ second ∷ []) e (subst (λ es. Contains es e) read within) in
+    let (to, way_is) = edge_read function.blocks detach along e is in
+    elim (within_cases first along (second ∷ []) among) [
+      | inl same ↦ ap (λ (b : BlockId). b.0) to ∙ ap (λ (y : Successor). y.to.0) (sym same)
+      | inr later ↦ elim (within_cases second along [] later) [
+        | inl same ↦ absurd (let k : way.Continued ≡ way.Detached = ap (λ (y : Successor). y.way) same ∙ sym way_is ∙ detached in cc)
+        | inr none ↦ absurd (none_within along none)
+      ]
     ]
 
 module _ (function : Function) (detach : ℕ) (outer : List ℕ) (region : RegisterId) (body continuation : BlockId) (ends : ending_at function.blocks detach ≡ Some (terminator.Detach region body continuation)) where

@@ -12,7 +12,8 @@ use Rattle.std.proofs.lemmas.List.Elements.{All-nil, All-head, All-tail, All-app
 use Rattle.semantics.specs.Paths.{Path}
 use Rattle.semantics.specs.Arithmetic.{compares}
 use Rattle.semantics.specs.Frames.{Word, Truth, Registers, Frame, Does, item_of, item_at, phis_at, and_then, truth_of, word_at, set_register}
-use Rattle.semantics.specs.Effect.{Effect, Plain, given, enters, jumps, case_for, registers_along, entry_for, with_phis, terminator_action}
+use Rattle.semantics.specs.Effect.{Effect, Plain, given, enters, jumps, case_for, registers_along, with_phis, terminator_action}
+use Rattle.program.specs.Phis.{entry_for}
 use Rattle.semantics.proofs.Actions.{same_effect}
 use Rattle.linear.specs.Forms.{Holds}
 use Rattle.linear_shown.specs.Shown.{AllHold}
@@ -31,20 +32,19 @@ use Rattle.program.specs.declared.instruction.Instruction.TheVariants as instruc
 use Rattle.program.specs.declared.instruction.Operand.{Operand}
 use Rattle.program.specs.declared.instruction.Operand.TheVariants.{Number, Register}
 use Rattle.program.specs.declared.instruction.Phi.{Phi}
-use Rattle.program.specs.declared.instruction.PhiEntry.{PhiEntry}
 use Rattle.program.specs.declared.instruction.Step.{Step}
 use Rattle.program.specs.declared.instruction.Terminator.{Terminator}
 use Rattle.program.specs.declared.instruction.Terminator.TheVariants as terminator
 use Rattle.cfg.specs.declared.structure.Move.{Move}
 use Rattle.cfg.specs.declared.structure.Way.TheVariants.{Branch, Detached, Continued, Synced}
-use Rattle.cfg.specs.Edges.{value_from, moves_from}
+use Rattle.cfg.specs.Edges.{case_successor, moves_from}
 use Rattle.ranges.specs.declared.edge.Comparison.{Comparison}
 use Rattle.ranges.specs.declared.edge.EdgeSums.{EdgeSums}
 use Rattle.ranges.specs.ranges_owed.Sums.{one}
 use Rattle.ranges.specs.Sums.{facts_of}
 use Rattle.ranges.specs.Truth.{operand_value, IsTrueAt}
 use Rattle.ranges.specs.ranges_owed.Inequalities.{operand_for, difference_of}
-use Rattle.ranges.specs.Edges.{compare_of, compared, at_least, above, compare_sums, branch_sums, case_sums, edge_to, edges_out, keeps_of}
+use Rattle.ranges.specs.Edges.{compare_of, compared, at_least, above, compare_sums, branch_sums, case_sums, edge_to, edge_along, edges_out, keeps_of}
 use Rattle.program.specs.Blocks.{block_phis}
 use Rattle.program.specs.Steps.{or_else}
 use Rattle.ranges.proofs.Truth.{facts_true}
@@ -80,14 +80,10 @@ pub moved_or_same : (moves : List Move) (v w u : ℕ → ℤ) (x : ℕ) → w x 
 moved_or_same [] v w u x e = e
 moved_or_same (m ∷ moves) v w u x e = ap (λ z. cond (eqb m.register.0 x) (operand_value v m.value) z) (moved_or_same moves v w u x e)
 
-pub value_from_is : (from : ℕ) (entries : List PhiEntry) → value_from from entries ≡ entry_for from entries
-value_from_is from [] = refl
-value_from_is from (e ∷ entries) = ap (λ o. cond (eqb e.predecessor.0 from) (Some e.value) o) (value_from_is from entries)
-
 -- no move is of a register that no phi defines
 pub not_moved : (from : ℕ) (phis : List Phi) (v w : ℕ → ℤ) (d : ℕ) → All (λ other. other.register.0 ≢ d) phis → moved_or (moves_from from phis) v w d ≡ w d
 not_moved from [] v w d all = refl
-not_moved from (phi ∷ phis) v w d all = by_entry (value_from from phi.entries) (not_moved from phis v w d (All-tail (λ (other : Phi). other.register.0 ≢ d) phi phis all))
+not_moved from (phi ∷ phis) v w d all = by_entry (entry_for from phi.entries) (not_moved from phis v w d (All-tail (λ (other : Phi). other.register.0 ≢ d) phi phis all))
   where
     by_entry : (o : Option Operand) → moved_or (moves_from from phis) v w d ≡ w d → moved_or (cons_option (option_map (λ a. record { register = phi.register; value = a }) o) (moves_from from phis)) v w d ≡ w d
     by_entry None rest = rest
@@ -108,7 +104,7 @@ one_moved r d z moves v a is apart x = elim (eqb_tells d.0 x) [
 phis_moved : (given : Registers) (from : ℕ) (phis : List Phi) (r s : Registers) → AreApart phis → with_phis given from phis r ≡ Some s → (x : ℕ) → numbers s x ≡ moved_or (moves_from from phis) (numbers given) (numbers r) x
 phis_moved given from [] r s apart e x = let same : r ≡ s = cc in sym (ap (λ (u : Registers). numbers u x) same)
 phis_moved given from (phi ∷ phis) r s apart e x =
-    by_entry (value_from from phi.entries) refl (λ z h. phis_moved given from phis (set_register r phi.register (Word z)) s apart.1 h x)
+    by_entry (entry_for from phi.entries) refl (λ z h. phis_moved given from phis (set_register r phi.register (Word z)) s apart.1 h x)
   where
     by_word : (a : Operand) (o : Option ℤ) → word_at given a ≡ o → and_then o (λ z. with_phis given from phis (set_register r phi.register (Word z))) ≡ Some s →
         ((z : ℤ) → with_phis given from phis (set_register r phi.register (Word z)) ≡ Some s → numbers s x ≡ moved_or (moves_from from phis) (numbers given) (numbers (set_register r phi.register (Word z))) x) →
@@ -117,14 +113,14 @@ phis_moved given from (phi ∷ phis) r s apart e x =
     by_word a (Some z) is h rest =
         rest z h ∙ one_moved r phi.register z (moves_from from phis) (numbers given) a (word_value given a z is) (not_moved from phis (numbers given) (numbers (set_register r phi.register (Word z))) phi.register.0 apart.0) x
 
-    by_entry : (o : Option Operand) → value_from from phi.entries ≡ o →
+    by_entry : (o : Option Operand) → entry_for from phi.entries ≡ o →
         ((z : ℤ) → with_phis given from phis (set_register r phi.register (Word z)) ≡ Some s → numbers s x ≡ moved_or (moves_from from phis) (numbers given) (numbers (set_register r phi.register (Word z))) x) →
         numbers s x ≡ moved_or (cons_option (option_map (λ a. record { register = phi.register; value = a }) o) (moves_from from phis)) (numbers given) (numbers r) x
     by_entry None is rest =
-        let none : entry_for from phi.entries ≡ None = sym (value_from_is from phi.entries) ∙ is in
+        let none : entry_for from phi.entries ≡ None = is in
         absurd (let h : None ≡ Some s = sym (ap (λ o. and_then (and_then o (word_at given)) (λ z. with_phis given from phis (set_register r phi.register (Word z)))) none) ∙ e in cc)
     by_entry (Some a) is rest =
-        let some : entry_for from phi.entries ≡ Some a = sym (value_from_is from phi.entries) ∙ is in
+        let some : entry_for from phi.entries ≡ Some a = is in
         by_word a (word_at given a) refl (sym (ap (λ o. and_then (and_then o (word_at given)) (λ z. with_phis given from phis (set_register r phi.register (Word z)))) some) ∙ e) rest
 
 -- ---- compares and cases
@@ -267,12 +263,12 @@ module _ (prog : Program) (f : Frame) (steps : List Step) (tests : (k : ℕ) (st
   switch_taken w a default cases z is = from (case_is z default.0 cases)
     where
       from : (case_for z default.0 cases ≡ default.0) ⊎ ((c : Case) × Contains cases c × (c.target.0 ≡ case_for z default.0 cases) × (z ≡ c.number)) → Taken (terminator.Switch w a default cases) (case_for z default.0 cases)
-      from (inl e) = record { edge = edge_to default Branch []; among = first_within (edge_to default Branch []) (map (λ c. edge_to c.target Branch (case_sums a c.number)) cases); to = sym e; sums = none_true (numbers f.registers) }
+      from (inl e) = record { edge = edge_to default Branch []; among = first_within (edge_to default Branch []) (map (edge_along steps) (map (case_successor a) cases)); to = sym e; sums = none_true (numbers f.registers) }
       from (inr (c, there, to, same)) = record {
         edge = edge_to c.target Branch (case_sums a c.number);
         among =
-            later_within (edge_to default Branch []) (edge_to c.target Branch (case_sums a c.number)) (map (λ d. edge_to d.target Branch (case_sums a d.number)) cases)
-            (Contains_map (λ (d : Case). edge_to d.target Branch (case_sums a d.number)) cases c there);
+            later_within (edge_to default Branch []) (edge_to c.target Branch (case_sums a c.number)) (map (edge_along steps) (map (case_successor a) cases))
+            (Contains_map (edge_along steps) (map (case_successor a) cases) (case_successor a c) (Contains_map (case_successor a) cases c there));
         to = to;
         sums = case_true (numbers f.registers) a c.number (word_value f.registers a z is ∙ same);
       }

@@ -1,10 +1,10 @@
 -- Which regions are open at a block is found by a search.
-use Rattle.std.proofs.Common.{◌≡◌, ℕ, ◌<◌, ◌≤◌, Bool, true, not, ◌&&◌, inl, inr, List, [], ◌∷◌, ◌++◌, length, Option, Some, None, refl, sym, ap, ◌∙◌, subst, arith, slice_get}
+use Rattle.std.proofs.Common.{◌≡◌, ℕ, ◌<◌, ◌≤◌, Bool, true, not, ◌&&◌, List, [], ◌∷◌, ◌++◌, length, Option, Some, None, refl, sym, ap, ◌∙◌, subst, arith, slice_get}
 use Rattle.std.specs.Prelude.{IsSome}
-use Rattle.std.specs.List.{Contains, flat_map}
-use Rattle.std.specs.Option.{option_map, option_to_list}
+use Rattle.std.specs.List.{Contains}
+use Rattle.std.specs.Option.{option_map}
 use Rattle.std.proofs.lemmas.Bool.{and_from, not-true, and_parts}
-use Rattle.std.proofs.lemmas.List.Elements.{All-contains, Contains-append_cases}
+use Rattle.std.proofs.lemmas.List.Elements.{All-contains}
 use Rattle.std.proofs.lemmas.Option.{slice_get_within}
 use Rattle.linear.specs.declared.form.RegisterId.{RegisterId}
 use Rattle.semantics.specs.Frames.{and_then, Ends, item_of, item_at}
@@ -13,7 +13,6 @@ use Rattle.program.specs.declared.identifier.BlockId.{BlockId}
 use Rattle.program.specs.declared.function.Block.{Block}
 use Rattle.program.specs.declared.function.Function.{Function}
 use Rattle.program.specs.declared.function.Program.{Program}
-use Rattle.program.specs.declared.instruction.Case.{Case}
 use Rattle.program.specs.declared.instruction.Ending.{Ending}
 use Rattle.program.specs.declared.instruction.Step.{Step}
 use Rattle.program.specs.declared.instruction.Terminator.{Terminator}
@@ -22,7 +21,8 @@ use Rattle.cfg.specs.declared.structure.BlockEdges.{BlockEdges}
 use Rattle.cfg.specs.declared.structure.Edge.{Edge}
 use Rattle.cfg.specs.declared.structure.Way.{Way}
 use Rattle.cfg.specs.declared.structure.Way.TheVariants as way
-use Rattle.cfg.specs.Edges.{moves_from, edge_to, edges_along, graph_of}
+use Rattle.cfg.specs.declared.structure.Successor.{Successor}
+use Rattle.cfg.specs.Edges.{successors, edge_into, edge_of, edges_along, graph_of}
 use Rattle.cfg.specs.Paths.{edges_of, Leg, IsPath}
 use Rattle.cfg.specs.Rules.{IsBlockRight, IsFunctionRight, IsGraphRight}
 use Rattle.region_match.specs.Rules.{ending_at, IsSync, IsUnsynced as AreUnsynced}
@@ -30,7 +30,7 @@ use Rattle.region_match.specs.Matched.{AreRegionsRight}
 use Rattle.region_match.specs.Tasks.{task_along, task_on, HasTask}
 use Rattle.laws_phases.specs.defined.Names.{IsNamed}
 use Rattle.laws_phases.proofs.defined.Items.{block_is, block_edges}
-use Rattle.laws_phases.proofs.defined.Lists.{none_within, at_within, within_cases, within_flat}
+use Rattle.laws_phases.proofs.defined.Lists.{at_within, within_chosen}
 use Rattle.laws_phases.proofs.defined.Paths.{no_edges}
 use Rattle.laws_phases.proofs.defined.Placed.{Arrives, arrives}
 use Rattle.laws_phases.proofs.defined.Visits.{ending_there, one_task}
@@ -43,34 +43,16 @@ use Rattle.laws_phases.proofs.regions.Tests.{forks_to, forks_there, forks_told, 
 abbrev IsThere : List Block → Edge → Type 0
 IsThere blocks e = (target : Block) × (slice_get blocks e.to.0 ≡ Some target)
 
-module _ (blocks : List Block) (from : ℕ) (e : Edge) where
-  edge_there : (w : Way) (to : BlockId) → Contains (edge_to blocks from w to) e → IsThere blocks e
-  edge_there w to c = by (slice_get blocks to.0) refl c
-    where
-      by : (o : Option Block) → slice_get blocks to.0 ≡ o → Contains (option_to_list (option_map (λ (target : Block). record { to = to; way = w; moves = moves_from from target.phis }) o)) e → IsThere blocks e
-      by None is h = absurd (none_within e h)
-      by (Some target) is h =
-          let made : Edge = record { to = to; way = w; moves = moves_from from target.phis } in
-          elim (within_cases made e [] h) [
-            | inl same ↦ (target, ap (λ (x : Edge). slice_get blocks x.to.0) (sym same) ∙ is)
-            | inr k ↦ absurd (none_within e k)
-          ]
-
-  case_there : (cases : List Case) → Contains (flat_map (λ (x : Case). edge_to blocks from way.Branch x.target) cases) e → IsThere blocks e
-  case_there cases c = let found = within_flat (λ (x : Case). edge_to blocks from way.Branch x.target) cases e c in edge_there way.Branch found.0.target found.2
-
-  either_there : (xs ys : List Edge) → Contains (xs ++ ys) e → (Contains xs e → IsThere blocks e) → (Contains ys e → IsThere blocks e) → IsThere blocks e
-  either_there xs ys c first second = elim (Contains-append_cases xs ys e c) [ inl h ↦ first h | inr h ↦ second h ]
-
-  target_there : (t : Terminator) → Contains (edges_along blocks from t) e → IsThere blocks e
-  target_there (terminator.Jump x) c = edge_there way.Branch x c
-  target_there (terminator.Branch test x y) c = either_there (edge_to blocks from way.Branch x) (edge_to blocks from way.Branch y) c (edge_there way.Branch x) (edge_there way.Branch y)
-  target_there (terminator.Switch w a default cases) c =
-      either_there (edge_to blocks from way.Branch default) (flat_map (λ (x : Case). edge_to blocks from way.Branch x.target) cases) c (edge_there way.Branch default) (case_there cases)
-  target_there (terminator.Return v) c = absurd (none_within e c)
-  target_there (terminator.Detach r x y) c = either_there (edge_to blocks from way.Detached x) (edge_to blocks from way.Continued y) c (edge_there way.Detached x) (edge_there way.Continued y)
-  target_there (terminator.Reattach r x) c = absurd (none_within e c)
-  target_there (terminator.Sync r x) c = edge_there (way.Synced r) x c
+target_there : (blocks : List Block) (from : ℕ) (e : Edge) (t : Terminator) → Contains (edges_along blocks from t) e → IsThere blocks e
+target_there blocks from e t c =
+    let (x, among, is) = within_chosen (edge_of blocks from) (successors t) e c in
+    by x (slice_get blocks x.to.0) refl is
+  where
+    by : (x : Successor) (o : Option Block) → slice_get blocks x.to.0 ≡ o → option_map (edge_into from x) o ≡ Some e → IsThere blocks e
+    by x None at h = absurd (cc)
+    by x (Some target) at h =
+        let same : edge_into from x target ≡ e = cc in
+        (target, ap (λ (y : Edge). slice_get blocks y.to.0) (sym same) ∙ at)
 
 -- ---- paths
 

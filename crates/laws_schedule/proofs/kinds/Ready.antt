@@ -5,7 +5,8 @@ use Rattle.std.proofs.lemmas.List.Elements.{Contains-append_left, Contains-appen
 use Rattle.semantics.specs.Paths.{Path}
 use Rattle.semantics.specs.Cells.{Object, Cell, Memory}
 use Rattle.semantics.specs.Frames.{Value, Word, Truth, Pointer, Region, Registers, Frame, Item, Does, Ends, and_then, block_phis, phis_at, item_at, word_of, truth_of, cell_of, region_of, set_register, word_at, object_at, first_cell, cell_at}
-use Rattle.semantics.specs.Effect.{entry_for, phi_value, with_phis, registers_along, case_for, argument_value, argument_values}
+use Rattle.semantics.specs.Effect.{phi_value, with_phis, registers_along, case_for, argument_value, argument_values}
+use Rattle.program.specs.Phis.{entry_for}
 use Rattle.semantics.proofs.Confluence.{one_result}
 use Rattle.linear.specs.declared.form.RegisterId.{RegisterId}
 use Rattle.syntax.specs.declared.operator.Width.{Width}

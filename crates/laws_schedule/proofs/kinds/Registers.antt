@@ -7,7 +7,8 @@ use Rattle.semantics.specs.Paths.{Path}
 use Rattle.semantics.specs.Cells.{Object, Local, Cell, Memory}
 use Rattle.semantics.specs.Arithmetic.{BadIndex, Answer, Gives, Traps, binary, compares, converts}
 use Rattle.semantics.specs.Frames.{Value, Word, Truth, Pointer, Region, Registers, Frame, and_then, block_at, block_phis, phis_at, cells_of, word_of, set_register, word_at, object_at, first_cell, cell_at}
-use Rattle.semantics.specs.Effect.{Effect, Action, Plain, Detach, Reattach, Sync, Call, Return, stops, sets, answers, given, points, loads, stores, stores_zeros, adds_to, entry_for, phi_value, with_phis, registers_along, argument_value, argument_values, calls, instruction_action}
+use Rattle.semantics.specs.Effect.{Effect, Action, Plain, Detach, Reattach, Sync, Call, Return, stops, sets, answers, given, points, loads, stores, stores_zeros, adds_to, phi_value, with_phis, registers_along, argument_value, argument_values, calls, instruction_action}
+use Rattle.program.specs.Phis.{entry_for}
 use Rattle.semantics.specs.State.{with_result}
 use Rattle.semantics.proofs.Confluence.{one_result}
 use Rattle.linear.specs.declared.form.RegisterId.{RegisterId}

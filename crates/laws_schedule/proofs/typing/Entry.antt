@@ -15,6 +15,7 @@ use Rattle.program.specs.declared.function.Program.{Program}
 use Rattle.program.specs.declared.identifier.BlockId.{BlockId}
 use Rattle.program.specs.declared.instruction.Case.{Case}
 use Rattle.program.specs.declared.instruction.Ending.{Ending}
+use Rattle.program.specs.declared.instruction.Operand.{Operand}
 use Rattle.program.specs.declared.instruction.Phi.{Phi}
 use Rattle.program.specs.declared.instruction.PhiEntry.{PhiEntry}
 use Rattle.program.specs.declared.instruction.Step.{Step}
@@ -31,12 +32,13 @@ use Rattle.laws_phases.specs.cfg.declared.structure.BlockEdges.{BlockEdges}
 use Rattle.laws_phases.specs.cfg.declared.structure.Edge.{Edge}
 use Rattle.laws_phases.specs.cfg.declared.structure.Way.{Way}
 use Rattle.laws_phases.specs.cfg.declared.structure.Way.TheVariants as way
-use Rattle.laws_phases.specs.cfg.Edges.{graph_of}
+use Rattle.laws_phases.specs.cfg.declared.structure.Successor.{Successor}
+use Rattle.laws_phases.specs.cfg.Edges.{case_successor, graph_of}
 use Rattle.laws_phases.specs.cfg.Paths.{edges_of}
 use Rattle.laws_phases.specs.cfg.Rules.{leads_to, HasPredecessor, IsMatched, IsBlockRight, IsFunctionRight, IsGraphRight}
 use Rattle.laws_phases.specs.region_match.Matched.{AreRegionsRight}
 use Rattle.laws_phases.specs.ranges.declared.edge.EdgeSums.{EdgeSums}
-use Rattle.laws_phases.specs.ranges.Edges.{edges_out, edge_to, compared, branch_sums, case_sums}
+use Rattle.laws_phases.specs.ranges.Edges.{edges_out, edge_along, edge_to, compared, branch_sums}
 use Rattle.types.specs.names.Layout.{layout_of}
 use Rattle.types.specs.names.Scope.{Scope}
 use Rattle.types.proofs.names.Inversion.{made_ok, both_ok}
@@ -63,8 +65,11 @@ is_number a b e = grind (arith, nat_tests)
 abbrev LeadsOut : Terminator → EdgeSums → Type 0
 LeadsOut t e = (w : Way) × LeadsTo t w e.to.0
 
-cases_lead : (t : Terminator) (value : _) (cases : List Case) → ((i : ℕ) (c : Case) → slice_get cases i ≡ Some c → LeadsTo t way.Branch c.target.0) → All (LeadsOut t) (map (λ (c : Case). edge_to c.target way.Branch (case_sums value c.number)) cases)
-cases_lead t value cases each = All-map (LeadsOut t) (λ (c : Case). edge_to c.target way.Branch (case_sums value c.number)) cases (all_each (λ (c : Case). (w : Way) × LeadsTo t w c.target.0) cases (λ i c e. (way.Branch, each i c e)))
+cases_lead : (steps : List Step) (t : Terminator) (value : Operand) (cases : List Case) → ((i : ℕ) (c : Case) → slice_get cases i ≡ Some c → LeadsTo t way.Branch c.target.0) →
+    All (LeadsOut t) (map (edge_along steps) (map (case_successor value) cases))
+cases_lead steps t value cases each =
+    All-map (LeadsOut t) (edge_along steps) (map (case_successor value) cases)
+    (All-map (λ (x : Successor). LeadsOut t (edge_along steps x)) (case_successor value) cases (all_each (λ (c : Case). (w : Way) × LeadsTo t w c.target.0) cases (λ i c e. (way.Branch, each i c e))))
 
 two_lead : (t : Terminator) (x y : EdgeSums) → LeadsOut t x → LeadsOut t y → All (LeadsOut t) (x ∷ y ∷ [])
 two_lead t x y h k = All-cons (LeadsOut t) x (y ∷ []) h (All-cons (LeadsOut t) y [] k (All-nil (LeadsOut t)))
@@ -77,8 +82,8 @@ out_leads steps (terminator.Jump x) = one_leads (terminator.Jump x) (edge_to x w
 out_leads steps (terminator.Branch c x y) =
     two_lead (terminator.Branch c x y) (edge_to x way.Branch (branch_sums (compared c steps) true)) (edge_to y way.Branch (branch_sums (compared c steps) false)) (way.Branch, inl refl) (way.Branch, inr refl)
 out_leads steps (terminator.Switch w a x cases) =
-    All-cons (LeadsOut (terminator.Switch w a x cases)) (edge_to x way.Branch []) (map (λ (c : Case). edge_to c.target way.Branch (case_sums a c.number)) cases) (way.Branch, inl refl)
-    (cases_lead (terminator.Switch w a x cases) a cases (λ i c e. inr (c, at_within cases i c e, refl)))
+    All-cons (LeadsOut (terminator.Switch w a x cases)) (edge_to x way.Branch []) (map (edge_along steps) (map (case_successor a) cases)) (way.Branch, inl refl)
+    (cases_lead steps (terminator.Switch w a x cases) a cases (λ i c e. inr (c, at_within cases i c e, refl)))
 out_leads steps (terminator.Return v) = All-nil (LeadsOut (terminator.Return v))
 out_leads steps (terminator.Detach r x y) = two_lead (terminator.Detach r x y) (edge_to x way.Detached []) (edge_to y way.Continued []) (way.Detached, refl) (way.Continued, refl)
 out_leads steps (terminator.Reattach r x) = All-nil (LeadsOut (terminator.Reattach r x))

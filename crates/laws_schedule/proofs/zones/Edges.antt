@@ -24,10 +24,10 @@ use Rattle.program.specs.declared.instruction.Terminator.TheVariants as terminat
 use Rattle.types.specs.Apart.{parameters_at}
 use Rattle.laws_phases.specs.cfg.declared.structure.Move.{Move}
 use Rattle.laws_phases.specs.cfg.declared.structure.Way.TheVariants as way
-use Rattle.laws_phases.specs.cfg.Edges.{moves_from}
+use Rattle.laws_phases.specs.cfg.Edges.{case_successor, moves_from}
 use Rattle.laws_phases.specs.ranges.declared.edge.EdgeSums.{EdgeSums}
 use Rattle.laws_phases.specs.ranges.declared.table.EdgeFacts.{EdgeFacts}
-use Rattle.laws_phases.specs.ranges.Edges.{compared, branch_sums, edges_out, edge_to, edge_facts, case_sums}
+use Rattle.laws_phases.specs.ranges.Edges.{compared, branch_sums, edges_out, edge_along, edge_to, edge_facts}
 use Rattle.laws_phases.specs.ranges_owed.Inequalities.{operand_for}
 use Rattle.laws_phases.specs.ranges.Places.{facts_at_end, edges_known}
 use Rattle.laws_phases.specs.ranges.Sums.{facts_of}
@@ -51,9 +51,9 @@ use Rattle.laws_phases.specs.region_match.declared.tables.Regions.{Regions}
 
 -- ---- ways
 
-ways_of_cases : (a : Operand) (cases : List Case) → All (λ (e : EdgeSums). e.way ≡ way.Branch) (map (λ c. edge_to c.target way.Branch (case_sums a c.number)) cases)
-ways_of_cases a [] = All-nil (λ (e : EdgeSums). e.way ≡ way.Branch)
-ways_of_cases a (c ∷ cases) = All-cons (λ (e : EdgeSums). e.way ≡ way.Branch) (edge_to c.target way.Branch (case_sums a c.number)) (map (λ d. edge_to d.target way.Branch (case_sums a d.number)) cases) refl (ways_of_cases a cases)
+ways_of_cases : (steps : List Step) (a : Operand) (cases : List Case) → All (λ (e : EdgeSums). e.way ≡ way.Branch) (map (edge_along steps) (map (case_successor a) cases))
+ways_of_cases steps a [] = All-nil (λ (e : EdgeSums). e.way ≡ way.Branch)
+ways_of_cases steps a (c ∷ cases) = All-cons (λ (e : EdgeSums). e.way ≡ way.Branch) (edge_along steps (case_successor a c)) (map (edge_along steps) (map (case_successor a) cases)) refl (ways_of_cases steps a cases)
 
 one_way : (P : EdgeSums → Type 0) (e : EdgeSums) → P e → All P (e ∷ [])
 one_way P e h = All-cons P e [] h (All-nil P)
@@ -65,7 +65,7 @@ branch_ways steps (terminator.Branch test x y) b to =
     All-cons (λ (e : EdgeSums). e.way ≡ way.Branch) (edge_to x way.Branch (branch_sums (compared test steps) true)) (edge_to y way.Branch (branch_sums (compared test steps) false) ∷ []) refl
     (one_way (λ (e : EdgeSums). e.way ≡ way.Branch) (edge_to y way.Branch (branch_sums (compared test steps) false)) refl)
 branch_ways steps (terminator.Switch w a default cases) b to =
-    All-cons (λ (e : EdgeSums). e.way ≡ way.Branch) (edge_to default way.Branch []) (map (λ c. edge_to c.target way.Branch (case_sums a c.number)) cases) refl (ways_of_cases a cases)
+    All-cons (λ (e : EdgeSums). e.way ≡ way.Branch) (edge_to default way.Branch []) (map (edge_along steps) (map (case_successor a) cases)) refl (ways_of_cases steps a cases)
 branch_ways steps (terminator.Return v) b to = absurd to
 branch_ways steps (terminator.Detach r x y) b to = absurd to
 branch_ways steps (terminator.Reattach r x) b to = absurd to

@@ -1,7 +1,8 @@
 -- Which registers an instruction or terminator reads, and what they hold.
 use Rattle.std.specs.Prelude.{◌≡◌, ◌⊎◌, ℕ, Some, None, Bool, true, cond, slice_get, ℤ}
 use Rattle.semantics.specs.Frames.{Value, Frame, Item, Does, Ends, phis_at, truth_of, word_at}
-use Rattle.semantics.specs.Effect.{entry_for, case_for}
+use Rattle.semantics.specs.Effect.{case_for}
+use Rattle.program.specs.Phis.{entry_for}
 use Rattle.program.specs.declared.function.Function.{Function}
 use Rattle.program.specs.declared.function.Program.{Program}
 use Rattle.program.specs.declared.function.RegisterKind.{RegisterKind}

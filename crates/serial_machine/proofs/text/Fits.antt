@@ -7,7 +7,7 @@ use Rattle.std.proofs.lemmas.List.Elements.{All-contains}
 use Rattle.std.proofs.lemmas.Option.{slice_get_within, slice_get-map}
 use Rattle.linear.specs.declared.form.RegisterId.{RegisterId}
 use Rattle.semantics.specs.Frames.{Does, Ends, and_then, item_of, item_at, phis_at, block_phis}
-use Rattle.semantics.specs.Effect.{entry_for}
+use Rattle.program.specs.Phis.{entry_for}
 use Rattle.syntax.specs.declared.operator.Width.{Width}
 use Rattle.syntax.specs.declared.operator.Width.TheVariants.{Bits64}
 use Rattle.program.specs.declared.function.Alloca.{Alloca}

@@ -1,5 +1,5 @@
 -- Forms of annotations, and what they may name.
-use Rattle.std.specs.Prelude.{ℕ, ◌+◌, ℤ, pos, negsuc, ◌-ℤ◌, int_le, int_lt, nat_eq, nat_le, Bool, ◌&&◌, ◌||◌, not}
+use Rattle.std.specs.Prelude.{ℕ, ◌+◌, ℤ, pos, negsuc, ◌-ℤ◌, int_le, int_lt, nat_le, Bool, ◌&&◌, ◌||◌, not}
 use Rattle.std.specs.Prelude.{codes, List, [], ◌∷◌, length}
 use Rattle.std.specs.Prelude.{count_by, Option, Some, None, if◌then◌else◌, Result, Ok, Err}
 use Rattle.std.specs.List.{list_all}
@@ -8,6 +8,7 @@ use Rattle.linear.specs.declared.form.Form.{Form}
 use Rattle.linear.specs.declared.form.RegisterId.{RegisterId}
 use Rattle.linear.specs.declared.form.Term.{Term}
 use Rattle.linear.specs.Terms.{constant_form}
+use Rattle.linear.specs.Lookup.{looked_up}
 use Rattle.linear.specs.Made.{with_term}
 use Rattle.program.specs.declared.annotation.Inequality.{Inequality}
 use Rattle.syntax.specs.declared.annotation.Form.{Form as FormText}
@@ -99,26 +100,21 @@ abbrev pub form_in_scope : Scope → AnnotationPlace → ℕ → FormText → Re
 form_in_scope scope place line form = and_then (both_of (all_of (λ _. term_of scope place line) form.terms)
     (unless_of (keeps_limits form) (breaks 206 line))) (λ p. ordered_form line p.0 form.constant)
 
-abbrev pub coefficient_in : List Term → RegisterId → ℤ
-coefficient_in [] register = pos 0
-coefficient_in (term ∷ terms) register =
-    if nat_eq term.register.0 register.0 then term.coefficient else coefficient_in terms register
-
 abbrev pub differs : ℤ → ℤ → Bool
 differs a b = int_lt a b || int_lt b a
 
 abbrev pub is_changed : List Term → Term → Bool
-is_changed others term = differs term.coefficient (coefficient_in others term.register)
+is_changed others term = differs term.coefficient (looked_up others term.register.0)
 
 abbrev pub is_new : List Term → Term → Bool
-is_new others term = not (differs (coefficient_in others term.register) (pos 0))
+is_new others term = not (differs (looked_up others term.register.0) (pos 0))
 
 abbrev pub is_close : ℤ → ℤ → Bool
 is_close a b = int_le (negsuc 999999) (a -ℤ b) && int_le (a -ℤ b) (pos 1000000)
 
 abbrev pub are_terms_within : List Term → List Term → Bool
 are_terms_within left right = nat_le (count_by (is_changed right) left + count_by (is_new left) right) 4 &&
-    list_all (λ term. is_close term.coefficient (coefficient_in right term.register)) left
+    list_all (λ term. is_close term.coefficient (looked_up right term.register.0)) left
 
 abbrev pub is_within_numbers : ℤ → ℤ → Bool
 is_within_numbers a b = int_le (negsuc 9223372036854775806) (a -ℤ b) && int_le (a -ℤ b) (pos 9223372036854775807)

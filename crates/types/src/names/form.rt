@@ -2,6 +2,7 @@
 
 ghost use Rattle.std.specs.Prelude.{◌≡◌, count_by};
 ghost use Rattle.std.specs.List.{list_all};
+ghost use Rattle.linear.specs.Lookup.{looked_up};
 ghost use Rattle.types.specs.names.Fault.{all_of};
 ghost use Rattle.types.specs.names.Told.{Gives};
 ghost use Rattle.types.specs.names.Form as spec;
@@ -14,7 +15,7 @@ use crate::names::scope::{
     Named, Register, Scope, is_number, is_number_of, is_parameter, is_step_of,
 };
 use crate::names::{Refused, TypeFault};
-use linear::FormFault;
+use linear::{FormFault, coefficient};
 use lists::{Name, Seq};
 use program::{Form, Inequality, RegisterId, Term, Width};
 use std::alloc::Global;
@@ -203,17 +204,6 @@ pub fn resolve_form(
     make_form(alloc, line, terms.as_slice(), form.constant)
 }
 
-fn coefficient_in(terms: &[Term], register: RegisterId) -> i64
-    ensures { result ≡ spec.coefficient_in terms.now register }
-{
-    for term in terms {
-        if term.register.0 == register.0 {
-            return term.coefficient;
-        }
-    }
-    0
-}
-
 fn differs(coefficient: i64, other: i64) -> bool
     ensures { result ≡ spec.differs coefficient other }
 {
@@ -224,14 +214,14 @@ fn differs(coefficient: i64, other: i64) -> bool
 fn is_changed(others: &[Term], term: Term) -> bool
     ensures { result ≡ spec.is_changed others.now term }
 {
-    differs(term.coefficient, coefficient_in(others, term.register))
+    differs(term.coefficient, coefficient(others, term.register))
 }
 
 /// The term's register has no coefficient in the other form.
 fn is_new(others: &[Term], term: Term) -> bool
     ensures { result ≡ spec.is_new others.now term }
 {
-    !differs(coefficient_in(others, term.register), 0)
+    !differs(coefficient(others, term.register), 0)
 }
 
 fn changed_terms(terms: &[Term], others: &[Term]) -> usize
@@ -257,9 +247,9 @@ fn is_close(coefficient: i64, other: i64) -> bool
 }
 
 fn are_close(terms: &[Term], others: &[Term]) -> bool
-    ensures { result ≡ list_all (λ term. spec.is_close term.coefficient (spec.coefficient_in others.now term.register)) terms.now }
+    ensures { result ≡ list_all (λ term. spec.is_close term.coefficient (looked_up others.now term.register.0)) terms.now }
 {
-    terms.iter().all(|term| is_close(term.coefficient, coefficient_in(others, term.register)))
+    terms.iter().all(|term| is_close(term.coefficient, coefficient(others, term.register)))
 }
 
 fn is_within_numbers(constant: i64, other: i64) -> bool

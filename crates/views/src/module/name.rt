@@ -2,27 +2,13 @@
 
 use lists::ListBuffer;
 use std::alloc::{AllocError, Global};
-use syntax::{Function, Module, Parameter};
+use syntax::{Function, Module};
 
 /// The names of a function's registers by their numbers, and that of its result behind the last one.
 fn names_in<'a>(alloc: Global, function: &'a Function) -> Result<Vec<&'a str>, AllocError> {
     let mut names = ListBuffer::new(alloc);
-    for parameter in function.parameters.as_slice() {
-        match parameter {
-            Parameter::Number { name } | Parameter::Pointer { name, .. } => {
-                names.push(name.as_str());
-            }
-        }
-    }
-    for block in function.blocks.as_slice() {
-        for phi in block.phis.as_slice() {
-            names.push(phi.register.as_str());
-        }
-        for step in block.steps.as_slice() {
-            if let Some(register) = step.instruction.register() {
-                names.push(register.as_str());
-            }
-        }
+    for name in syntax::register_names(alloc, function)?.as_slice() {
+        names.push(name.as_str());
     }
     names.push(".ret");
     names.finish()

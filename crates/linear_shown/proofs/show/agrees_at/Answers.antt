@@ -1,6 +1,6 @@
 use Rattle.std.proofs.Common.{◌≡◌, ◌∙◌, ◌+ℤ◌, ◌*ℤ◌, pos, ap, rules, w64, FitsSigned}
 use Rattle.std.proofs.lemmas.Int.{to_z-of_z}
-use Rattle.linear_shown.specs.Search.{looked_up}
+use Rattle.linear.specs.Lookup.{looked_up}
 use Rattle.linear_shown.proofs.Signed.{same_bits, sum_fits_64, sum_is}
 use Rattle.linear_shown.proofs.show.agrees_at.Goals as goal
 
