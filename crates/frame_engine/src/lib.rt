@@ -27,7 +27,7 @@ mod turning;
 mod words;
 
 pub use activation::{Frame, Places};
-pub use arithmetic::{binary, compare, sum};
+pub use arithmetic::{binary, compare, convert, sum};
 pub use beginning::{blank, first_registers};
 pub use borders::taker;
 pub use cells::Cells;
