@@ -5,23 +5,23 @@ use Rattle.std.proofs.lemmas.Option.{slice_get_read}
 use Rattle.linear.specs.Terms.{Combination}
 use Rattle.linear.specs.declared.form.Term.{Term}
 use Rattle.program.specs.declared.annotation.Inequality.{Inequality}
-use Rattle.kernel_calls.specs.Inside.{IsBound, SetsHigh, SetsLow}
+use Rattle.kernel_calls.specs.Inside.{IsArgument, IsBound, SetsHigh, SetsLow}
 
 -- ---- one requirement
 
-pub bound_here : (number : ℕ) (alone other : Combination) (term : Term) (bound : ℤ) → length alone.terms ≡ 1 → term ≡ get_or alone.terms 0 term → term.register.0 ≡ number →
-    term.coefficient ≡ pos 1 → other.terms ≡ [] → bound ≡ other.constant -ℤ alone.constant → IsBound number alone other bound
-bound_here number alone other term bound one read register coefficient none difference = record {
-  alone_is = record {
-    one = one;
-    term = term;
-    there = slice_get_read alone.terms (length alone.terms) 0 term refl (omega (arith, one)) read;
-    register = register;
-    coefficient = coefficient;
-  };
-  other_is = none;
-  bound_is = difference;
+pub argument_here : (number : ℕ) (form : Combination) (term : Term) → length form.terms ≡ 1 → term ≡ get_or form.terms 0 term → term.register.0 ≡ number → term.coefficient ≡ pos 1 →
+    IsArgument number form
+argument_here number form term one read register coefficient = record {
+  one = one;
+  term = term;
+  there = slice_get_read form.terms (length form.terms) 0 term refl (omega (arith, one)) read;
+  register = register;
+  coefficient = coefficient;
 }
+
+pub bound_here : (number : ℕ) (alone other : Combination) (bound : ℤ) → IsArgument number alone → other.terms ≡ [] → bound ≡ other.constant -ℤ alone.constant →
+    IsBound number alone other bound
+bound_here number alone other bound is none difference = record { alone_is = is; other_is = none; bound_is = difference }
 
 -- ---- one requirement more
 

@@ -1,4 +1,5 @@
 pub mod Boards
+pub mod Faults
 pub mod Held
 pub mod Inside
 pub mod Marks

@@ -20,20 +20,18 @@ use crate::cells::count_cells;
 use crate::handle::Handle;
 use crate::hosted::{Met, Stop};
 use crate::requests::BoardRequest;
-use crate::serial::{filled, shown};
+use crate::serial::{filled, not_begun, shown};
 use crate::shared::Shared;
 use crate::stop::StopHandle;
 use crate::told::{
-    BAD_ARGUMENTS, BAD_WORKERS, CLOSED, DONE, FOREIGN, IDLE, NOT_ENDED, OTHER_CELLS, OUT_OF_FUEL,
-    OUT_OF_MEMORY, Outcome, STOPPED, WORK, plain_outcome,
+    CLOSED, DONE, FOREIGN, IDLE, NOT_ENDED, OTHER_CELLS, OUT_OF_FUEL, OUT_OF_MEMORY, Outcome,
+    STOPPED, WORK, plain_outcome,
 };
 use core::mem::replace_with;
 use std::alloc::Global;
-use std::mem::replace;
-use store::RunFault;
 
 /// A run of a module over a row of its globals' numbers, and the outcome that says whether there is one.
-#[tactic(auto, using(crate::proofs::Standing::begins_here))]
+#[tactic(auto, using(crate::proofs::Standing::begins_here, crate::proofs::Faults::lacks_what_is_told, crate::proofs::Faults::has_other_workers))]
 fn begun(
     alloc: Global,
     kernel: &Shared,
@@ -61,16 +59,7 @@ fn begun(
             Ok(block) => (plain_outcome(DONE), BoardHandle::kept(block)),
             Err(_) => (plain_outcome(OUT_OF_MEMORY), none),
         },
-        Err(RunFault::BadArguments { requirement, .. }) => (
-            Outcome {
-                requirement: requirement as u64,
-                ..plain_outcome(BAD_ARGUMENTS)
-            },
-            none,
-        ),
-        Err(RunFault::BadWorkers { .. }) => (plain_outcome(BAD_WORKERS), none),
-        // (Nothing stops it.)
-        Err(RunFault::OutOfMemory | RunFault::Stopped) => (plain_outcome(OUT_OF_MEMORY), none),
+        Err(fault) => (not_begun(fault), none),
     }
 }
 
@@ -95,15 +84,13 @@ pub fn open_board(
     ensures stop { stop.new.stop.kept ≡ stop.old.stop.kept }
 {
     *board = BoardHandle::closed(alloc);
-    let (heard, own) = replace(stop, StopHandle::closed(alloc)).heard(alloc);
-    *stop = own;
-    let Some(heard) = heard else {
+    let Some(heard) = stop.heard(alloc) else {
         return plain_outcome(OUT_OF_MEMORY);
     };
-    match replace(handle, Handle::closed(alloc)).taken() {
+    match handle.take(alloc) {
         Some(block) => {
             let (outcome, made) = begun(alloc, block.as_ref(), request, cells, heard);
-            *handle = Handle::kept(block);
+            handle.keep(block);
             *board = made;
             outcome
         }
@@ -139,10 +126,10 @@ pub fn open_worker(
     ensures same { board.new.run.state ≡ board.old.run.state }
     ensures statuses { IsShareStatus result }
 {
-    match replace(board, BoardHandle::closed(alloc)).taken() {
+    match board.take(alloc) {
         Some(block) => {
             let (status, made) = hired(alloc, block.as_ref(), number);
-            *board = BoardHandle::kept(block);
+            board.keep(block);
             *worker = made;
             status
         }
@@ -259,8 +246,8 @@ pub fn meet_board(
     ensures statuses { IsMeetStatus result }
 {
     *offered = 0;
-    let held = replace(board, BoardHandle::closed(alloc)).taken();
-    let own = replace(worker, WorkerHandle::closed(alloc)).taken();
+    let held = board.take(alloc);
+    let own = worker.take(alloc);
     match (held, own) {
         (Some(run), Some(own)) => {
             let (status, count, run, own) = met_in(alloc, run, own);
@@ -270,11 +257,11 @@ pub fn meet_board(
             status
         }
         (Some(run), None) => {
-            *board = BoardHandle::kept(run);
+            board.keep(run);
             CLOSED
         }
         (None, Some(own)) => {
-            *worker = WorkerHandle::kept(own);
+            worker.keep(own);
             CLOSED
         }
         (None, None) => CLOSED,
@@ -297,12 +284,12 @@ pub fn turn_worker(alloc: Global, worker: &mut WorkerHandle) -> u32
     ensures held { worker.old.worker.program ≡ None → result ≡ closed }
     ensures statuses { IsTurnStatus result }
 {
-    let Some(own) = replace(worker, WorkerHandle::closed(alloc)).taken() else {
+    let Some(own) = worker.take(alloc) else {
         return CLOSED;
     };
     let mut own = own;
     let is_stopped = replace_with(own.as_mut(), (), turned);
-    *worker = WorkerHandle::kept(own);
+    worker.keep(own);
     if is_stopped { STOPPED } else { DONE }
 }
 
@@ -313,12 +300,12 @@ pub fn grant_fuel(alloc: Global, board: &mut BoardHandle, more: u64) -> u32
     ensures nothing { result ≡ closed → board.new.run.state ≡ None }
     ensures statuses { IsSetStatus result }
 {
-    let Some(run) = replace(board, BoardHandle::closed(alloc)).taken() else {
+    let Some(run) = board.take(alloc) else {
         return CLOSED;
     };
     let mut run = run;
     run.as_mut().grant(more);
-    *board = BoardHandle::kept(run);
+    board.keep(run);
     DONE
 }
 
@@ -366,7 +353,7 @@ pub fn finish_board(alloc: Global, board: &mut BoardHandle, cells: &mut [i64]) -
     ensures closed { result.status ≡ closed → board.old.run.state ≡ None }
     ensures statuses { IsFinishHeldStatus result.status }
 {
-    match replace(board, BoardHandle::closed(alloc)).taken() {
+    match board.take(alloc) {
         Some(run) => {
             let (outcome, back) = finished(alloc, run, cells);
             *board = back;

@@ -13,7 +13,6 @@ use crate::told::{CLOSED, DONE, NOT_FOUND};
 use crate::words::put;
 use program::{Global, Program};
 use std::alloc::Global as Heap;
-use std::mem::replace;
 
 /// Where the cells of a global begin in the row of all cells, and how many it has.
 #[derive(Clone, Copy)]
@@ -31,11 +30,11 @@ pub fn count_globals(alloc: Heap, handle: &mut Handle) -> usize
     ensures count { result ≡ globals_in handle.old.kernel.program }
     ensures same { handle.new.kernel.program ≡ handle.old.kernel.program }
 {
-    let Some(block) = replace(handle, Handle::closed(alloc)).taken() else {
+    let Some(block) = handle.take(alloc) else {
         return 0;
     };
     let count = block.as_ref().verified().program().globals.len();
-    *handle = Handle::kept(block);
+    handle.keep(block);
     count
 }
 
@@ -56,11 +55,11 @@ pub fn count_arguments(alloc: Heap, handle: &mut Handle) -> usize
     ensures count { result ≡ arguments_in handle.old.kernel.program }
     ensures same { handle.new.kernel.program ≡ handle.old.kernel.program }
 {
-    let Some(block) = replace(handle, Handle::closed(alloc)).taken() else {
+    let Some(block) = handle.take(alloc) else {
         return 0;
     };
     let count = arguments_of(block.as_ref().verified().program());
-    *handle = Handle::kept(block);
+    handle.keep(block);
     count
 }
 
@@ -70,11 +69,11 @@ pub fn count_frame_cells(alloc: Heap, handle: &mut Handle) -> u64
     ensures most { HasFrames handle.old.kernel.program result }
     ensures same { handle.new.kernel.program ≡ handle.old.kernel.program }
 {
-    let Some(block) = replace(handle, Handle::closed(alloc)).taken() else {
+    let Some(block) = handle.take(alloc) else {
         return 0;
     };
     let most = most_frame_cells(block.as_ref().verified().program());
-    *handle = Handle::kept(block);
+    handle.keep(block);
     most
 }
 
@@ -114,15 +113,15 @@ pub fn find_global(alloc: Heap, handle: &mut Handle, name: &[u8]) -> (u32, Globa
     ensures same { handle.new.kernel.program ≡ handle.old.kernel.program }
     ensures statuses { IsFoundStatus result.0 }
 {
-    let Some(block) = replace(handle, Handle::closed(alloc)).taken() else {
+    let Some(block) = handle.take(alloc) else {
         return (CLOSED, NONE);
     };
-    let found = match global_of(block.as_ref().verified().program(), name) {
+    let found = global_of(block.as_ref().verified().program(), name);
+    handle.keep(block);
+    match found {
         Some(cells) => (DONE, cells),
         None => (NOT_FOUND, NONE),
-    };
-    *handle = Handle::kept(block);
-    found
+    }
 }
 
 /// Tells the global of this number: its name is written as far as there is room.
@@ -161,13 +160,13 @@ pub fn tell_global(
     ensures statuses { IsFoundStatus result.0 }
 {
     *needed = 0;
-    let Some(block) = replace(handle, Handle::closed(alloc)).taken() else {
+    let Some(block) = handle.take(alloc) else {
         return (CLOSED, NONE);
     };
-    let found = match told(block.as_ref().verified().program(), number, out, needed) {
+    let told = told(block.as_ref().verified().program(), number, out, needed);
+    handle.keep(block);
+    match told {
         Some(cells) => (DONE, cells),
         None => (NOT_FOUND, NONE),
-    };
-    *handle = Handle::kept(block);
-    found
+    }
 }

@@ -11,20 +11,16 @@ use crate::prepared::Prepared;
 use crate::seed::{Seed, verify_seeded};
 use crate::shared::Shared;
 use crate::told::{CLOSED, DONE, OUT_OF_MEMORY, Verdict, plain_verdict};
-use lists::Name;
 use std::alloc::Global;
-use std::mem::replace;
 use verifier::Verified;
 
-/// Keeps a module, decoded, with the names of its arguments and its mark, unless memory is refused.
-fn kept(alloc: Global, kernel: Verified, names: Vec<Name>, mark: u64) -> Option<Handle>
-    ensures { IfSome result (λ handle. handle.kernel.program ≡ Some kernel) }
+/// A module on the heap, decoded, with the names of its arguments and its mark, unless memory is refused.
+fn stored(alloc: Global, text: &[u8], seed: &Seed, kernel: Verified) -> Option<Box<Shared>>
+    ensures { IfSome result (λ block. block.value ≡ kernel) }
 {
-    let shared = Shared::new(alloc, Prepared::of(alloc, kernel, names, mark)?)?;
-    match Box::new(alloc, shared) {
-        Ok(block) => Some(Handle::kept(block)),
-        Err(_) => None,
-    }
+    let names = argument_names(alloc, seed, text)?;
+    let prepared = Prepared::of(alloc, kernel, names, seed.mark_of(text))?;
+    Box::new(alloc, Shared::new(alloc, prepared)?).ok()
 }
 
 /// The verdict on a text, and the module where it is accepted.
@@ -39,11 +35,8 @@ fn opened(alloc: Global, text: &[u8], seed: &Seed, effort: u64) -> (Verdict, Han
     match verify_seeded(alloc, seed, text, effort) {
         Ok(kernel) => {
             let verdict = acceptance(&kernel);
-            let Some(names) = argument_names(alloc, seed, text) else {
-                return (plain_verdict(OUT_OF_MEMORY), Handle::closed(alloc));
-            };
-            match kept(alloc, kernel, names, seed.mark_of(text)) {
-                Some(handle) => (verdict, handle),
+            match stored(alloc, text, seed, kernel) {
+                Some(block) => (verdict, Handle::kept(block)),
                 None => (plain_verdict(OUT_OF_MEMORY), Handle::closed(alloc)),
             }
         }
@@ -70,14 +63,11 @@ pub fn open_module(
     verdict
 }
 
-/// Another handle on a module, where memory is given and there are not as many as can be counted.
-fn another(alloc: Global, shared: &Shared) -> Option<Handle>
-    ensures { IfSome result (λ handle. handle.kernel.program ≡ Some shared.now) }
+/// One more hold on a module, where memory is given and there are not as many as can be counted.
+fn another(alloc: Global, shared: &Shared) -> Option<Box<Shared>>
+    ensures { IfSome result (λ block. block.value ≡ shared.now) }
 {
-    match Box::new(alloc, shared.another()?) {
-        Ok(block) => Some(Handle::kept(block)),
-        Err(_) => None,
-    }
+    Box::new(alloc, shared.another()?).ok()
 }
 
 /// Keeps in another handle what this one keeps, so that both can run it at the same time. What the other one held is given back.
@@ -89,15 +79,15 @@ pub fn share_module(alloc: Global, handle: &mut Handle, other: &mut Handle) -> u
     ensures held { handle.old.kernel.program ≡ None → result ≡ closed }
     ensures statuses { IsShareStatus result }
 {
-    let Some(block) = replace(handle, Handle::closed(alloc)).taken() else {
+    let Some(block) = handle.take(alloc) else {
         *other = Handle::closed(alloc);
         return CLOSED;
     };
     let (status, made) = match another(alloc, block.as_ref()) {
-        Some(made) => (DONE, made),
+        Some(made) => (DONE, Handle::kept(made)),
         None => (OUT_OF_MEMORY, Handle::closed(alloc)),
     };
-    *handle = Handle::kept(block);
+    handle.keep(block);
     *other = made;
     status
 }

@@ -1,17 +1,17 @@
 //! What `requires` says of one argument of `main`, and its name.
 
-ghost use Rattle.std.specs.Prelude.{◌≡◌, ◌≢◌, ◌⊎◌, ◌≤◌, IfNone, IfSome, None, Some};
+ghost use Rattle.std.specs.Prelude.{◌≡◌, ◌≢◌, ◌⊎◌, ◌≤◌, IfNone, IfSome, IsTrue, None, Some};
 ghost use Rattle.kernel_calls.specs.Held.{OfHeld, closed};
-ghost use Rattle.kernel_calls.specs.Inside.{HasNoBound, IsArgumentRange, IsBound, IsFoundStatus, IsRangeOf, SetsHigh, SetsLow, arguments_in};
+ghost use Rattle.kernel_calls.specs.Inside.{HasNoBound, IsArgument, IsArgumentRange, IsBound, IsFoundStatus, IsRangeOf, SetsHigh, SetsLow, arguments_in};
 ghost use Rattle.kernel_calls.specs.Told.{done};
 ghost use Rattle.kernel_calls.specs.Words.{not_found};
 
 use crate::handle::Handle;
+use crate::prepared::Prepared;
 use crate::told::{CLOSED, DONE, NOT_FOUND};
 use crate::words::put;
 use program::{Form, Inequality, Program};
 use std::alloc::Global;
-use std::mem::replace;
 
 /// The bounds of an argument.
 #[repr(C)]
@@ -23,17 +23,25 @@ pub struct Range {
     pub high: i64,
 }
 
+/// Whether the form is the argument of this number and a constant.
+#[tactic(auto, using(crate::proofs::Ranges::argument_here))]
+fn is_argument(number: usize, form: &Form) -> bool
+    ensures { IsTrue result → IsArgument number form.now }
+{
+    let terms = form.terms.as_slice();
+    if terms.len() != 1 {
+        return false;
+    }
+    let term = terms[0];
+    term.register.0 == number && term.coefficient == 1
+}
+
 /// What the other form says of the argument of this number, where it stands alone.
 #[tactic(auto, using(crate::proofs::Ranges::bound_here))]
 fn bound(number: usize, alone: &Form, other: &Form) -> Option<i64>
     ensures { IfSome result (IsBound number alone.now other.now) }
 {
-    let terms = alone.terms.as_slice();
-    if terms.len() != 1 || !other.terms.is_empty() {
-        return None;
-    }
-    let term = terms[0];
-    if term.register.0 != number || term.coefficient != 1 {
+    if !is_argument(number, alone) || !other.terms.is_empty() {
         return None;
     }
     let difference = other.constant.checked_sub(alone.constant)?;
@@ -113,6 +121,18 @@ fn argument_range(program: &Program, number: usize) -> Option<Range>
     Some(range_of(number, main.requirements.as_slice()))
 }
 
+/// Tells what is said of the argument of this number, whose name is written as far as there is room.
+fn told(kernel: &Prepared, number: usize, out: &mut [u8], needed: &mut usize) -> Option<Range>
+    ensures range { IfSome result (IsArgumentRange kernel.now number) }
+    ensures none { IfNone result ((arguments_in (Some kernel.now) ≤ number) × (out.new ≡ out.old) × (needed.new ≡ needed.old)) }
+{
+    let range = argument_range(kernel.verified().program(), number)?;
+    if let Some(name) = kernel.names().get(number) {
+        put(name.as_bytes(), out, needed);
+    }
+    Some(range)
+}
+
 /// Tells the argument of this number, from 0: its name is written as far as there is room.
 pub fn tell_argument(
     alloc: Global,
@@ -136,20 +156,16 @@ pub fn tell_argument(
         high: 0,
     };
     *needed = 0;
-    let Some(block) = replace(handle, Handle::closed(alloc)).taken() else {
+    let Some(block) = handle.take(alloc) else {
         return CLOSED;
     };
-    let kernel = block.as_ref().module();
-    let status = match argument_range(kernel.verified().program(), number) {
-        Some(found) => {
-            *range = found;
-            if let Some(name) = kernel.names().get(number) {
-                put(name.as_bytes(), out, needed);
-            }
+    let told = told(block.as_ref().module(), number, out, needed);
+    handle.keep(block);
+    match told {
+        Some(told) => {
+            *range = told;
             DONE
         }
         None => NOT_FOUND,
-    };
-    *handle = Handle::kept(block);
-    status
+    }
 }

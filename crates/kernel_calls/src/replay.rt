@@ -14,16 +14,14 @@ ghost use Rattle.kernel_calls.specs.Replayed.{IsReplayStatus, IsScheduleFault, I
 ghost use Rattle.kernel_calls.specs.Replayed.{bad_schedule, bad_workers, long_schedule, not_ended};
 
 use crate::handle::Handle;
-use crate::serial::{filled, shown};
+use crate::serial::{filled, not_begun, shown};
 use crate::told::{
-    BAD_ARGUMENTS, BAD_SCHEDULE, BAD_WORKERS, CLOSED, LONG_SCHEDULE, NOT_ENDED, OUT_OF_MEMORY,
-    Outcome, plain_outcome,
+    BAD_SCHEDULE, CLOSED, LONG_SCHEDULE, NOT_ENDED, OUT_OF_MEMORY, Outcome, plain_outcome,
 };
 use schedule_core::{Event, Machine, replay};
 use schedule_text::{ScheduleFault, read_schedule};
 use std::alloc::Global;
-use std::mem::replace;
-use store::{Finished, RunFault};
+use store::Finished;
 use verifier::Verified;
 
 /// What a run has come to: where it has ended the row takes the numbers of the globals.
@@ -54,6 +52,7 @@ fn come_to(machine: Machine<'_>, cells: &mut [i64]) -> Outcome
 }
 
 /// Runs a module by these events over a row of its globals' numbers.
+#[tactic(auto, using(crate::proofs::Faults::lacks_what_is_told, crate::proofs::Faults::has_other_workers))]
 fn replay_over(
     alloc: Global,
     kernel: &Verified,
@@ -78,13 +77,7 @@ fn replay_over(
     };
     match replay(alloc, kernel, arguments, memory, workers, events) {
         Ok(machine) => come_to(machine, cells),
-        Err(RunFault::BadArguments { requirement, .. }) => Outcome {
-            requirement: requirement as u64,
-            ..plain_outcome(BAD_ARGUMENTS)
-        },
-        Err(RunFault::BadWorkers { .. }) => plain_outcome(BAD_WORKERS),
-        // (Nothing stops a replay.)
-        Err(RunFault::OutOfMemory | RunFault::Stopped) => plain_outcome(OUT_OF_MEMORY),
+        Err(fault) => not_begun(fault),
     }
 }
 
@@ -131,11 +124,11 @@ pub fn replay_module(
     ensures same { handle.new.kernel.program ≡ handle.old.kernel.program }
 {
     match read_schedule(alloc, schedule) {
-        Ok(events) => match replace(handle, Handle::closed(alloc)).taken() {
+        Ok(events) => match handle.take(alloc) {
             Some(block) => {
                 let (kernel, events) = (block.verified(), events.as_slice());
                 let outcome = replay_over(alloc, kernel, arguments, cells, workers, events);
-                *handle = Handle::kept(block);
+                handle.keep(block);
                 outcome
             }
             None => plain_outcome(CLOSED),

@@ -11,7 +11,6 @@ use crate::serial::run_over;
 use crate::stop::StopHandle;
 use crate::told::{CLOSED, OUT_OF_MEMORY, Outcome, plain_outcome};
 use std::alloc::Global;
-use std::mem::replace;
 
 /// Runs a module over one row.
 fn run_row(
@@ -61,30 +60,6 @@ fn run_rows(
     }
 }
 
-/// Runs the module that is kept, and keeps it.
-fn run_rows_held(
-    alloc: Global,
-    handle: Handle,
-    stop: &Stop,
-    rows: &RowsRequest<'_>,
-    cells: &mut [i64],
-    outcomes: &mut [Outcome],
-) -> Handle
-    ensures rows { AreRuns handle.kernel.program rows.now.fuel rows.now.arguments_each rows.now.cells_each rows.now.arguments.now cells.old cells.new outcomes.new }
-    ensures same { result.kernel.program ≡ handle.kernel.program }
-{
-    match handle.taken() {
-        Some(block) => {
-            run_rows(alloc, block.module(), stop, rows, cells, outcomes);
-            Handle::kept(block)
-        }
-        None => {
-            outcomes.fill(plain_outcome(CLOSED));
-            Handle::closed(alloc)
-        }
-    }
-}
-
 /// Runs the module that is held once for each outcome, as `tapirvm_run` does: the first run has the first of the arguments and of the cells, so
 /// many each, and the next run those that follow.
 pub fn run_each_row(
@@ -99,12 +74,14 @@ pub fn run_each_row(
     ensures same { handle.new.kernel.program ≡ handle.old.kernel.program }
     ensures stop { stop.new.stop.kept ≡ stop.old.stop.kept }
 {
-    let (heard, own) = replace(stop, StopHandle::closed(alloc)).heard(alloc);
-    *stop = own;
-    let Some(heard) = heard else {
+    let Some(heard) = stop.heard(alloc) else {
         outcomes.fill(plain_outcome(OUT_OF_MEMORY));
         return;
     };
-    let held = replace(handle, Handle::closed(alloc));
-    *handle = run_rows_held(alloc, held, &heard, rows, cells, outcomes);
+    let Some(block) = handle.take(alloc) else {
+        outcomes.fill(plain_outcome(CLOSED));
+        return;
+    };
+    run_rows(alloc, block.module(), &heard, rows, cells, outcomes);
+    handle.keep(block);
 }

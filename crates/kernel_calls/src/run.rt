@@ -10,7 +10,6 @@ use crate::serial::run_over;
 use crate::stop::StopHandle;
 use crate::told::{CLOSED, OUT_OF_MEMORY, Outcome, plain_outcome};
 use std::alloc::Global;
-use std::mem::replace;
 
 /// Runs the serial elision of the module that is held, within some fuel and unless it is stopped, from the numbers of its globals, each global after the one
 /// before it.
@@ -32,15 +31,13 @@ pub fn run_module(
     ensures same { handle.new.kernel.program ≡ handle.old.kernel.program }
     ensures stop { stop.new.stop.kept ≡ stop.old.stop.kept }
 {
-    let (heard, own) = replace(stop, StopHandle::closed(alloc)).heard(alloc);
-    *stop = own;
-    let Some(heard) = heard else {
+    let Some(heard) = stop.heard(alloc) else {
         return plain_outcome(OUT_OF_MEMORY);
     };
-    match replace(handle, Handle::closed(alloc)).taken() {
+    match handle.take(alloc) {
         Some(block) => {
             let outcome = run_over(alloc, block.module(), request, cells, &heard);
-            *handle = Handle::kept(block);
+            handle.keep(block);
             outcome
         }
         None => plain_outcome(CLOSED),

@@ -18,7 +18,6 @@ use lists::OutOfMemory;
 use schedule_text::spell_schedule;
 use shared_run::Event;
 use std::alloc::Global;
-use std::mem::replace;
 
 /// The most events of a schedule.
 const MOST_EVENTS: u64 = 1_048_576;
@@ -58,17 +57,16 @@ pub fn write_schedule(
     ensures statuses { IsSpelledStatus result }
 {
     *needed = 0;
-    let Some(mut run) = replace(board, BoardHandle::closed(alloc)).taken() else {
+    let Some(mut run) = board.take(alloc) else {
         return CLOSED;
     };
     let events = replace_with(run.as_mut(), (alloc, MOST_EVENTS), RunBlock::events);
-    let status = match spelled(alloc, events) {
+    board.keep(run);
+    match spelled(alloc, events) {
         Ok(text) => {
             put(text.as_bytes(), out, needed);
             DONE
         }
         Err(status) => status,
-    };
-    *board = BoardHandle::kept(run);
-    status
+    }
 }

@@ -43,11 +43,16 @@ impl RandomSource for Seed {
             back.copy_from_slice(&high);
             return Ok(());
         }
-        for (place, byte) in buf.iter_mut().enumerate() {
-            let source = if place % 16 < 8 { &low } else { &high };
-            *byte = source[place % 8];
-        }
+        repeat(&low, &high, buf);
         Ok(())
+    }
+}
+
+/// Fills with the bytes of both in turn.
+fn repeat(low: &[u8; 8], high: &[u8; 8], buf: &mut [u8]) {
+    for (place, byte) in buf.iter_mut().enumerate() {
+        let source = if place % 16 < 8 { low } else { high };
+        *byte = source[place % 8];
     }
 }
 

@@ -5,6 +5,7 @@ ghost use Rattle.store.specs.Requirements.{unmet_in};
 ghost use Rattle.store.specs.Made.{IsMadeFor};
 ghost use Rattle.store.specs.Named.{HasGlobalCells};
 ghost use Rattle.serial_machine.specs.Decoding.{IsCodeOf};
+ghost use Rattle.kernel_calls.specs.Faults.{IsFaultStatus, Tells};
 ghost use Rattle.kernel_calls.specs.Until.{IsWatchedStatus};
 ghost use Rattle.kernel_calls.specs.Told.{Exceeds, ExceedsProgram, HasOtherCells, IsOutcomeStatus, IsRunStatus, Lacks, Refuses, Runs, RunsProgram, Shows};
 ghost use Rattle.kernel_calls.specs.Told.{bad_arguments, done, memory_from, other_cells, sizes_in};
@@ -17,7 +18,8 @@ use crate::prepared::Prepared;
 use crate::requests::RunRequest;
 use crate::seed::{Seed, verify_seeded};
 use crate::told::{
-    BAD_ARGUMENTS, DONE, OTHER_CELLS, OUT_OF_FUEL, OUT_OF_MEMORY, Outcome, STOPPED, plain_outcome,
+    BAD_ARGUMENTS, BAD_WORKERS, DONE, OTHER_CELLS, OUT_OF_FUEL, OUT_OF_MEMORY, Outcome, STOPPED,
+    plain_outcome,
 };
 use crate::until::{FIRST, Watched, run_watched};
 use lists::OutOfMemory;
@@ -63,6 +65,22 @@ pub fn shown(finished: &Finished, cells: &mut [i64]) -> Outcome
             }
         }
         _ => plain_outcome(OUT_OF_MEMORY),
+    }
+}
+
+/// The outcome of a run that does not begin.
+pub fn not_begun(fault: RunFault) -> Outcome
+    ensures tells { Tells fault result }
+    ensures statuses { IsFaultStatus result.status }
+{
+    match fault {
+        RunFault::BadArguments { requirement, .. } => Outcome {
+            requirement: requirement as u64,
+            ..plain_outcome(BAD_ARGUMENTS)
+        },
+        RunFault::BadWorkers { .. } => plain_outcome(BAD_WORKERS),
+        // (Nothing stops it.)
+        RunFault::OutOfMemory | RunFault::Stopped => plain_outcome(OUT_OF_MEMORY),
     }
 }
 

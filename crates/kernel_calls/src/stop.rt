@@ -76,15 +76,33 @@ impl StopHandle {
         }
     }
 
-    /// The stop for a run, and the handle again. One that holds nothing stops nothing.
-    pub fn heard(self, alloc: Global) -> (Option<Stop>, StopHandle)
-        ensures heard { IfSome result.0 (λ stop. IsSome stop.word → IsSome self.stop.kept) }
-        ensures same { result.1.stop.kept ≡ self.stop.kept }
+    /// Takes the stop out: the handle holds nothing then.
+    fn take(&mut self, alloc: Global) -> Option<Box<StopBlock>>
+        ensures kept { IfSome result (λ block. self.old.stop.kept ≡ Some block.value) }
+        ensures closed { result ≡ None → self.old.stop.kept ≡ None }
+        ensures left { self.new.stop.kept ≡ None }
     {
-        match self.taken() {
-            Some(block) => (block.as_ref().stop.share().ok(), StopHandle::kept(block)),
-            None => (Some(Stop::never()), StopHandle::closed(alloc)),
-        }
+        replace(self, StopHandle::closed(alloc)).taken()
+    }
+
+    /// Keeps a stop in place of what it held.
+    fn keep(&mut self, block: Box<StopBlock>)
+        ensures { self.new.stop.kept ≡ Some block.value }
+    {
+        *self = StopHandle::kept(block);
+    }
+
+    /// The stop for a run. A handle that holds nothing stops nothing.
+    pub fn heard(&mut self, alloc: Global) -> Option<Stop>
+        ensures heard { IfSome result (λ stop. IsSome stop.word → IsSome self.old.stop.kept) }
+        ensures same { self.new.stop.kept ≡ self.old.stop.kept }
+    {
+        let Some(block) = self.take(alloc) else {
+            return Some(Stop::never());
+        };
+        let heard = block.as_ref().stop.share().ok();
+        self.keep(block);
+        heard
     }
 }
 
@@ -129,7 +147,7 @@ pub fn share_stop(alloc: Global, stop: &mut StopHandle, other: &mut StopHandle) 
     ensures held { stop.old.stop.kept ≡ None → result ≡ closed }
     ensures statuses { IsShareStatus result }
 {
-    let Some(block) = replace(stop, StopHandle::closed(alloc)).taken() else {
+    let Some(block) = stop.take(alloc) else {
         *other = StopHandle::closed(alloc);
         return CLOSED;
     };
@@ -137,7 +155,7 @@ pub fn share_stop(alloc: Global, stop: &mut StopHandle, other: &mut StopHandle) 
         Ok(shared) => boxed(alloc, shared),
         Err(_) => (OUT_OF_MEMORY, StopHandle::closed(alloc)),
     };
-    *stop = StopHandle::kept(block);
+    stop.keep(block);
     *other = made;
     status
 }
@@ -149,11 +167,11 @@ fn set(alloc: Global, stop: &mut StopHandle, is_set: bool) -> u32
     ensures held { stop.old.stop.kept ≡ None → result ≡ closed }
     ensures statuses { IsSetStatus result }
 {
-    let Some(block) = replace(stop, StopHandle::closed(alloc)).taken() else {
+    let Some(block) = stop.take(alloc) else {
         return CLOSED;
     };
     block.as_ref().stop.set(is_set);
-    *stop = StopHandle::kept(block);
+    stop.keep(block);
     DONE
 }
 
@@ -182,11 +200,11 @@ pub fn is_stop_set(alloc: Global, stop: &mut StopHandle) -> bool
     ensures same { stop.new.stop.kept ≡ stop.old.stop.kept }
     ensures closed { stop.old.stop.kept ≡ None → result ≡ false }
 {
-    let Some(block) = replace(stop, StopHandle::closed(alloc)).taken() else {
+    let Some(block) = stop.take(alloc) else {
         return false;
     };
     let is_set = block.as_ref().stop.is_set();
-    *stop = StopHandle::kept(block);
+    stop.keep(block);
     is_set
 }
 

@@ -225,14 +225,21 @@ impl HostedRun {
         ensures works { IfOk result (WorksFor verified.now) }
         ensures number { IfOk result (λ worker. worker.number ≡ number) }
     {
+        let ears = self.ears()?;
         Ok(HostedWorker {
             number,
             strand: StrandRest::new(alloc, verified)?,
             habits: Habits::new(alloc),
-            ears: Ears {
-                wanted: self.offers.share()?,
-                stop: self.stop.share()?,
-            },
+            ears,
+        })
+    }
+
+    /// What a worker hears of others.
+    fn ears(&self) -> Result<Ears, OutOfMemory> {
+        let stop = self.stop.share()?;
+        Ok(Ears {
+            wanted: self.offers.share()?,
+            stop,
         })
     }
 
