@@ -97,8 +97,8 @@ fn round<L: Bench + Send + Sync, G: Gate + Sync, R: Threads + Wait + Clock + Syn
     figures: &mut [Figures],
     gate: &G,
 ) -> Result<(Vec<Seat<L>>, Vec<Quit>), OutOfMemory>
-    ensures seats { IfOk result (λ back. vec_len back.0 ≡ vec_len crew) }
-    ensures left { IfOk result (λ back. vec_len back.1 ≡ vec_len crew) }
+    ensures seats { IfOk result (λ back. vec_len back.0 ≡ vec_len crew.entry) }
+    ensures left { IfOk result (λ back. vec_len back.1 ≡ vec_len crew.entry) }
 {
     let room = Vec::with_capacity(alloc, crew.len())?;
     let left = Vec::with_capacity(alloc, crew.len())?;
