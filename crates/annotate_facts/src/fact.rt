@@ -143,10 +143,11 @@ impl<'a> Facts<'a> {
     /// A fact of a register, where others that the block makes of sums and that no other block takes are replaced by these.
     fn travelling(&self, index: usize, steps: &'a [Step], name: &str, fact: &Sum<'a>) -> Sum<'a> {
         let mut sum = fact.copy();
-        for step in steps.iter().rev() {
-            if let Some(own) = register_of(&step.instruction) {
+        for place in (0..steps.len()).rev() {
+            let instruction = &steps[place].instruction;
+            if let Some(own) = register_of(instruction) {
                 if own != name && !is_used_beside(self.function, index, own) {
-                    put_in(self.heap, &mut sum, &step.instruction);
+                    put_in(self.heap, &mut sum, instruction);
                 }
             }
         }

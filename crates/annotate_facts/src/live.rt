@@ -136,13 +136,11 @@ impl<'a> Lives<'a> {
     }
 
     /// Goes along the edges, the last one first, to the blocks from which the register is used; whether one is new.
-    fn spread(&self, edges: &[Edge<'a>], at: &mut Vec<bool>, name: &str) -> bool {
+    fn spread(&self, edges: &[Edge<'a>], at: &mut [bool], name: &str) -> bool {
         let mut is_new = false;
-        for edge in edges.iter().rev() {
-            if edge.from < at.len()
-                && !at[edge.from]
-                && self.is_used_behind(*edge, at.as_slice(), name)
-            {
+        for number in (0..edges.len()).rev() {
+            let edge = edges[number];
+            if edge.from < at.len() && !at[edge.from] && self.is_used_behind(edge, at, name) {
                 at[edge.from] = true;
                 is_new = true;
             }
@@ -154,7 +152,7 @@ impl<'a> Lives<'a> {
     fn find(&self, edges: &[Edge<'a>], name: &str) -> Vec<bool> {
         let mut at = self.uses_of(name);
         for _round in 0..self.function.blocks.len() {
-            if !self.spread(edges, &mut at, name) {
+            if !self.spread(edges, at.as_mut_slice(), name) {
                 break;
             }
         }

@@ -116,8 +116,10 @@ pub fn limits_met(
         met: heap.list(),
     };
     let others = other.functions.as_slice();
-    for (function, annotated) in module.functions.as_slice().iter().zip(others) {
-        limits.push_all(function, annotated);
+    for (place, function) in module.functions.as_slice().iter().enumerate() {
+        if let Some(annotated) = others.get(place) {
+            limits.push_all(function, annotated);
+        }
     }
     let Limits { met, .. } = limits;
     heap.finish()?;

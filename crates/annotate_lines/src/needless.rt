@@ -16,10 +16,12 @@ const MOST_ROUNDS: usize = 16;
 /// The numbers of the annotation lines of a text, counted from 0.
 fn annotation_lines(means: &Means<'_>, text: &str) -> Vec<usize> {
     let mut numbers = ListBuffer::new(means.alloc);
-    for (number, line) in text.lines().enumerate() {
+    let mut number: usize = 0;
+    for line in text.lines() {
         if line.trim().starts_with(";!") {
             numbers.push(number);
         }
+        number = number.saturating_add(1);
     }
     means.list(numbers)
 }
@@ -27,11 +29,13 @@ fn annotation_lines(means: &Means<'_>, text: &str) -> Vec<usize> {
 /// The text without the line of this number.
 fn without(means: &Means<'_>, text: &str, left_out: usize) -> String {
     let mut out = TextBuffer::new(means.alloc);
-    for (number, line) in text.lines().enumerate() {
+    let mut number: usize = 0;
+    for line in text.lines() {
         if number != left_out {
             out.push_str(line);
             out.push_str("\n");
         }
+        number = number.saturating_add(1);
     }
     means.text(out)
 }
@@ -59,8 +63,10 @@ fn is_accepted(means: &Means<'_>, state: RandomState, text: &str) -> bool {
 /// reached for all.
 fn take_out(means: &Means<'_>, state: RandomState, text: &mut String) -> bool {
     let mut is_changed = false;
-    for number in annotation_lines(means, text.as_str()).iter().rev() {
-        let less = without(means, text.as_str(), *number);
+    let numbers = annotation_lines(means, text.as_str());
+    let numbers = numbers.as_slice();
+    for place in (0..numbers.len()).rev() {
+        let less = without(means, text.as_str(), numbers[place]);
         if is_accepted(means, state, less.as_str()) {
             *text = less;
             is_changed = true;

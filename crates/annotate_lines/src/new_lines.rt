@@ -96,11 +96,14 @@ impl NewLines {
     /// Refuses those lines too that others were put in at; whether one beside them was refused before.
     pub(crate) fn refuse_all(&mut self, others: &NewLines) -> bool {
         let mut is_refused = false;
-        for (mark, other) in self.marks.iter_mut().zip(&others.marks) {
-            if matches!(other, Mark::PutIn) {
-                *mark = Mark::Refused;
-            } else if matches!(mark, Mark::Refused) {
-                is_refused = true;
+        let marks = self.marks.as_mut_slice();
+        for (place, other) in others.marks.iter().enumerate() {
+            if place < marks.len() {
+                if matches!(other, Mark::PutIn) {
+                    marks[place] = Mark::Refused;
+                } else if matches!(marks[place], Mark::Refused) {
+                    is_refused = true;
+                }
             }
         }
         is_refused
@@ -119,11 +122,14 @@ impl NewLines {
     /// The text that they were put into, without those that are refused.
     pub(crate) fn without_refused(&self, means: &Means<'_>, text: &str) -> String {
         let mut out = TextBuffer::new(means.alloc);
-        for (line, mark) in text.lines().zip(&self.marks) {
-            if !matches!(mark, Mark::Refused) {
+        let marks = self.marks.as_slice();
+        let mut place: usize = 0;
+        for line in text.lines() {
+            if place < marks.len() && !matches!(marks[place], Mark::Refused) {
                 out.push_str(line);
                 out.push_str("\n");
             }
+            place = place.saturating_add(1);
         }
         means.text(out)
     }

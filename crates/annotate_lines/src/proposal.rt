@@ -272,7 +272,10 @@ impl<'a> Draft<'a> {
         let edges = edges_of(self.heap, function);
         let hulls = hulls_of(self.heap, function, edges.as_slice());
         let handed = handed_of(self.heap, function, edges.as_slice(), hulls.as_slice());
-        for (block, handed) in function.blocks.as_slice().iter().zip(&handed) {
+        for (index, block) in function.blocks.as_slice().iter().enumerate() {
+            let Some(handed) = handed.get(index) else {
+                return;
+            };
             let room = MOST_LINES.saturating_sub(block.notes.pending.len());
             let count = room.min(handed.len());
             let mut lines = self.heap.text();
@@ -323,12 +326,12 @@ impl<'a> Draft<'a> {
         let needs = needs_of(&known, self.costs.as_slice());
         let blocks = function.blocks.as_slice();
         let mut total = given;
-        for (index, (block, need)) in blocks.iter().zip(&needs).enumerate() {
-            match (given, need) {
-                (Some(given), _) if index == 0 => {
+        for (index, block) in blocks.iter().enumerate() {
+            match (given, needs.get(index)) {
+                (Some(given), Some(_)) if index == 0 => {
                     self.propose_left(block, &given.as_need(self.heap));
                 }
-                (_, Some(need)) => {
+                (_, Some(Some(need))) => {
                     self.propose_left(block, need);
                     if index == 0 {
                         total = self.propose_budget(function, need);
@@ -365,10 +368,14 @@ impl<'a> Draft<'a> {
     /// The text with the lines put in.
     fn put_in(&self, text: &str) -> TextBuffer {
         let mut out = self.heap.text();
-        for (line, more) in text.lines().zip(&self.behind) {
-            out.push_str(line);
-            out.push_str("\n");
-            out.push_str(more.as_str());
+        let mut place: usize = 0;
+        for line in text.lines() {
+            if let Some(more) = self.behind.get(place) {
+                out.push_str(line);
+                out.push_str("\n");
+                out.push_str(more.as_str());
+            }
+            place = place.saturating_add(1);
         }
         out
     }

@@ -118,10 +118,10 @@ impl<'a> Walk<'a> {
         if count.saturating_add(lines.len()) > MOST_LINES {
             return;
         }
-        for line in lines {
-            if !self.says(&line) {
+        for line in &lines {
+            if !self.says(line) {
                 self.learn(line.copy());
-                self.scope.heap.push(&mut self.told, line);
+                self.scope.heap.push(&mut self.told, line.copy());
             }
         }
     }
@@ -326,13 +326,13 @@ impl<'a> Walk<'a> {
         if self.effort == 0 {
             return;
         }
-        for goal in self.scope.goals(&step.instruction) {
-            self.ask(&goal);
+        for goal in &self.scope.goals(&step.instruction) {
+            self.ask(goal);
         }
         let steps = self.block.steps.as_slice();
         self.effort = self.effort.saturating_sub(steps.len());
-        for cells in self.scope.touched(steps, &step.instruction) {
-            self.reach_cover(&cells);
+        for cells in &self.scope.touched(steps, &step.instruction) {
+            self.reach_cover(cells);
         }
         self.learn_step(&step.instruction);
         self.passed = self.passed.saturating_add(1);

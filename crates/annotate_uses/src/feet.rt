@@ -188,9 +188,9 @@ impl<'a> Finder<'_, 'a> {
             return;
         };
         let is_function = stand.place.block == 0;
-        for cells in stand.scope.touched(block.steps.as_slice(), instruction) {
+        for cells in &stand.scope.touched(block.steps.as_slice(), instruction) {
             if cells.mode == mode && !(is_function && cells.is_own(stand.scope.function)) {
-                if let Some(seen) = stand.seen(facts.as_slice(), &cells) {
+                if let Some(seen) = stand.seen(facts.as_slice(), cells) {
                     self.push(seen);
                 }
             }

@@ -132,8 +132,8 @@ impl<'a> Waiting<'a> {
             self.push_feet(&mut along, edge.from, region);
         }
         let mut is_new = false;
-        for next in along {
-            if goes_on(edge.way, next.region) && self.put(edge.to, next) {
+        for next in &along {
+            if goes_on(edge.way, next.region) && self.put(edge.to, *next) {
                 is_new = true;
             }
         }

@@ -7,7 +7,6 @@ use annotate_facts::{
 use syntax::{Function, Operand};
 
 /// A loop, from the block at its head to the last one in the text from which an edge leads back.
-#[derive(Drop)]
 pub struct Ring<'a> {
     pub head: usize,
     pub last: usize,
@@ -23,6 +22,23 @@ pub struct Ring<'a> {
     /// The self calls and instructions of one time round, at most.
     pub calls: i128,
     pub instructions: i128,
+}
+
+/// Written out, so that each path that lets go of a loop is short.
+impl Drop for Ring<'_> {
+    fn drop(self) {
+        let Ring {
+            head: _,
+            last: _,
+            rank: _,
+            step: _,
+            least: _,
+            reserve: _,
+            is_tested_first: _,
+            calls: _,
+            instructions: _,
+        } = self;
+    }
 }
 
 impl<'a> Ring<'a> {

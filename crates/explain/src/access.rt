@@ -233,15 +233,13 @@ impl Spot<'_, '_> {
         let mut cursor = FactCursor::new(means.alloc, table.facts.as_slice(), means.effort);
         for (place, step) in self.block.steps.as_slice().iter().enumerate() {
             let count = table.count_at(place);
-            cursor.seek(count);
-            means.noted(cursor.index());
+            means.seek(&mut cursor, count);
             let facts = cursor.known();
             spot_where(*self, &facts, count, step.line).push_step(step, founds);
         }
         if let Some(ending) = &self.block.ending {
             let count = table.facts.len();
-            cursor.seek(count);
-            means.noted(cursor.index());
+            means.seek(&mut cursor, count);
             let facts = cursor.known();
             spot_where(*self, &facts, count, ending.line).push_end(ending, table, founds);
         }

@@ -10,7 +10,7 @@ use crate::note::name_finding;
 use crate::report::Explanation;
 use crate::tries::with_judged_tries;
 use crate::word::word_findings;
-use explain_facts::{Finding, Source, match_text, number_findings, told_cost_findings};
+use explain_facts::{Finding, Matched, Source, match_text, number_findings, told_cost_findings};
 use lists::{ListBuffer, OutOfMemory, Seq, TextBuffer};
 use ranges::Unanswered;
 use std::alloc::Global;
@@ -24,16 +24,27 @@ fn program_findings(
     number: u16,
     effort: &Effort,
 ) -> Result<Vec<Finding>, Unanswered> {
-    let Some(matched) = match_text(alloc, source.state, source.text.as_bytes(), true)? else {
-        return Ok(Vec::new(alloc));
-    };
+    match match_text(alloc, source.state, source.text.as_bytes(), true)? {
+        Some(matched) => phase_findings(alloc, source, number, &matched, effort),
+        None => Ok(Vec::new(alloc)),
+    }
+}
+
+/// The same of a text that the phases before take.
+fn phase_findings(
+    alloc: Global,
+    source: Source<'_>,
+    number: u16,
+    matched: &Matched,
+    effort: &Effort,
+) -> Result<Vec<Finding>, Unanswered> {
     if number < 600 {
-        number_findings(alloc, source, &matched, effort)
+        number_findings(alloc, source, matched, effort)
     } else if number < 700 {
-        let findings = zone_findings(alloc, source, &matched, effort)?;
+        let findings = zone_findings(alloc, source, matched, effort)?;
         with_judged_tries(alloc, source, findings.as_slice(), effort)
     } else {
-        told_cost_findings(alloc, Some(source), &matched, effort)
+        told_cost_findings(alloc, Some(source), matched, effort)
     }
 }
 
@@ -51,14 +62,24 @@ fn findings_of(
     if number < 200 {
         return Ok(word_findings(alloc, source, number, line)?);
     }
-    let finding = if number == 402 {
-        alloca_finding(alloc, source, line, effort)?
-    } else {
-        name_finding(alloc, source, number, line)?
-    };
     let mut findings: Vec<Finding> = Vec::new(alloc);
-    findings.push(finding)?;
+    findings.push(finding_of(alloc, source, number, line, effort)?)?;
     Ok(findings)
+}
+
+/// The fault of a phase of which only the first one is told.
+fn finding_of(
+    alloc: Global,
+    source: Source<'_>,
+    number: u16,
+    line: u32,
+    effort: &Effort,
+) -> Result<Finding, Unanswered> {
+    if number == 402 {
+        alloca_finding(alloc, source, line, effort)
+    } else {
+        Ok(name_finding(alloc, source, number, line)?)
+    }
 }
 
 /// What is to be told where the verifier names this fault: of it, and of the others of its phase in the order of their lines, those last that may
@@ -70,25 +91,43 @@ fn told_of(
     line: u32,
     effort: &Effort,
 ) -> Result<(Finding, Seq<Finding>), OutOfMemory> {
+    match findings_of(alloc, source, number, line, effort) {
+        Ok(findings) => parted(alloc, findings, number, line),
+        Err(Unanswered::OutOfEffort) => {
+            let mut notes = String::new(alloc);
+            notes.push_str("  the effort is spent: no more is told\n")?;
+            let first = Finding {
+                number,
+                line,
+                cause: None,
+                follows: false,
+                notes,
+            };
+            Ok((first, Seq::new(alloc)))
+        }
+        Err(Unanswered::OutOfMemory) => Err(OutOfMemory),
+    }
+}
+
+/// What is told of this fault, and the others, in their order.
+fn parted(
+    alloc: Global,
+    findings: Vec<Finding>,
+    number: u16,
+    line: u32,
+) -> Result<(Finding, Seq<Finding>), OutOfMemory> {
     let mut cause = None;
     let mut notes = TextBuffer::new(alloc);
     let mut others: ListBuffer<Finding> = ListBuffer::new(alloc);
-    match findings_of(alloc, source, number, line, effort) {
-        Ok(findings) => for finding in findings {
-            if finding.number == number && finding.line == line {
-                cause = cause.or(finding.cause);
-                notes.push_str(finding.notes.as_str());
-            } else {
-                others.push(finding);
-            }
-        },
-        Err(Unanswered::OutOfEffort) => {
-            notes.push_str("  the effort is spent: no more is told\n")
+    for finding in findings {
+        if finding.number == number && finding.line == line {
+            cause = cause.or(finding.cause);
+            notes.push_str(finding.notes.as_str());
+        } else {
+            others.push(finding);
         }
-        Err(Unanswered::OutOfMemory) => return Err(OutOfMemory),
     }
-    let mut others = others.finish()?;
-    others.sort_by_key(|finding| (finding.follows, finding.line, finding.number))?;
+    let others = in_order(others)?;
     let first = Finding {
         number,
         line,
@@ -96,7 +135,14 @@ fn told_of(
         follows: false,
         notes: notes.finish()?,
     };
-    Ok((first, Seq::from_vec(others)))
+    Ok((first, others))
+}
+
+/// Faults in the order of their lines, those last that may follow from earlier ones.
+fn in_order(findings: ListBuffer<Finding>) -> Result<Seq<Finding>, OutOfMemory> {
+    let mut findings = findings.finish()?;
+    findings.sort_by_key(|finding| (finding.follows, finding.line, finding.number))?;
+    Ok(Seq::from_vec(findings))
 }
 
 /// Why a module's text is refused, or what it could do without. Its names are hashed with `state`.

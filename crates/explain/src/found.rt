@@ -68,6 +68,13 @@ fn follows_one(
 
 /// The faults, which are in the order of their lines, each with whether it may follow from an earlier one.
 pub fn told(means: &Means<'_>, founds: Vec<Found>) -> Result<Vec<Finding>, Unanswered> {
+    let findings = findings_of(means, founds);
+    means.finish()?;
+    Ok(findings)
+}
+
+/// The same, as far as memory and effort reach.
+fn findings_of(means: &Means<'_>, founds: Vec<Found>) -> Vec<Finding> {
     let cursor = means.cursor(&[]);
     let nothing = cursor.known();
     let mut before: Vec<Touched> = Vec::new(means.alloc);
@@ -91,6 +98,5 @@ pub fn told(means: &Means<'_>, founds: Vec<Found>) -> Result<Vec<Finding>, Unans
         }
         means.push(&mut findings, finding);
     }
-    means.finish()?;
-    Ok(findings)
+    findings
 }

@@ -174,12 +174,13 @@ impl Passing<'_, '_> {
         let Some(whole) = self.whole(owed) else {
             return;
         };
-        if let Some(from_start) = self.from_start(&whole) {
-            if self.push_line_of(&from_start, owed, out) {
-                return;
-            }
+        let is_told = match self.from_start(&whole) {
+            Some(from_start) => self.push_line_of(&from_start, owed, out),
+            None => false,
+        };
+        if !is_told {
+            self.push_line_of(&whole, owed, out);
         }
-        self.push_line_of(&whole, owed, out);
     }
 
     /// Whether a zone is empty, or one that is pending at the target covers it.

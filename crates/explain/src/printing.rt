@@ -57,12 +57,10 @@ fn push_entry<'a>(
     finding: &'a Finding,
 ) -> Result<(), OutOfMemory> {
     let reasons = reasons_of(alloc, text, finding)?;
-    for told in all.iter_mut().take(MOST_COMPARED) {
-        let is_same_rule = told.finding.number == finding.number;
-        if is_same_rule && told.reasons.as_str() == reasons.as_str() {
-            told.alike.push(finding.line)?;
-            return Ok(());
-        }
+    let place = place_of(all.as_slice(), finding.number, reasons.as_str());
+    if let Some(told) = all.get_mut(place) {
+        told.alike.push(finding.line)?;
+        return Ok(());
     }
     all.push(Entry {
         finding,
@@ -70,6 +68,17 @@ fn push_entry<'a>(
         alike: Vec::new(alloc),
     })?;
     Ok(())
+}
+
+/// Where a fault stands of whose rule the same is told; behind them all where none does.
+fn place_of(all: &[Entry<'_>], number: u16, reasons: &str) -> usize {
+    for place in 0..all.len().min(MOST_COMPARED) {
+        let told = &all[place];
+        if told.finding.number == number && told.reasons.as_str() == reasons {
+            return place;
+        }
+    }
+    all.len()
 }
 
 /// The lines of the faults of which the same is told.

@@ -87,22 +87,34 @@ impl Spot<'_, '_> {
         out: &mut TextBuffer,
     ) -> bool {
         let known = self.trying.known;
-        let means = known.means;
-        let text = self.source.text;
         let mut line = begun;
-        let (put, place, number) = match old {
+        match old {
             Some(old) => {
-                let here = touched_zone(means, &placed(old, moves));
+                let here = touched_zone(known.means, &placed(old, moves));
                 let wide = widened(known, old, here.as_ref().unwrap_or(new), touched, new);
                 push_zone(known, &as_written(&wide), &mut line);
-                (Put::InPlaceOf(old.line), "in place of", old.line)
+                self.push_if_right(line, Put::InPlaceOf(old.line), "in place of", old.line, out)
             }
             None => {
                 push_zone(known, &as_written(new), &mut line);
-                (Put::Before(after.saturating_add(1)), "after", after)
+                let put = Put::Before(after.saturating_add(1));
+                self.push_if_right(line, put, "after", after, out)
             }
-        };
+        }
+    }
+
+    /// Adds a line that is put into the text there, if the text with it is right up to what is known of numbers; false where it is not.
+    fn push_if_right(
+        &self,
+        line: TextBuffer,
+        put: Put,
+        place: &str,
+        number: u32,
+        out: &mut TextBuffer,
+    ) -> bool {
+        let means = self.trying.known.means;
         let line = means.text(line);
+        let text = self.source.text;
         let changed = means.made(with_line(means.alloc, text, put, line.as_str()));
         let is_right = self.is_right(changed.as_str());
         if is_right {

@@ -336,8 +336,10 @@ pub fn word_findings(
             };
             let named = if at == line { Some(number) } else { None };
             let is_told = findings.as_slice().len() < MOST_TOLD;
-            if let Some(found) = told.finding(named, is_told)? {
-                findings.push(found);
+            match told.finding(named, is_told) {
+                Ok(Some(found)) => findings.push(found),
+                Ok(None) => {}
+                Err(refused) => return Err(refused),
             }
         }
         begin = begin.saturating_add(text.len()).saturating_add(1);

@@ -78,6 +78,18 @@ fn push_end(
     }
 }
 
+/// That a zone has its cells for another mode, where that does not cover the one that is asked for.
+fn push_other_mode(own: Mode, asked: Mode, out: &mut TextBuffer) {
+    if !mode_covers(own, asked) {
+        let own = mode_text(own);
+        let asked = mode_text(asked);
+        writeln!(
+            out,
+            "      it has the cells for `{own}`, and not for `{asked}`"
+        );
+    }
+}
+
 /// Why `z`, which stands on a line of the text, does not cover `y`. Says nothing of another object.
 pub fn push_why_not(
     trying: Trying<'_, '_>,
@@ -89,14 +101,7 @@ pub fn push_why_not(
         return false;
     }
     push_candidate(trying.text(), z.zone.line, out);
-    if !mode_covers(z.zone.mode, y.zone.mode) {
-        let mode = mode_text(y.zone.mode);
-        let own = mode_text(z.zone.mode);
-        writeln!(
-            out,
-            "      it has the cells for `{own}`, and not for `{mode}`"
-        );
-    }
+    push_other_mode(z.zone.mode, y.zone.mode, out);
     let means = trying.known.means;
     let low = means.between(y.moves, &y.zone.low, z.moves, &z.zone.low);
     push_end(trying, "it begins", "too late", "begin", &low, out);

@@ -49,6 +49,18 @@ fn trying_where<'s, 'a>(
     }
 }
 
+/// By how much too little is left, where that is a number.
+fn push_too_few(counted: Counted, lack: Option<i128>, out: &mut TextBuffer) {
+    match lack {
+        Some(lack) => {
+            let unit = counted.unit();
+            let s = plural(lack);
+            write!(out, "\n    {lack} {unit}{s} too few");
+        }
+        None => out.push_str("\n    that may be too few"),
+    }
+}
+
 impl Doing<'_, '_> {
     /// What is left of the block behind what it does and what is left at all of these places.
     fn rest(&self, counted: Counted, shares: &[Share<'_>]) -> Sum {
@@ -86,14 +98,7 @@ impl Doing<'_, '_> {
         }
         self.push_sides(counted, shares, out);
         let lack = lack_of(known.means, &rest);
-        match lack {
-            Some(lack) => {
-                let unit = counted.unit();
-                let s = plural(lack);
-                write!(out, "\n    {lack} {unit}{s} too few");
-            }
-            None => out.push_str("\n    that may be too few"),
-        }
+        push_too_few(counted, lack, out);
         if let [only] = shares {
             let label = known.scene.label(only.to);
             write!(out, " on the edge to %{label}");
@@ -222,9 +227,7 @@ fn push_finding(
         follows,
         notes,
     };
-    if push_found(findings, found).is_err() {
-        means.note(Unanswered::OutOfMemory);
-    }
+    push_found(means, findings, found);
 }
 
 /// A sum that is to be at least 0, where it is not so, or is not shown.
@@ -277,16 +280,22 @@ fn call_notes(trying: Trying<'_, '_>, arguments: &[Argument]) -> TextBuffer {
         ("the call's measure is at least 0", &there),
         ("the call's measure is below the one here", &falls),
     );
-    let after = scene.function.line;
-    if !notes.is_empty() && measure.line == after {
-        let name = scene.written.name.as_str();
-        notes = TextBuffer::new(means.alloc);
-        writeln!(
-            notes,
-            "  @{name} has no `measure` line, without which no self call is taken\n    \
-write ;! measure F max N, after line {after}: F is a form of the parameters that each self call makes less, N the most that it may be"
-        );
+    if !notes.is_empty() && measure.line == scene.function.line {
+        notes = missing_measure(means, scene);
     }
+    notes
+}
+
+/// That a function has no `measure` line, and what one would say.
+fn missing_measure(means: &Means<'_>, scene: &Scene<'_>) -> TextBuffer {
+    let name = scene.written.name.as_str();
+    let after = scene.function.line;
+    let mut notes = TextBuffer::new(means.alloc);
+    writeln!(
+        notes,
+        "  @{name} has no `measure` line, without which no self call is taken\n    \
+write ;! measure F max N, after line {after}: F is a form of the parameters that each self call makes less, N the most that it may be"
+    );
     notes
 }
 

@@ -1,6 +1,6 @@
 //! A broken rule with what there is to say of it (one diagnostic).
 
-use lists::OutOfMemory;
+use crate::means::Means;
 use std::hash::RandomState;
 
 /// A broken rule and the line that breaks it, with what there is to say of it.
@@ -31,14 +31,13 @@ pub struct Source<'a> {
 }
 
 /// Adds a fault, or what there is to say of it to the last one, if that is the same. Both together follow from an earlier one only if each does.
-pub(crate) fn push_found(findings: &mut Vec<Finding>, found: Finding) -> Result<(), OutOfMemory> {
+pub(crate) fn push_found(means: &Means<'_>, findings: &mut Vec<Finding>, found: Finding) {
     if let Some(last) = findings.last_mut() {
         if last.is_of(found.number, found.line) {
-            last.notes.push_str(found.notes.as_str())?;
+            means.noted(last.notes.push_str(found.notes.as_str()));
             last.follows = last.follows && found.follows;
-            return Ok(());
+            return;
         }
     }
-    findings.push(found)?;
-    Ok(())
+    means.push(findings, found)
 }

@@ -117,8 +117,7 @@ pub(crate) fn first_facts(facts: &[Fact], count: usize) -> &[Fact] {
 fn count_enough(means: &Means<'_>, facts: &[Fact], form: &Form) -> usize {
     let mut cursor = FactCursor::new(means.alloc, facts, means.effort);
     for count in 0..facts.len() {
-        cursor.seek(count);
-        means.noted(cursor.index());
+        means.seek(&mut cursor, count);
         if means.shows(&cursor.known(), form) {
             return count;
         }

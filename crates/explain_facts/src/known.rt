@@ -135,15 +135,23 @@ impl Known<'_> {
     /// What one register may be, where it is to be bounded by a number, and the test that lets it.
     fn push_may_be(&self, term: Term, form: &Form, short: i128, out: &mut TextBuffer) {
         let name = self.scene.register(term.register);
-        if term.coefficient == 1 {
+        let is_from_below = term.coefficient == 1;
+        let (may, word, bound) = if is_from_below {
             let least = 0i128.saturating_sub(form.constant);
-            let may = least.saturating_sub(short);
-            writeln!(out, "%{name} may be {may}, and has to be at least {least}");
+            (least.saturating_sub(short), "least", least)
         } else {
-            let most = form.constant;
-            let may = most.saturating_add(short);
-            writeln!(out, "%{name} may be {may}, and has to be at most {most}");
-            push_test(self.scene, self.edges, self.block, term.register, most, out);
+            (form.constant.saturating_add(short), "most", form.constant)
+        };
+        writeln!(out, "%{name} may be {may}, and has to be at {word} {bound}");
+        if !is_from_below {
+            push_test(
+                self.scene,
+                self.edges,
+                self.block,
+                term.register,
+                bound,
+                out,
+            );
         }
     }
 

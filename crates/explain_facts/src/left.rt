@@ -64,6 +64,14 @@ fn push_left(scene: &Scene<'_>, left: &Left, out: &mut TextBuffer) {
     push_form(scene, &left.instructions, out);
 }
 
+/// The `left` line that says what is left.
+fn left_line(known: Known<'_>, left: &Left) -> String {
+    let mut line = TextBuffer::new(known.means.alloc);
+    line.push_str(";! left ");
+    push_left(known.scene, left, &mut line);
+    known.means.text(line)
+}
+
 /// Whether a block has a `left` line: where it has none, what is left stands on the label's own.
 fn has_left(function: &Function, share: &Share<'_>) -> bool {
     match function.blocks.as_slice().get(share.to.0) {
@@ -76,6 +84,20 @@ fn has_left(function: &Function, share: &Share<'_>) -> bool {
 fn is_enough(known: Known<'_>, one: &Left, other: &Left) -> bool {
     known.is_at_least(&one.self_calls, &other.self_calls)
         && known.is_at_least(&one.instructions, &other.instructions)
+}
+
+/// The one of two needs that is enough for both; none where neither is known to be.
+fn enough_for_both(known: Known<'_>, one: Option<Left>, other: Option<Left>) -> Option<Left> {
+    let (Some(one), Some(other)) = (one, other) else {
+        return None;
+    };
+    if is_enough(known, &one, &other) {
+        Some(one)
+    } else if is_enough(known, &other, &one) {
+        Some(other)
+    } else {
+        None
+    }
 }
 
 impl Doing<'_, '_> {
@@ -97,8 +119,9 @@ impl Doing<'_, '_> {
         let Some(mut form) = means.form(&self.spent(counted, shares)) else {
             return None;
         };
-        for step in self.block.steps.as_slice().iter().rev() {
-            if let Some(register) = defined(step) {
+        let steps = self.block.steps.as_slice();
+        for place in (0..steps.len()).rev() {
+            if let Some(register) = defined(&steps[place]) {
                 if coefficient(&form, register) != 0 {
                     form = without_register(known, form, register);
                 }
@@ -121,28 +144,16 @@ impl Doing<'_, '_> {
         }
     }
 
-    /// What is enough for all ways behind the block, where one of them wants as much as each.
-    fn most_wanted(&self, shares: &[Share<'_>], is_one_way: bool) -> Option<Left> {
-        let known = self.trying.known;
-        let count = if is_one_way { shares.len() } else { 1 };
-        let (Some(first), Some(others)) = (shares.get(..count), shares.get(count..)) else {
+    /// What is enough for each of these places, where one of them wants as much as each.
+    fn most_wanted(&self, shares: &[Share<'_>]) -> Option<Left> {
+        let [first, others @ ..] = shares else {
             return None;
         };
-        let Some(mut most) = self.wanted(first) else {
-            return None;
-        };
+        let mut most = self.wanted(&[*first]);
         for share in others {
-            let Some(wanted) = self.wanted(&[*share]) else {
-                return None;
-            };
-            if !is_enough(known, &most, &wanted) {
-                if !is_enough(known, &wanted, &most) {
-                    return None;
-                }
-                most = wanted;
-            }
+            most = enough_for_both(self.trying.known, most, self.wanted(&[*share]));
         }
-        Some(most)
+        most
     }
 
     /// Whether what is left is known to be at least 0 where the block begins.
@@ -161,14 +172,15 @@ impl Doing<'_, '_> {
 
     /// A `left` line of the block that is enough for all ways behind it, where one of them wants as much as each and the text can have the line.
     fn push_line(&self, shares: &[Share<'_>], is_one_way: bool, out: &mut TextBuffer) {
-        let known = self.trying.known;
-        let Some(wanted) = self.most_wanted(shares, is_one_way) else {
+        let wanted = if is_one_way {
+            self.wanted(shares)
+        } else {
+            self.most_wanted(shares)
+        };
+        let Some(wanted) = wanted else {
             return;
         };
-        let mut line = TextBuffer::new(known.means.alloc);
-        line.push_str(";! left ");
-        push_left(known.scene, &wanted, &mut line);
-        let line = known.means.text(line);
+        let line = left_line(self.trying.known, &wanted);
         let after = self.block.line;
         if self.trying.is_line(line.as_str(), after) {
             if self.is_at_least_zero(&wanted) {

@@ -204,6 +204,12 @@ impl<'a> Means<'a> {
         }
     }
 
+    /// Goes on with facts to so many of them.
+    pub fn seek(&self, cursor: &mut FactCursor<'_>, count: usize) {
+        cursor.seek(count);
+        self.noted(cursor.index());
+    }
+
     /// A form with the moves put in.
     pub fn placed(&self, moves: &[Move], form: &Form) -> Sum {
         self.plus(self.sum(0), moves, form)

@@ -184,6 +184,25 @@ impl Telling<'_, '_> {
             notes: means.text(notes),
         }
     }
+
+    /// All faults of the text.
+    fn findings(self) -> Vec<Finding> {
+        let means = self.means;
+        let mut findings: Vec<Finding> = Vec::new(means.alloc);
+        let mut missing = Missing {
+            function: 0,
+            forms: Vec::new(means.alloc),
+        };
+        for unmet in self.unmet {
+            let is_more = match findings.last() {
+                Some(last) => last.is_of(unmet.number, unmet.site.line),
+                None => false,
+            };
+            let found = self.finding_of(unmet, is_more, &mut missing);
+            push_found(means, &mut findings, found);
+        }
+        findings
+    }
 }
 
 /// All faults of numbers of a text, as far as the effort reaches.
@@ -201,21 +220,7 @@ pub fn number_findings(
         matched,
         unmet: all.as_slice(),
     };
-    let mut findings: Vec<Finding> = Vec::new(alloc);
-    let mut missing = Missing {
-        function: 0,
-        forms: Vec::new(alloc),
-    };
-    for unmet in &all {
-        let is_more = match findings.last() {
-            Some(last) => last.is_of(unmet.number, unmet.site.line),
-            None => false,
-        };
-        let found = telling.finding_of(unmet, is_more, &mut missing);
-        if push_found(&mut findings, found).is_err() {
-            means.note(Unanswered::OutOfMemory);
-        }
-    }
+    let findings = telling.findings();
     means.finish()?;
     Ok(findings)
 }

@@ -152,13 +152,12 @@ fn push_bounded(registers: Spelled<'_>, relation: &str, bound: i128, out: &mut T
 pub(crate) fn push_excess(scene: &Scene<'_>, form: &Form, amount: i128, out: &mut TextBuffer) {
     let low = Spelled::of(scene, form, Part::Negative);
     let high = Spelled::of(scene, form, Part::Positive);
-    if low.has_no_terms() {
-        high.push_to(out);
-        write!(out, " may be {amount} less than ");
-        low.push_to(out);
+    let (first, word, second) = if low.has_no_terms() {
+        (high, "less", low)
     } else {
-        low.push_to(out);
-        write!(out, " may be {amount} more than ");
-        high.push_to(out);
-    }
+        (low, "more", high)
+    };
+    first.push_to(out);
+    write!(out, " may be {amount} {word} than ");
+    second.push_to(out);
 }

@@ -82,15 +82,13 @@ impl Owing<'_> {
         at.count = site.count.saturating_sub(shows.len());
         for inequality in shows {
             at.line = inequality.line;
-            cursor.seek(at.count);
-            means.noted(cursor.index());
+            means.seek(cursor, at.count);
             let only = slice::from_ref(inequality);
             let owed = inequalities_owed(means.alloc, 508, &[], only);
             self.push_unmet(at, &cursor.known(), owed, &[]);
             at.count = at.count.saturating_add(1);
         }
-        cursor.seek(site.count);
-        means.noted(cursor.index());
+        means.seek(cursor, site.count);
     }
 
     /// Adds what is not shown of the targets of the edges that leave a place.

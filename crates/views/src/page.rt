@@ -100,9 +100,11 @@ impl Page {
         );
         push_settings(&mut page.text, names, "sets", start.root);
         page.text.push_str("},\n\"source\":[");
-        for (number, line) in start.source.lines().enumerate() {
-            page.text.push_str(if number == 0 { "\n" } else { ",\n" });
+        let mut is_first = true;
+        for line in start.source.lines() {
+            page.text.push_str(if is_first { "\n" } else { ",\n" });
             page.push_quoted(line);
+            is_first = false;
         }
         page.text.push_str("],\n\"events\":[");
         page

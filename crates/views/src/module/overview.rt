@@ -204,8 +204,8 @@ fn push_function(
         return Ok(());
     };
     let open = open_regions(subject.alloc, part.blocks)?;
-    for (index, (block, open)) in spelled.blocks.as_slice().iter().zip(&open).enumerate() {
-        if let Some(body) = part.blocks.bodies.get(index) {
+    for (index, block) in spelled.blocks.as_slice().iter().enumerate() {
+        if let (Some(body), Some(open)) = (part.blocks.bodies.get(index), open.get(index)) {
             push_block(out, part, index, block, body, open.as_slice())?;
         }
     }
@@ -217,10 +217,11 @@ fn overview_of(subject: Subject<'_>) -> Result<String, Refused> {
     push_totals(&mut out, subject);
     push_globals(&mut out, subject.program);
     push_ranges(&mut out, subject)?;
-    let spelled = subject.module.functions.as_slice();
     let functions = subject.program.functions.as_slice();
-    for (index, (spelled, function)) in spelled.iter().zip(functions).enumerate() {
-        push_function(&mut out, subject, index, spelled, function)?;
+    for (index, spelled) in subject.module.functions.as_slice().iter().enumerate() {
+        if let Some(function) = functions.get(index) {
+            push_function(&mut out, subject, index, spelled, function)?;
+        }
     }
     Ok(out.finish()?)
 }

@@ -329,7 +329,9 @@ impl Scene {
                 next = work.stay.end();
             }
         }
-        for work in self.works.as_mut_slice().iter_mut().rev() {
+        let works = self.works.as_mut_slice();
+        for place in (0..works.len()).rev() {
+            let work = &mut works[place];
             let Instant { worker, round } = work.stay.end();
             if worker == next.worker && round == next.round {
                 work.is_critical = true;
