@@ -1,6 +1,6 @@
-use shared_run::{Memory, Verified};
+use schedule_core::{Memory, Verified};
 
-/// What a run on threads is started with.
+/// What a run is started with.
 #[derive(Drop)]
 pub struct Launch<'a> {
     pub verified: &'a Verified,
