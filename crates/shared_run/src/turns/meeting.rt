@@ -44,6 +44,24 @@ struct Meeting<'m, 'b, 's, L: Bench, T: Tasks> {
     habits: &'m mut Habits,
 }
 
+impl<'m, 'b, 's, L: Bench, T: Tasks> Meeting<'m, 'b, 's, L, T> {
+    fn of(
+        board: &'m mut Board<'b, L>,
+        tasks: &'m mut T,
+        seat: &'m mut Seat<L>,
+        strand: &'m mut WorkerStrand<'s, L>,
+        habits: &'m mut Habits,
+    ) -> Meeting<'m, 'b, 's, L, T> {
+        Meeting {
+            board,
+            tasks,
+            seat,
+            strand,
+            habits,
+        }
+    }
+}
+
 impl<L: Bench, T: Tasks> Meeting<'_, '_, '_, L, T> {
     /// Loads the frame that the worker runs next, where it runs one.
     fn load(&mut self) -> Met {
@@ -263,13 +281,7 @@ pub fn meet<L: Bench, T: Tasks>(
         return (Met::Ended, 0);
     }
     habits.offered = 0;
-    let mut meeting = Meeting {
-        board,
-        tasks,
-        seat,
-        strand,
-        habits,
-    };
+    let mut meeting = Meeting::of(board, tasks, seat, strand, habits);
     let met = meeting.meet();
-    (met, meeting.habits.offered)
+    (met, habits.offered)
 }
