@@ -14,7 +14,7 @@ returns-in_err-slot-clause-none g c =
     let here : IsState machine (state_of s) = state_at s.start s.events s.stage c.machine-machine.ensures.legal machine c.machine-machine.ensures.stage in
     let none : HasNoReadyParent (workers_of s.stage) (state_of s) c.args.worker =
     subst (λ x. HasNoReadyParent (workers_of x) (state_of s) c.args.worker) c.machine-machine.ensures.stage (c.in_err-slot.ensures.none (state_of s) here) in
-    rw c.from_residual-in_err-slot.ensures (λ below. none)
+    rw c.from_residual.ensures (λ below. none)
 
 pub returns-then-not-is_one_below-clause-none : goal.returns-then-not-is_one_below-clause-none
 returns-then-not-is_one_below-clause-none g c = λ below.
