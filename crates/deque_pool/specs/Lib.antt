@@ -1,5 +1,4 @@
 pub mod Gates
-pub mod Launching
 pub mod Leaving
 -- for the crates above
 pub use Rattle.shared_run.specs.schedule_core as schedule_core

@@ -4,7 +4,7 @@
 //!
 //! What a host calls:
 //!
-//! - `threads`: `run`, and `run_recorded`, which also gives the events. `launch`: what they start with (`Launch`).
+//! - `threads`: `run`, and `run_recorded`, which also gives the events. They start with a `Launch`.
 //! - `gate`: what the host lets a run pass before each strand (`Gate`, `OpenGate`).
 //! - `recorded`: a run with its events. `figures`: what each worker did.
 //!
@@ -23,7 +23,6 @@ mod alone;
 mod demand;
 mod figures;
 mod gate;
-mod launch;
 mod locking;
 mod outlook;
 mod recorded;
@@ -37,7 +36,6 @@ mod workers;
 pub use deque_pool_tickets::{Hands, Taken, Thief, each_as_often};
 pub use figures::Figures;
 pub use gate::{Gate, Go, OpenGate};
-pub use launch::Launch;
 pub use recorded::Recorded;
-pub use shared_run::{Entry, Event, History, Machine, replay};
+pub use shared_run::{Entry, Event, History, Launch, Machine, replay};
 pub use threads::{run, run_recorded};

@@ -5,19 +5,18 @@ ghost use Rattle.std.specs.Prelude.{◌≡◌, vec_len, IfOk};
 ghost use Rattle.shared_run.specs.schedule_core.Admission.{IsAdmitted};
 ghost use Rattle.shared_run.specs.store.Made.{IsMadeFor};
 ghost use Rattle.shared_run.specs.Answer.{IsSerialAnswer, LeadTo};
-ghost use Rattle.deque_pool.specs.Launching.{start_of};
+ghost use Rattle.shared_run.specs.Launching.{start_of};
 
 use crate::demand::Demand;
 use crate::figures::Figures;
 use crate::gate::Gate;
-use crate::launch::Launch;
 use crate::outlook::{Outlook, Quit, what_next};
 use crate::recorded::Recorded;
 use crate::work::{work, work_alone};
 use crate::workers::{Worker, crew_of, disband};
 use crossbeam_utils::CachePadded;
 use lists::OutOfMemory;
-use shared_run::{Bench, Decoded, Keeping, RunFault, Seat, Shared};
+use shared_run::{Bench, Decoded, Keeping, Launch, RunFault, Seat, Shared};
 use std::alloc::Global;
 use std::sync::atomic::AtomicBool;
 use std::sync::ledger::Blank;
@@ -47,15 +46,8 @@ pub(crate) fn run_by<L: Bench + Send + Sync, G: Gate + Sync, R: Threads + Wait +
     ensures replays { IfOk result (λ run. LeadTo (start_of launch.entry) run.history.events run.finished) }
     ensures admitted { IsAdmitted launch.entry.verified.now launch.entry.arguments.now launch.entry.memory launch.entry.workers result }
 {
-    let Launch {
-        verified,
-        arguments,
-        memory,
-        workers,
-    } = launch;
-    let (mut shared, mut seats) = Shared::<L>::new(
-        alloc, verified, arguments, memory, workers, keeping, blank,
-    )?;
+    let (verified, workers) = (launch.verified, launch.workers);
+    let (mut shared, mut seats) = Shared::<L>::new(alloc, launch, keeping, blank)?;
     let Ok(code) = Decoded::of(alloc, verified) else {
         return Err(RunFault::OutOfMemory);
     };

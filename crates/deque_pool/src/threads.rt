@@ -3,15 +3,14 @@ ghost use Rattle.std.specs.Prelude.{◌≡◌, Err, IfOk, true};
 ghost use Rattle.shared_run.specs.schedule_core.Admission.{IsAdmitted, IsNumberOfWorkers};
 ghost use Rattle.shared_run.specs.store.Made.{IsMadeFor};
 ghost use Rattle.shared_run.specs.Answer.{IsSerialAnswer, LeadTo};
+ghost use Rattle.shared_run.specs.Launching.{start_of};
 ghost use Rattle.deque_pool.specs.Gates.{WasAsked, WasStopped};
-ghost use Rattle.deque_pool.specs.Launching.{start_of};
 
 use crate::alone::run_alone;
 use crate::gate::Gate;
-use crate::launch::Launch;
 use crate::recorded::Recorded;
 use crate::rounds::run_by;
-use shared_run::{Finished, Keeping, RunFault, Verified};
+use shared_run::{Finished, Keeping, Launch, RunFault, Verified};
 use std::alloc::Global;
 use std::marker::Brand;
 use std::sync::Wait;

@@ -17,6 +17,7 @@ ghost use Rattle.schedule_core.specs.Stages.{program_of};
 ghost use Rattle.schedule_core.specs.FrameStrands.{TakesSteps};
 
 use crate::machine::Machine;
+use code_tables::ProgramCode;
 use frame_engine::{Item, Places, most_moves};
 use lists::OutOfMemory;
 use schedule_commit::{
@@ -197,15 +198,18 @@ impl Machine<'_> {
         let childless = has_no_child(&node.frame);
         let program = self.stage.verified.program();
         let part = self.stage.run.free_part(program, worker);
+        let own = ProgramCode {
+            program,
+            places: code.places(),
+            tables: code.tables(),
+        };
         let base = BoardFrame {
             frame: &node.frame.frame,
             path: node.path.numbers.as_slice(),
             childless,
         };
         strand.load(
-            program,
-            code.places(),
-            code.tables(),
+            own,
             &base,
             part.start as u64,
             part.cells,

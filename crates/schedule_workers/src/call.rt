@@ -31,34 +31,41 @@ use lists::OutOfMemory;
 use program::{Argument, FunctionId, Program, RegisterId};
 use std::alloc::Global;
 
+/// A call: the function, what it is passed, and the register for its value.
+#[derive(Clone, Copy)]
+pub struct Call<'a> {
+    pub register: Option<RegisterId>,
+    pub callee: FunctionId,
+    pub arguments: &'a [Argument],
+}
+
 impl Activation {
-    /// The frame of this frame's call of the function, which has so many registers; the worker begins it.
+    /// The frame of this frame's call, whose function has so many registers; the worker begins it.
     fn callee_of(
         &self,
         alloc: Global,
         places: &Places,
         worker: u8,
-        function: FunctionId,
+        call: Call<'_>,
         registers: usize,
-        arguments: &[Argument],
         start: usize,
     ) -> Result<Activation, OutOfMemory>
         requires depth { self.now.frame.depth + 1 < 18446744073709551616 }
         requires there { self.now.frame.function.0 < length places.now.allocas }
-        requires names { (k : ℕ) (a : Passed) → slice_get arguments.now k ≡ Some a
+        requires names { (k : ℕ) (a : Passed) → slice_get call.arguments.now k ≡ Some a
             → HasArgument (sizes (length self.now.frame.registers.items) (length places.now.globals)
             (length (allocas_of places.now self.now.frame.function.0))) a }
-        requires room { length arguments.now ≤ registers }
+        requires room { length call.arguments.now ≤ registers }
         requires start { start < 9223372036854775808 }
-        ensures { IfOk result (IsCallee places.now self.now.frame worker function registers arguments.now start) }
+        ensures { IfOk result (IsCallee places.now self.now.frame worker call.entry.callee registers call.entry.arguments.now start) }
     {
         let mut frame = blank(alloc);
         self.frame.call_into(
             places,
             &mut frame,
-            function,
+            call.callee,
             registers,
-            arguments,
+            call.arguments,
             (start as u64).cast_signed(),
         )?;
         frame.role = Role::Body;
@@ -91,7 +98,7 @@ impl Run {
         self.peak = self.peak.max(depth as u64 + 1);
     }
 
-    /// The worker's frame, which is in the slot, calls the function, and the worker goes on with the callee. Where memory is refused the
+    /// The worker's frame, which is in the slot, does the call, and the worker goes on with the callee. Where memory is refused the
     /// run is as it was, with more room at most.
     pub fn call(
         &mut self,
@@ -99,15 +106,13 @@ impl Run {
         places: &Places,
         worker: u8,
         slot: usize,
-        register: Option<RegisterId>,
-        callee: FunctionId,
-        arguments: &[Argument],
+        call: Call<'_>,
     ) -> Result<(), OutOfMemory>
         requires text { TextFits program.now places.now (length self.old.moves.items) }
         requires hand { hand_of self.old.hands.items worker ≡ Some slot }
         requires worker { worker < vec_len self.old.hands }
         requires item { (node : Node Living) → node_at self.old.cactus slot ≡ Some node →
-            item_here program.now node.frame.frame ≡ Some (Does (instruction.Call register callee arguments.now)) }
+            item_here program.now node.frame.frame ≡ Some (Does (instruction.Call call.register call.callee call.arguments.now)) }
         requires safe { StandsSafely program.now places.now self.old }
         ensures steps { OnOk result (DoesStep program.now places.now self.old self.new worker) }
         ensures stalls { OnOk result (LeavesStalls program.now places.now self.old self.new (Step worker) true) }
@@ -117,7 +122,7 @@ impl Run {
         ensures workers { length self.new.hands.items ≡ length self.old.hands.items }
         ensures moves { self.new.moves ≡ self.old.moves }
     {
-        let called = function_at(program, callee);
+        let called = function_at(program, call.callee);
         let Some(cells) = frame_cells(called.allocas.as_slice()) else {
             return Err(OutOfMemory);
         };
@@ -130,9 +135,8 @@ impl Run {
             self.alloc,
             places,
             worker,
-            callee,
+            call,
             called.registers.len(),
-            arguments,
             block.start,
         )?;
         let number = node.frame.frame.made;
@@ -141,7 +145,7 @@ impl Run {
         let Some(caller) = self.cactus.frame_mut(slot) else {
             unreachable!()
         };
-        caller.wait_for(register, child);
+        caller.wait_for(call.register, child);
         self.give(child, block);
         self.count_call(depth);
         self.set_hand(worker, Some(child));

@@ -28,22 +28,24 @@ use lists::OutOfMemory;
 use program::{BlockId, Program, RegisterId};
 use std::alloc::Global;
 
+/// A detach: the region of the child, and where child and parent go on.
+#[derive(Clone, Copy)]
+pub struct Detach {
+    pub region: RegisterId,
+    pub body: BlockId,
+    pub continuation: BlockId,
+}
+
 /// The frame of a detach's child: its parent's copy at the child's block.
-fn child_frame(
-    alloc: Global,
-    parent: &Frame,
-    region: RegisterId,
-    child: BlockId,
-    continuation: BlockId,
-) -> Result<Frame, OutOfMemory>
+fn child_frame(alloc: Global, parent: &Frame, detach: Detach) -> Result<Frame, OutOfMemory>
     requires { parent.now.depth + 1 < 2 ^ 64 }
-    ensures { IfOk result (IsChildFrame parent.now region child continuation) }
+    ensures { IfOk result (IsChildFrame parent.now detach.region detach.body detach.continuation) }
 {
     let registers = Vec::from_slice(alloc, parent.registers.as_slice())?;
     Ok(Frame {
         function: parent.function,
         place: Place {
-            block: child,
+            block: detach.body,
             index: 0,
         },
         registers,
@@ -51,8 +53,8 @@ fn child_frame(
         made: 0,
         waits: Wait::Nothing,
         role: Role::Child {
-            region,
-            continuation,
+            region: detach.region,
+            continuation: detach.continuation,
         },
         depth: parent.depth + 1,
     })
@@ -82,23 +84,21 @@ impl Activation {
 }
 
 impl Run {
-    /// The worker's frame, which is in the slot, detaches a child within the region, and the worker goes on with the child. Where memory
-    /// is refused nothing changes.
+    /// The worker's frame, which is in the slot, detaches a child, and the worker goes on with the child. Where memory is refused nothing
+    /// changes.
     pub fn detach(
         &mut self,
         program: &Program,
         places: &Places,
         worker: u8,
         slot: usize,
-        region: RegisterId,
-        child: BlockId,
-        continuation: BlockId,
+        detach: Detach,
     ) -> Result<(), OutOfMemory>
         requires text { TextFits program.now places.now (length self.old.moves.items) }
         requires hand { hand_of self.old.hands.items worker ≡ Some slot }
         requires worker { worker < vec_len self.old.hands }
         requires item { (node : Node Living) → node_at self.old.cactus slot ≡ Some node →
-            item_here program.now node.frame.frame ≡ Some (Ends (terminator.Detach region child continuation)) }
+            item_here program.now node.frame.frame ≡ Some (Ends (terminator.Detach detach.region detach.body detach.continuation)) }
         requires safe { StandsSafely program.now places.now self.old }
         ensures steps { OnOk result (DoesStep program.now places.now self.old self.new worker) }
         ensures stalls { OnOk result (LeavesStalls program.now places.now self.old self.new (Step worker) true) }
@@ -113,14 +113,14 @@ impl Run {
         };
         let parent = &node.frame.frame;
         let number = parent.made;
-        let frame = child_frame(self.alloc, parent, region, child, continuation)?;
+        let frame = child_frame(self.alloc, parent, detach)?;
         let depth = frame.depth;
         let begun = Activation::new(self.alloc, frame, worker)?;
         let begun_slot = self.cactus.add_child(slot, number, begun)?;
         let Some(parent) = self.cactus.frame_mut(slot) else {
             unreachable!()
         };
-        parent.leave_behind(region, continuation);
+        parent.leave_behind(detach.region, detach.continuation);
         self.instructions += 1;
         self.peak = self.peak.max(depth as u64 + 1);
         self.set_hand(worker, Some(begun_slot));

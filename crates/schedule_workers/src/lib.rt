@@ -18,7 +18,7 @@
 //!
 //! - `step`: a step of a worker (`Run::step`), and a border's alone (`Run::border`).
 //! - `plain`: an instruction that is no border.
-//! - `call`, `returning`, `detach`, `reattach`, `sync`, `clear`: each border. (`clear` is the array store.)
+//! - `call`, `returning`, `detach`, `reattach`, `sync`, `clear`: each border (`Call`, `Detach` say what it is to do; `clear` is the array store).
 //! - `steal`: a steal.
 //!
 //! What it looks up:
@@ -49,5 +49,7 @@ mod sync;
 mod tops;
 
 pub use activation::Activation;
+pub use call::Call;
 pub use copies::frame_copy_in;
+pub use detach::Detach;
 pub use run::{Block, Run};

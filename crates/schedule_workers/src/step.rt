@@ -15,6 +15,8 @@ ghost use Rattle.schedule_workers.specs.Rooms.{IsRoomier};
 ghost use Rattle.schedule_workers.specs.Scheduling.{hand_of};
 ghost use Rattle.schedule_workers.specs.RunShown.{item_here};
 
+use crate::call::Call;
+use crate::detach::Detach;
 use crate::run::Run;
 use frame_engine::{Item, Places};
 use lists::OutOfMemory;
@@ -54,15 +56,14 @@ impl Run {
                 register,
                 callee,
                 arguments,
-            } => self.call(
-                program,
-                places,
-                worker,
-                slot,
-                *register,
-                *callee,
-                arguments.as_slice(),
-            ),
+            } => {
+                let call = Call {
+                    register: *register,
+                    callee: *callee,
+                    arguments: arguments.as_slice(),
+                };
+                self.call(program, places, worker, slot, call)
+            }
             _ => unreachable!(),
         }
     }
@@ -97,7 +98,12 @@ impl Run {
                 body,
                 continuation,
             } => {
-                return self.detach(program, places, worker, slot, *region, *body, *continuation);
+                let detach = Detach {
+                    region: *region,
+                    body: *body,
+                    continuation: *continuation,
+                };
+                return self.detach(program, places, worker, slot, detach);
             }
             Terminator::Reattach { region, .. } => {
                 self.reattach(program, places, worker, slot, *region)

@@ -1,5 +1,6 @@
 pub mod Spelled
 pub mod Story
+pub mod Launching
 pub mod Calls
 pub mod Strands
 pub mod Answer

@@ -12,7 +12,7 @@
 //! The board:
 //!
 //! - `board`: the machine with its history (`Board`), and the calls at a seat. `answers`: what these answer.
-//! - `bench`: the ledger of one run, with where the run begins. `start`: where it begins, as data.
+//! - `launch`: what a run is started with. `bench`: the ledger of one run, with where the run begins. `start`: that as data.
 //! - `seat`: a worker's seat. `history`: the events so far, kept or seen by contracts alone.
 //! - `ticket`: the name of a task that may be stolen.
 //! - `shared`: a board in a lock (`Shared`). `rest`: board and strand between the calls of a host.
@@ -33,6 +33,7 @@ mod bench;
 mod board;
 mod frames;
 mod history;
+mod launch;
 mod outside;
 mod publishing;
 mod rest;
@@ -48,6 +49,7 @@ pub use bench::Bench;
 pub use board::Board;
 pub use frames::Top;
 pub use history::{Entry, History, Keeping};
+pub use launch::Launch;
 pub use outside::{advance, blank_frame_strand, clear};
 pub use rest::{BoardRest, StrandRest};
 pub use schedule_core::{

@@ -4,13 +4,15 @@ ghost use Rattle.std.specs.Prelude.{◌≡◌, ◌≢◌, ◌<◌, Err, None, le
 ghost use Rattle.schedule_core.specs.Admission.{IsAdmitted};
 ghost use Rattle.schedule_core.specs.store.Made.{IsMadeFor};
 ghost use Rattle.shared_run.specs.Answer.{IsSerialAnswer, LeadTo};
-ghost use Rattle.shared_run.specs.Story.{AreSeats, origin, state_of};
+ghost use Rattle.shared_run.specs.Launching.{start_of};
+ghost use Rattle.shared_run.specs.Story.{AreSeats, state_of};
 
 use crate::bench::Bench;
 use crate::board::Board;
 use crate::history::{History, Keeping};
+use crate::launch::Launch;
 use crate::seat::Seat;
-use schedule_core::{Finished, Memory, RunFault, Verified};
+use schedule_core::{Finished, RunFault};
 use std::alloc::Global;
 use std::marker::Model;
 use std::sync::Mutex;
@@ -46,29 +48,24 @@ impl<'a, L: Bench> Shared<'a, L> {
     /// back. 803 where memory is refused.
     pub fn new(
         alloc: Global,
-        verified: &'a Verified,
-        arguments: &[i64],
-        memory: Memory,
-        workers: usize,
+        launch: Launch<'a>,
         keeping: Keeping,
         blank: Blank,
     ) -> Result<(Shared<'a, L>, Vec<Seat<L>>), RunFault>
-        requires made { IsMadeFor verified.now memory }
-        requires code { verified.now ≡ L.code }
-        requires arguments { arguments.now ≡ L.arguments }
-        requires memory { memory ≡ L.memory }
-        requires crew { workers ≡ L.crew }
+        requires made { IsMadeFor launch.verified.now launch.memory }
+        requires code { launch.verified.now ≡ L.code }
+        requires arguments { launch.arguments.now ≡ L.arguments }
+        requires memory { launch.memory ≡ L.memory }
+        requires crew { launch.workers ≡ L.crew }
         requires name { blank.name ≡ L.name }
         requires parts { blank.parts ≡ L.parts }
-        requires one_each { blank.parts ≡ workers }
-        ensures start { IfOk result (λ made. made.0 ≡ origin verified.now arguments.now memory workers) }
-        ensures seats { IfOk result (λ made. AreSeats workers made.1.items) }
-        ensures admitted { IsAdmitted verified.now arguments.now memory workers result }
+        requires one_each { blank.parts ≡ launch.workers }
+        ensures start { IfOk result (λ made. made.0 ≡ start_of launch.entry) }
+        ensures seats { IfOk result (λ made. AreSeats launch.entry.workers made.1.items) }
+        ensures admitted { IsAdmitted launch.entry.verified.now launch.entry.arguments.now launch.entry.memory launch.entry.workers result }
         ensures not_stopped { result ≢ Err RunFault.Stopped }
     {
-        let (board, seats) = Board::new(
-            alloc, verified, arguments, memory, workers, keeping, blank,
-        )?;
+        let (board, seats) = Board::new(alloc, launch, keeping, blank)?;
         Ok((
             Shared {
                 board: Mutex::new(board),

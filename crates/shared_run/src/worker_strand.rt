@@ -223,9 +223,12 @@ impl<'p, L: Bench> WorkerStrand<'p, L> {
         ensures made { OnOk result (self.new.standing ≢ Standing.Spoilt) }
         ensures spoilt { OnErr result (self.new.standing ≡ Standing.Spoilt) }
     {
-        if self.standing == Standing::Spoilt {
-            self.strand = blank_strand(self.strand.alloc, self.verified)?;
-            self.standing = Standing::Blank;
+        match self.standing {
+            Standing::Spoilt => {
+                self.strand = blank_strand(self.strand.alloc, self.verified)?;
+                self.standing = Standing::Blank;
+            }
+            _ => {}
         }
         Ok(())
     }

@@ -14,10 +14,9 @@ use crate::cells::StrandCells;
 use crate::span::Span;
 use crate::strand::{Base, Strand, have_words};
 use crate::stretch::steps_at;
-use code_tables::Tables;
-use frame_engine::{Frame, Places, blank};
+use code_tables::ProgramCode;
+use frame_engine::{Frame, blank};
 use lists::OutOfMemory;
-use program::Program;
 use std::alloc::Global;
 use strand_pages::{PageLog, copy_frame};
 use window_runs::{Position, slot_of};
@@ -51,17 +50,17 @@ fn become_copy(target: &mut Frame, source: &Frame) -> Result<(), OutOfMemory>
 }
 
 /// Where a frame stands whose window is the first.
-fn place_of(program: &Program, places: &Places, tables: &Tables, frame: &Frame) -> Position
-    requires text { HasText program.now places.now }
-    requires tables { AreTables program.now places.now tables.now }
-    requires stands { FrameFits program.now frame.now }
-    ensures { IsPlaceOf program.now frame.now result }
+fn place_of(code: ProgramCode<'_>, frame: &Frame) -> Position
+    requires text { HasText code.program.now code.places.now }
+    requires tables { AreTables code.program.now code.places.now code.tables.now }
+    requires stands { FrameFits code.program.now frame.now }
+    ensures { IsPlaceOf code.entry.program.now frame.now result }
 {
-    let pc = slot_of(tables, frame.function, frame.place);
+    let pc = slot_of(code.tables, frame.function, frame.place);
     Position {
         pc,
         end: frame.registers.len(),
-        steps: steps_at(tables, pc),
+        steps: steps_at(code.tables, pc),
     }
 }
 
@@ -103,17 +102,15 @@ impl Strand {
     /// Memory was refused: the strand shows nothing any more.
     pub fn load(
         &mut self,
-        program: &Program,
-        places: &Places,
-        tables: &Tables,
+        code: ProgramCode<'_>,
         base: &BoardFrame<'_>,
         start: u64,
         room: usize,
         cells: usize,
     ) -> Result<(), OutOfMemory>
-        requires text { HasText program.now places.now }
-        requires tables { AreTables program.now places.now tables.now }
-        requires stands { FrameFits program.now base.now.frame.now }
+        requires text { HasText code.program.now code.places.now }
+        requires tables { AreTables code.program.now code.places.now code.tables.now }
+        requires stands { FrameFits code.program.now base.now.frame.now }
         ensures path { OnOk result (self.new.base.path.items ≡ base.now.path.now) }
         ensures loaded { OnOk result (IsCopy base.now.frame.now self.new.base.frame) }
         ensures childless { OnOk result (self.new.base.childless ≡ base.now.childless) }
@@ -121,14 +118,13 @@ impl Strand {
         ensures done { OnOk result (self.new.done ≡ 0) }
         ensures segment { OnOk result (segment_of self.new.cells ≡ record { start = start; count = room }) }
         ensures log { OnOk result (log_of self.new.cells.log ≡ empty_log (max (log_of self.old.cells.log).pages (pages_of cells))) }
-        ensures way { OnOk result (MayBegin program.now places.now base.now.path.now base.now.frame.now base.now.childless
-            (record { start = start; count = room }) → IsUnderWay program.now places.now self.new) }
+        ensures way { OnOk result (MayBegin code.entry.program.now code.entry.places.now base.now.path.now base.now.frame.now base.now.childless
+            (record { start = start; count = room }) → IsUnderWay code.entry.program.now code.entry.places.now self.new) }
     {
         self.base.path.clear();
         self.base.path.extend_from_slice(base.path)?;
         become_copy(&mut self.base.frame, base.frame)?;
-        self.span
-            .take_in(base.frame, place_of(program, places, tables, base.frame))?;
+        self.span.take_in(base.frame, place_of(code, base.frame))?;
         self.base.childless = base.childless;
         self.done = 0;
         self.deepest = 0;

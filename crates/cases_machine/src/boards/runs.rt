@@ -9,8 +9,8 @@ use crate::report::Report;
 use lists::OutOfMemory;
 use serial_machine::serial_run;
 use shared_run::{
-    Bench, Board, Decoded, Finished, History, Keeping, Memory, Seat, Shared, Start, Verified,
-    replay,
+    Bench, Board, Decoded, Finished, History, Keeping, Launch, Memory, Seat, Shared, Start,
+    Verified, replay,
 };
 use std::alloc::Global;
 use std::marker::Brand;
@@ -122,31 +122,22 @@ fn played<'a, L: Bench>(
     let code = Decoded::of(alloc, run.verified)?;
     let mut players = players_of(alloc, run.verified, &code, workers)?;
     let players = players.as_mut_slice();
+    let launch = Launch {
+        verified: run.verified,
+        arguments: run.arguments,
+        memory,
+        workers,
+    };
     if run.seed / 4 % 2 == run.seed % 2 {
-        let Ok((mut shared, mut seats)) = Shared::<L>::new(
-            alloc,
-            run.verified,
-            run.arguments,
-            memory,
-            workers,
-            Keeping::Events,
-            blank,
-        ) else {
+        let Ok((mut shared, mut seats)) = Shared::<L>::new(alloc, launch, Keeping::Events, blank)
+        else {
             return Err(OutOfMemory);
         };
         let board = shared.board.get_mut();
         play(run, board, seats.as_mut_slice(), players, report);
         return Ok(shared.finish(seats).ok());
     }
-    let Ok((mut board, mut seats)) = Board::<L>::new(
-        alloc,
-        run.verified,
-        run.arguments,
-        memory,
-        workers,
-        Keeping::Events,
-        blank,
-    ) else {
+    let Ok((mut board, mut seats)) = Board::<L>::new(alloc, launch, Keeping::Events, blank) else {
         return Err(OutOfMemory);
     };
     play(run, &mut board, seats.as_mut_slice(), players, report);

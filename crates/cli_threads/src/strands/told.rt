@@ -67,21 +67,8 @@ fn run_by<L: Bench>(
     requires parts { blank.parts ≡ L.parts }
     requires one_each { blank.parts ≡ launch.workers }
 {
-    let Launch {
-        verified,
-        arguments,
-        memory,
-        workers,
-    } = launch;
-    let (board, seats) = Board::<L>::new(
-        alloc,
-        verified,
-        arguments,
-        memory,
-        workers,
-        Keeping::Nothing,
-        blank,
-    )?;
+    let verified = launch.verified;
+    let (board, seats) = Board::<L>::new(alloc, launch, Keeping::Nothing, blank)?;
     match told_along(alloc, verified, board, seats, entries, has_scene) {
         Ok(told) => Ok(told),
         Err(OutOfMemory) => Err(RunFault::OutOfMemory),

@@ -55,6 +55,23 @@ fn load<L: Bench>(
     }
 }
 
+/// A child of the worker has ended: it goes on with the parent, whose ticket this was, or another worker has taken that.
+fn note_end<T: Tasks>(
+    tasks: &mut T,
+    me: u8,
+    parent: Option<(usize, u64)>,
+    idle: bool,
+    habits: &mut Habits,
+) {
+    match parent {
+        Some(own) if !idle => {
+            tasks.withdraw(me, own);
+            habits.pace.note_return();
+        }
+        _ => habits.pace.note_theft(),
+    }
+}
+
 /// The border's step. A child that ends takes its parent on, where no other worker has.
 fn step_over<L: Bench, T: Tasks>(
     board: &mut Board<'_, L>,
@@ -73,13 +90,7 @@ fn step_over<L: Bench, T: Tasks>(
                 habits.offered = habits.offered.saturating_add(1);
             }
             if strand.is_at_reattach() {
-                match parent {
-                    Some(own) if !idle => {
-                        tasks.withdraw(me, own);
-                        habits.pace.note_return();
-                    }
-                    _ => habits.pace.note_theft(),
-                }
+                note_end(tasks, me, parent, idle, habits);
             }
             if idle {
                 tasks.note(Told::Rest);

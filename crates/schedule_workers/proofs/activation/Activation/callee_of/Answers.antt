@@ -56,10 +56,10 @@ callee_is places caller worker callee count arguments start frame registers func
 pub returns : goal.returns
 returns c =
     let places = c.args.places.now in
-    let function = c.args.function in
+    let function = c.args.call.callee in
     let fit : FitsSigned w64 c.cast_signed.result = search rules in
     let at : to_z w64 (of_z w64 c.cast_signed.result) ≡ pos c.args.start = to_z-of_z w64 c.cast_signed.result fit ∙ c.cast_signed.ensures ∙ small_address c.args.start c.requires.start in
-    callee_is places c.args.self.now.frame c.args.worker function c.args.registers c.args.arguments.now c.args.start (record c.call_into.new.callee { role = role.Body; waits = wait.Nothing })
+    callee_is places c.args.self.now.frame c.args.worker function c.args.registers c.args.call.arguments.now c.args.start (record c.call_into.new.callee { role = role.Body; waits = wait.Nothing })
     c.in_ok-call_into.ensures.registers c.in_ok-call_into.ensures.function (c.in_ok-call_into.ensures.home ∙ at) refl refl
     (λ l k p g values s whole passed alike begins. as_body k places (g.made ∷ p) (called p g function.0 values) c.call_into.new.callee refl
     (c.in_ok-call_into.ensures.shown l k p g values s whole passed alike (subst (λ z. ShowsBases k (bases places.globals (allocas_of places function.0) z) (g.made ∷ p)) (sym at) begins)))

@@ -39,7 +39,7 @@ Goes a d child = (x : Layout) (at : Places) (q : Path) (h : frames.Frame) → Sh
 pub function_at-called-requires : goal.function_at-called-requires
 function_at-called-requires c = ∥∥₁_elim c.requires.safe (hlevel props) (λ s.
     let (n, at) = node_tells c.args.self.now.cactus c.args.slot (s.shown.agrees.held c.args.worker c.args.slot c.requires.hand) in
-    callee_there c.args.program.now c.args.places.now _ n.frame.frame c.args.register c.args.callee c.args.arguments.now c.requires.text (c.requires.item n at))
+    callee_there c.args.program.now c.args.places.now _ n.frame.frame c.args.call.register c.args.call.callee c.args.call.arguments.now c.requires.text (c.requires.item n at))
 
 pub returns-in_default-clause-left : goal.returns-in_default-clause-left
 returns-in_default-clause-left c = same_room c.args.self.now
@@ -89,7 +89,7 @@ callee_of-requires-clause-names c =
     let slots = ap (λ (x : Run). x.cactus) c.make_room.ensures.roomier.only in
     let at : node_at k.cactus c.args.slot ≡ Some n = ap (λ x. node_at x c.args.slot) (sym slots) ∙ sym c.node.ensures ∙ ap option_copied c.in-Some-node.is in
     let fits : FrameFits c.args.program.now n.frame.frame = ∥∥₁_elim c.requires.safe (fits_prop _ _) (λ s. (s.shown.agrees.nodes c.args.slot n at).fits) in
-    (call_names c.args.program.now c.args.places.now _ n.frame.frame c.args.register c.args.callee c.args.arguments.now c.requires.text fits (c.requires.item n at)).1
+    (call_names c.args.program.now c.args.places.now _ n.frame.frame c.args.call.register c.args.call.callee c.args.call.arguments.now c.requires.text fits (c.requires.item n at)).1
 
 pub callee_of-requires-clause-room : goal.callee_of-requires-clause-room
 callee_of-requires-clause-room c =
@@ -97,7 +97,7 @@ callee_of-requires-clause-room c =
     let n = c.in-Some-node.node.now in
     let slots = ap (λ (x : Run). x.cactus) c.make_room.ensures.roomier.only in
     let at : node_at k.cactus c.args.slot ≡ Some n = ap (λ x. node_at x c.args.slot) (sym slots) ∙ sym c.node.ensures ∙ ap option_copied c.in-Some-node.is in
-    let few = arguments_fit c.args.program.now c.args.places.now _ n.frame.frame c.args.register c.args.callee c.args.arguments.now c.requires.text (c.requires.item n at) c.function_at-called.result.now c.function_at-called.ensures in
+    let few = arguments_fit c.args.program.now c.args.places.now _ n.frame.frame c.args.call.register c.args.call.callee c.args.call.arguments.now c.requires.text (c.requires.item n at) c.function_at-called.result.now c.function_at-called.ensures in
     let long = c.len.ensures in
     omega (arith, few, long)
 
@@ -165,7 +165,7 @@ returns-clause-steps c =
     let k = c.args.self.now in
     let r = c.make_room.new.self in
     let n = c.in-Some-node.node.now in
-    let d = c.args.register in
+    let d = c.args.call.register in
     let more = c.make_room.ensures.roomier in
     let slots = ap (λ (x : Run). x.cactus) more.only in
     let here : node_at r.cactus c.args.slot ≡ Some n = sym c.node.ensures ∙ ap option_copied c.in-Some-node.is in
@@ -179,9 +179,9 @@ returns-clause-steps c =
     let went : Goes n.frame d child = subst (λ (y : Activation). Goes y d child) (sym kept) (λ x p q h s. subst (λ (y : Activation). ShowsFrame x p q (waiting h d) y.frame) c.wait_for.ensures.is (c.wait_for.ensures.shown x p q h s)) in
     let cells = c.in-Some.ensures.some ∙ ap (λ (xs : List Alloca). sum (map (λ (x : Alloca). x.cells) xs)) c.as_slice.ensures in
     let room = subst (λ y. IsRoom r child y block) cells c.in_ok-block.ensures.room in
-    let begins = subst (λ y. IsCallee c.args.places.now n.frame.frame c.args.worker c.args.callee y c.args.arguments.now block.start b) c.len.ensures c.in_ok-begun.ensures in
+    let begins = subst (λ y. IsCallee c.args.places.now n.frame.frame c.args.worker c.args.call.callee y c.args.call.arguments.now block.start b) c.len.ensures c.in_ok-begun.ensures in
     let waits = c.wait_for.ensures.is ∙ ap (waiting_on d child) (sym kept) in
-    let steps = call_steps c.args.program.now c.args.places.now k c.args.slot n n.frame at c.args.worker c.requires.hand _ c.requires.text d c.args.callee c.args.arguments.now (c.requires.item n at) (search rules) r more mid b child
+    let steps = call_steps c.args.program.now c.args.places.now k c.args.slot n n.frame at c.args.worker c.requires.hand _ c.requires.text d c.args.call.callee c.args.call.arguments.now (c.requires.item n at) (search rules) r more mid b child
     c.in_ok-push_call_in.ensures.ok c.in_ok-push_call_in.ensures.map f c.function_at-called.ensures block room begins went in
     let set = c.set_hand.ensures ∙ ap (λ (x : Run). record x { hands = with_item x.hands c.args.worker (Some child) })
     (c.count_call.ensures ∙ ap (λ (x : Run). record x { instructions = x.instructions + 1; peak = max x.peak (n.frame.frame.depth + 1 + 1) }) c.give.ensures) in
@@ -210,7 +210,7 @@ returns-clause-stalls c = λ m shown safe.
     subst (λ (x : Frames Activation). NotesStalls (Step c.args.worker) m k.cactus x true) (sym now)
     (child_notes c.args.program.now c.args.places.now k c.args.slot n at m shown c.args.worker c.requires.hand c.push_call_in.new.self c.args.slot n.frame.frame.made b child adds
     (run_free b c.args.worker (ap (λ (x : Activation). x.runner) c.in_ok-begun.ensures.is)) c.args.slot waits
-    (calling_free waits c.in-Some-frame_mut.caller.now.frame.made c.args.register (ap (λ (x : Activation). x.frame.waits) c.wait_for.ensures.is)))
+    (calling_free waits c.in-Some-frame_mut.caller.now.frame.made c.args.call.register (ap (λ (x : Activation). x.frame.waits) c.wait_for.ensures.is)))
 
 pub returns-clause-follows : goal.returns-clause-follows
 returns-clause-follows c =
@@ -228,10 +228,10 @@ pub returns-in_default-clause-follows : goal.returns-in_default-clause-follows
 returns-in_default-clause-follows c = follows_same c.args.self.now.cactus
 
 pub returns-in_default-clause-grows : goal.returns-in_default-clause-grows
-returns-in_default-clause-grows c = calling c.args.program.now c.args.places.now c.args.self.now c.args.slot c.args.worker c.requires.hand c.args.register c.args.callee c.args.arguments.now c.requires.item
+returns-in_default-clause-grows c = calling c.args.program.now c.args.places.now c.args.self.now c.args.slot c.args.worker c.requires.hand c.args.call.register c.args.call.callee c.args.call.arguments.now c.requires.item
 
 pub returns-in_err-block-clause-grows : goal.returns-in_err-block-clause-grows
-returns-in_err-block-clause-grows c = on_err c.from_residual.result (calling c.args.program.now c.args.places.now c.args.self.now c.args.slot c.args.worker c.requires.hand c.args.register c.args.callee c.args.arguments.now c.requires.item)
+returns-in_err-block-clause-grows c = on_err c.from_residual.result (calling c.args.program.now c.args.places.now c.args.self.now c.args.slot c.args.worker c.requires.hand c.args.call.register c.args.call.callee c.args.call.arguments.now c.requires.item)
 
 pub returns-in_err-block-clause-follows : goal.returns-in_err-block-clause-follows
 returns-in_err-block-clause-follows c =
@@ -239,7 +239,7 @@ returns-in_err-block-clause-follows c =
     subst (λ (x : Frames Activation). Follows c.args.self.now.cactus x) (sym slots) (follows_same c.args.self.now.cactus)
 
 pub returns-in_err-begun-clause-grows : goal.returns-in_err-begun-clause-grows
-returns-in_err-begun-clause-grows c = on_err c.from_residual-in_err-begun.result (calling c.args.program.now c.args.places.now c.args.self.now c.args.slot c.args.worker c.requires.hand c.args.register c.args.callee c.args.arguments.now c.requires.item)
+returns-in_err-begun-clause-grows c = on_err c.from_residual-in_err-begun.result (calling c.args.program.now c.args.places.now c.args.self.now c.args.slot c.args.worker c.requires.hand c.args.call.register c.args.call.callee c.args.call.arguments.now c.requires.item)
 
 pub returns-in_err-begun-clause-follows : goal.returns-in_err-begun-clause-follows
 returns-in_err-begun-clause-follows c =
@@ -247,7 +247,7 @@ returns-in_err-begun-clause-follows c =
     subst (λ (x : Frames Activation). Follows c.args.self.now.cactus x) (sym slots) (follows_same c.args.self.now.cactus)
 
 pub returns-in_err-push_call_in-clause-grows : goal.returns-in_err-push_call_in-clause-grows
-returns-in_err-push_call_in-clause-grows c = on_err c.from_residual-in_err-push_call_in.result (calling c.args.program.now c.args.places.now c.args.self.now c.args.slot c.args.worker c.requires.hand c.args.register c.args.callee c.args.arguments.now c.requires.item)
+returns-in_err-push_call_in-clause-grows c = on_err c.from_residual-in_err-push_call_in.result (calling c.args.program.now c.args.places.now c.args.self.now c.args.slot c.args.worker c.requires.hand c.args.call.register c.args.call.callee c.args.call.arguments.now c.requires.item)
 
 pub returns-in_err-push_call_in-clause-follows : goal.returns-in_err-push_call_in-clause-follows
 returns-in_err-push_call_in-clause-follows c =

@@ -35,7 +35,7 @@ child_frame-requires c =
     let node = c.in-Some.node.now in
     let stands : node_at c.args.self.now.cactus c.args.slot ≡ Some node = sym c.node.ensures ∙ ap option_copied c.in-Some.is in
     ∥∥₁_elim c.requires.safe (hlevel props) (λ s.
-    let room = depth_room c.args.program.now c.args.places.now c.args.self.now c.args.slot node stands s.machine s.shown c.args.region c.args.child c.args.continuation (c.requires.item node stands) c.args.worker c.requires.hand s.safe in
+    let room = depth_room c.args.program.now c.args.places.now c.args.self.now c.args.slot node stands s.machine s.shown c.args.detach.region c.args.detach.body c.args.detach.continuation (c.requires.item node stands) c.args.worker c.requires.hand s.safe in
     omega (arith, room))
 
 pub add_child-requires-clause-room : goal.add_child-requires-clause-room
@@ -43,7 +43,7 @@ add_child-requires-clause-room c =
     let node = c.in-Some.node.now in
     let stands : node_at c.args.self.now.cactus c.args.slot ≡ Some node = sym c.node.ensures ∙ ap option_copied c.in-Some.is in
     ∥∥₁_elim c.requires.safe (hlevel props) (λ s.
-    frames_room c.args.program.now c.args.places.now c.args.self.now c.args.slot node stands s.machine s.shown c.args.region c.args.child c.args.continuation (c.requires.item node stands) c.args.worker c.requires.hand s.safe)
+    frames_room c.args.program.now c.args.places.now c.args.self.now c.args.slot node stands s.machine s.shown c.args.detach.region c.args.detach.body c.args.detach.continuation (c.requires.item node stands) c.args.worker c.requires.hand s.safe)
 
 pub leave_behind-requires-clause-counted : goal.leave_behind-requires-clause-counted
 leave_behind-requires-clause-counted c =
@@ -51,8 +51,8 @@ leave_behind-requires-clause-counted c =
     let stands : node_at c.args.self.now.cactus c.args.slot ≡ Some node = sym c.node.ensures ∙ ap option_copied c.in-Some.is in
     let same = found_again c.args.self.now.cactus c.args.slot node stands c.add_child.new.self node.frame.frame.made c.in_ok-begun.begun c.in_ok-begun_slot.begun_slot c.in_ok-begun_slot.ensures.ok c.in-Some-frame_mut.parent.now (sym c.frame_mut.ensures.value ∙ ap option_copied_mut c.in-Some-frame_mut.is) in
     ∥∥₁_elim c.requires.safe (hlevel props) (λ s.
-    let within = counts_region c.args.program.now c.args.places.now c.args.self.now c.args.slot node stands s.machine s.shown c.args.region c.args.child c.args.continuation (c.requires.item node stands) c.args.worker c.requires.hand s.safe _ c.requires.text in
-    subst (λ (x : Activation). c.args.region.0 < vec_len x.counts) same within)
+    let within = counts_region c.args.program.now c.args.places.now c.args.self.now c.args.slot node stands s.machine s.shown c.args.detach.region c.args.detach.body c.args.detach.continuation (c.requires.item node stands) c.args.worker c.requires.hand s.safe _ c.requires.text in
+    subst (λ (x : Activation). c.args.detach.region.0 < vec_len x.counts) same within)
 
 pub leave_behind-requires-clause-room : goal.leave_behind-requires-clause-room
 leave_behind-requires-clause-room c =
@@ -60,8 +60,8 @@ leave_behind-requires-clause-room c =
     let stands : node_at c.args.self.now.cactus c.args.slot ≡ Some node = sym c.node.ensures ∙ ap option_copied c.in-Some.is in
     let same = found_again c.args.self.now.cactus c.args.slot node stands c.add_child.new.self node.frame.frame.made c.in_ok-begun.begun c.in_ok-begun_slot.begun_slot c.in_ok-begun_slot.ensures.ok c.in-Some-frame_mut.parent.now (sym c.frame_mut.ensures.value ∙ ap option_copied_mut c.in-Some-frame_mut.is) in
     ∥∥₁_elim c.requires.safe (hlevel props) (λ s.
-    let room = count_room c.args.program.now c.args.places.now c.args.self.now c.args.slot node stands s.machine s.shown c.args.region c.args.child c.args.continuation (c.requires.item node stands) c.args.worker c.requires.hand s.safe in
-    subst (λ (x : Activation). counted_in x c.args.region.0 + 1 < 18446744073709551616) same room)
+    let room = count_room c.args.program.now c.args.places.now c.args.self.now c.args.slot node stands s.machine s.shown c.args.detach.region c.args.detach.body c.args.detach.continuation (c.requires.item node stands) c.args.worker c.requires.hand s.safe in
+    subst (λ (x : Activation). counted_in x c.args.detach.region.0 + 1 < 18446744073709551616) same room)
 
 pub leave_behind-requires-clause-made : goal.leave_behind-requires-clause-made
 leave_behind-requires-clause-made c =
@@ -69,7 +69,7 @@ leave_behind-requires-clause-made c =
     let stands : node_at c.args.self.now.cactus c.args.slot ≡ Some node = sym c.node.ensures ∙ ap option_copied c.in-Some.is in
     let same = found_again c.args.self.now.cactus c.args.slot node stands c.add_child.new.self node.frame.frame.made c.in_ok-begun.begun c.in_ok-begun_slot.begun_slot c.in_ok-begun_slot.ensures.ok c.in-Some-frame_mut.parent.now (sym c.frame_mut.ensures.value ∙ ap option_copied_mut c.in-Some-frame_mut.is) in
     ∥∥₁_elim c.requires.safe (hlevel props) (λ s.
-    let room = made_room c.args.program.now c.args.places.now c.args.self.now c.args.slot node stands s.machine s.shown c.args.region c.args.child c.args.continuation (c.requires.item node stands) c.args.worker c.requires.hand s.safe in
+    let room = made_room c.args.program.now c.args.places.now c.args.self.now c.args.slot node stands s.machine s.shown c.args.detach.region c.args.detach.body c.args.detach.continuation (c.requires.item node stands) c.args.worker c.requires.hand s.safe in
     subst (λ (x : Activation). x.frame.made + 1 < 18446744073709551616) same room)
 
 pub overflow_add-self : goal.overflow_add-self
@@ -83,7 +83,7 @@ overflow_add-depth c =
     let stands : node_at c.args.self.now.cactus c.args.slot ≡ Some node = sym c.node.ensures ∙ ap option_copied c.in-Some.is in
     let deep = ap (λ (f : Frame). f.depth) c.in_ok-frame.ensures.is in
     let low : node.frame.frame.depth + 2 < 18446744073709551616 = ∥∥₁_elim c.requires.safe (hlevel props) (λ s.
-    depth_room c.args.program.now c.args.places.now c.args.self.now c.args.slot node stands s.machine s.shown c.args.region c.args.child c.args.continuation (c.requires.item node stands) c.args.worker c.requires.hand s.safe) in
+    depth_room c.args.program.now c.args.places.now c.args.self.now c.args.slot node stands s.machine s.shown c.args.detach.region c.args.detach.body c.args.detach.continuation (c.requires.item node stands) c.args.worker c.requires.hand s.safe) in
     record { fits = omega (arith, low, deep) }
 
 pub returns-clause-steps : goal.returns-clause-steps
@@ -96,13 +96,13 @@ returns-clause-steps c = λ m shown safe.
     let same = found_again k.cactus c.args.slot node stands c.add_child.new.self node.frame.frame.made c.in_ok-begun.begun c.in_ok-begun_slot.begun_slot c.in_ok-begun_slot.ensures.ok c.in-Some-frame_mut.parent.now (sym c.frame_mut.ensures.value ∙ ap option_copied_mut c.in-Some-frame_mut.is) in
     let left = c.leave_behind.new.self in
     subst (λ (x : Run). LeadsTo prog places k x c.args.worker m) (sym c.set_hand.ensures)
-    (detach_shown prog places k c.args.slot node stands m shown c.args.region c.args.child c.args.continuation (c.requires.item node stands) c.args.worker c.requires.hand safe (search rules) _ c.requires.text
+    (detach_shown prog places k c.args.slot node stands m shown c.args.detach.region c.args.detach.body c.args.detach.continuation (c.requires.item node stands) c.args.worker c.requires.hand safe (search rules) _ c.requires.text
     c.add_child.new.self c.in_ok-begun_slot.begun_slot c.in_ok-frame.frame c.in_ok-frame.ensures c.in_ok-begun.begun c.in_ok-begun.ensures.is c.in_ok-begun.ensures.none c.in_ok-begun.ensures.as_many c.in_ok-begun_slot.ensures.ok c.in_ok-begun_slot.ensures.map left
     (subst (λ (x : Activation). left ≡ record x { frame = left.frame; counts = left.counts; runner = None }) (sym same) c.leave_behind.ensures.only)
-    (subst (λ (x : Activation). left.frame ≡ record x.frame { place = record { block = c.args.continuation; index = 0 }; made = x.frame.made + 1; waits = wait.Nothing }) (sym same) c.leave_behind.ensures.frame)
+    (subst (λ (x : Activation). left.frame ≡ record x.frame { place = record { block = c.args.detach.continuation; index = 0 }; made = x.frame.made + 1; waits = wait.Nothing }) (sym same) c.leave_behind.ensures.frame)
     (λ y x h s. c.leave_behind.ensures.shown y places x h (subst (λ (z : Activation). ShowsFrame y places x h z.frame) same s))
     (subst (λ (x : Activation). length left.counts.items ≡ length x.counts.items) (sym same) c.leave_behind.ensures.as_many)
-    (subst (λ (x : Activation). (y : ℕ) → counted_in left y ≡ cond (eqb c.args.region.0 y) (counted_in x c.args.region.0 + 1) (counted_in x y)) (sym same) c.leave_behind.ensures.counted)
+    (subst (λ (x : Activation). (y : ℕ) → counted_in left y ≡ cond (eqb c.args.detach.region.0 y) (counted_in x c.args.detach.region.0 + 1) (counted_in x y)) (sym same) c.leave_behind.ensures.counted)
     c.max-self.result c.max-self.ensures)
 
 pub returns-clause-stalls : goal.returns-clause-stalls
@@ -124,19 +124,19 @@ returns-clause-follows c =
     (child_follows k.cactus c.add_child.new.self c.args.slot node.frame.frame.made c.in_ok-begun.begun c.in_ok-begun_slot.begun_slot c.in_ok-begun_slot.ensures.ok c.args.slot c.leave_behind.new.self)
 
 pub returns-in_err-frame-clause-grows : goal.returns-in_err-frame-clause-grows
-returns-in_err-frame-clause-grows c = on_err c.from_residual.result (detaching c.args.program.now c.args.places.now c.args.self.now c.args.slot c.args.worker c.requires.hand c.args.region c.args.child c.args.continuation c.requires.item)
+returns-in_err-frame-clause-grows c = on_err c.from_residual.result (detaching c.args.program.now c.args.places.now c.args.self.now c.args.slot c.args.worker c.requires.hand c.args.detach.region c.args.detach.body c.args.detach.continuation c.requires.item)
 
 pub returns-in_err-frame-clause-follows : goal.returns-in_err-frame-clause-follows
 returns-in_err-frame-clause-follows c = follows_same c.args.self.now.cactus
 
 pub returns-in_err-begun-clause-grows : goal.returns-in_err-begun-clause-grows
-returns-in_err-begun-clause-grows c = on_err c.from_residual-in_err-begun.result (detaching c.args.program.now c.args.places.now c.args.self.now c.args.slot c.args.worker c.requires.hand c.args.region c.args.child c.args.continuation c.requires.item)
+returns-in_err-begun-clause-grows c = on_err c.from_residual-in_err-begun.result (detaching c.args.program.now c.args.places.now c.args.self.now c.args.slot c.args.worker c.requires.hand c.args.detach.region c.args.detach.body c.args.detach.continuation c.requires.item)
 
 pub returns-in_err-begun-clause-follows : goal.returns-in_err-begun-clause-follows
 returns-in_err-begun-clause-follows c = follows_same c.args.self.now.cactus
 
 pub returns-in_err-begun_slot-clause-grows : goal.returns-in_err-begun_slot-clause-grows
-returns-in_err-begun_slot-clause-grows c = on_err c.from_residual-in_err-begun_slot.result (detaching c.args.program.now c.args.places.now c.args.self.now c.args.slot c.args.worker c.requires.hand c.args.region c.args.child c.args.continuation c.requires.item)
+returns-in_err-begun_slot-clause-grows c = on_err c.from_residual-in_err-begun_slot.result (detaching c.args.program.now c.args.places.now c.args.self.now c.args.slot c.args.worker c.requires.hand c.args.detach.region c.args.detach.body c.args.detach.continuation c.requires.item)
 
 pub returns-in_err-begun_slot-clause-follows : goal.returns-in_err-begun_slot-clause-follows
 returns-in_err-begun_slot-clause-follows c = subst (λ (x : Frames Activation). Follows c.args.self.now.cactus x) (sym c.in_err-begun_slot.ensures.err) (follows_same c.args.self.now.cactus)

@@ -1,8 +1,8 @@
 //! What a run on threads is started with: module, arguments, memory and number of workers.
 
-use shared_run::{Memory, Verified};
+use schedule_core::{Memory, Verified};
 
-/// What a run on threads is started with.
+/// What a run is started with.
 #[derive(Drop)]
 pub struct Launch<'a> {
     pub verified: &'a Verified,
