@@ -5,7 +5,7 @@ use footprints::{PlacedZone, mode_covers};
 use ir_annotation::mode_text;
 use linear::Form;
 use lists::TextBuffer;
-use program::{Zone, same_object};
+use program::{Mode, Zone, same_object};
 use ranges::{Move, Sum};
 
 /// A zone where it is placed.

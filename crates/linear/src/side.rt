@@ -1,6 +1,5 @@
 //! The terms and the constant of a form, lent to who compares two forms.
 
-
 ghost use Rattle.std.specs.Prelude.{◌≡◌, ◌<◌, ◌^◌, unsigned_abs};
 ghost use Rattle.linear.specs.Forms.{AreSmall, IsRising};
 ghost use Rattle.linear.specs.Lookup.{looked_up};
