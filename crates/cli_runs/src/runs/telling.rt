@@ -117,13 +117,20 @@ fn tell_all<C: Course, W: Write>(
 /// A run that has begun, told with these names and lines.
 fn tell_from<C: Course, W: Write>(
     job: &Job<'_>,
-    words: Words<'_>,
+    names: &Names<'_>,
+    lines: &[&str],
     watch: &mut Watch<'_>,
     course: &mut C,
-    wanted: Wanted,
+    account: Account<'_>,
     output: &mut W,
 ) -> Result<Told, Halt> {
-    let mut teller = teller_of(job, words, watch, wanted)?;
+    let words = Words {
+        names,
+        lines,
+        crew: account.crew,
+        whole: account.whole,
+    };
+    let mut teller = teller_of(job, words, watch, account.wanted)?;
     let answer = tell_all(words, watch, &mut teller, course, output)?;
     Ok(teller.finish(words, answer.as_str())?)
 }
@@ -141,13 +148,8 @@ fn tell_named<C: Course, W: Write>(
         && let Ok(names) = Names::of(job.alloc, job.verified.program(), &module)
         && let Ok(lines) = job.lines()
     {
-        let words = Words {
-            names: &names,
-            lines: lines.as_slice(),
-            crew: account.crew,
-            whole: account.whole,
-        };
-        return tell_from(job, words, watch, course, account.wanted, output);
+        let lines = lines.as_slice();
+        return tell_from(job, &names, lines, watch, course, account, output);
     }
     Err(Halt::Memory)
 }
