@@ -77,7 +77,26 @@ static CASES: [Case; ALL] = [
     },
 ];
 
-/// Answers so many cases, each by these seeds. Where memory is refused that no call asks for, the runs of a module are done once more.
+/// Answers a case by these seeds. Where memory is refused that no call asks for, the runs of the module are done once more.
+fn answer_case<R: AllocGlobal + Files>(
+    rt: &R,
+    state: RandomState,
+    case: &Case,
+    seeds: &Range<u64>,
+    report: &mut Report,
+) -> io::Result<()> {
+    let verified = verified_file(rt, state, case.file)?;
+    let begin = (case.cell, case.arguments);
+    let mut right = are_right(rt.alloc(), &verified, begin, case.wanted, seeds, report);
+    if right.is_err() {
+        report.refused = "a run";
+        right = are_right(rt.alloc(), &verified, begin, case.wanted, seeds, report);
+    }
+    report.holds(case.file, right.map_err(no_memory)?);
+    Ok(())
+}
+
+/// Answers so many cases, each by these seeds.
 pub fn answer<R: AllocGlobal + Files>(
     rt: &R,
     state: RandomState,
@@ -87,14 +106,7 @@ pub fn answer<R: AllocGlobal + Files>(
 ) -> io::Result<()> {
     report.title("boards");
     for case in CASES.iter().take(count) {
-        let verified = verified_file(rt, state, case.file)?;
-        let begin = (case.cell, case.arguments);
-        let mut right = are_right(rt.alloc(), &verified, begin, case.wanted, seeds, report);
-        if right.is_err() {
-            report.refused = "a run";
-            right = are_right(rt.alloc(), &verified, begin, case.wanted, seeds, report);
-        }
-        report.holds(case.file, right.map_err(no_memory)?);
+        answer_case(rt, state, case, seeds, report)?;
     }
     Ok(())
 }

@@ -21,6 +21,21 @@ use std::thread::Threads;
 use std::time::Clock;
 use std::{env, io};
 
+/// Answers the cases of a word.
+fn answer_word<R: AllocGlobal + Files + Threads + Wait + Clock + Sync>(
+    rt: &R,
+    state: RandomState,
+    word: &str,
+    report: &mut Report,
+) -> io::Result<()> {
+    match word {
+        "threads" => threads::answer(rt, state, report),
+        // By these seeds each call at a board asks for memory. (In most runs no task beside the root is claimed, whose path is copied.)
+        "refused" => boards::answer(rt, state, boards::FEW, &(13..17), report),
+        _ => boards::answer(rt, state, boards::ALL, &(0..240), report),
+    }
+}
+
 /// Answers the cases that the program's words name.
 fn answer<R: AllocGlobal + Env + Files + Threads + Wait + Clock + Sync>(
     rt: &R,
@@ -28,12 +43,7 @@ fn answer<R: AllocGlobal + Env + Files + Threads + Wait + Clock + Sync>(
     report: &mut Report,
 ) -> io::Result<ExitCode> {
     for word in env::args(rt)?.skip(1) {
-        match word.as_str() {
-            "threads" => threads::answer(rt, state, report)?,
-            // By these seeds each call at a board asks for memory. (In most runs no task beside the root is claimed, whose path is copied.)
-            "refused" => boards::answer(rt, state, boards::FEW, &(13..17), report)?,
-            _ => boards::answer(rt, state, boards::ALL, &(0..240), report)?,
-        }
+        answer_word(rt, state, word.as_str(), report)?;
     }
     Ok(report.finish())
 }

@@ -11,8 +11,8 @@ use debugger::Debugger;
 use ir_reader::read;
 use lists::{OutOfMemory, TextBuffer};
 use std::alloc::AllocError;
+use std::io;
 use std::io::{BufRead, BufReader, Read, Write};
-use std::{io, mem};
 use views::Names;
 
 /// What people are told where a command does not find what it looks for.
@@ -27,7 +27,7 @@ fn note_of(command: &Command<'_>) -> &'static str {
     }
 }
 
-impl Session<'_, '_> {
+impl Session<'_> {
     /// Where the session stands now, and a note where what was looked for was not found.
     fn push_arrival(&self, out: &mut TextBuffer, is_found: bool, note: &str) {
         if self.is_for_people && !is_found {
@@ -112,19 +112,14 @@ impl Session<'_, '_> {
         output.flush()
     }
 
-    /// Reads the next line, if there is one. People's empty line asks for the last again.
-    fn read_next<B: BufRead>(
-        &self,
-        input: &mut B,
-        line: &mut Vec<u8>,
-        last: &mut Vec<u8>,
-    ) -> io::Result<bool> {
-        line.clear();
-        if input.read_until(b'\n', line)? == 0 {
+    /// Reads the next line into the place of the last one, if there is one. People's empty line asks for the last again.
+    fn read_next<B: BufRead>(&self, input: &mut B, last: &mut Vec<u8>) -> io::Result<bool> {
+        let mut line = Vec::new(self.alloc);
+        if input.read_until(b'\n', &mut line)? == 0 {
             return Ok(false);
         }
         if !self.is_for_people || !self.text_of(line.as_slice()).is_empty() {
-            mem::swap(line, last);
+            *last = line;
         }
         Ok(true)
     }
@@ -144,12 +139,11 @@ impl Session<'_, '_> {
     fn answer_next<B: BufRead, W: Write>(
         &mut self,
         input: &mut B,
-        line: &mut Vec<u8>,
         last: &mut Vec<u8>,
         output: &mut W,
     ) -> io::Result<bool> {
         self.prompt(output)?;
-        if self.read_next(input, line, last)? {
+        if self.read_next(input, last)? {
             return self.answer_line(last.as_slice(), output);
         }
         if self.is_for_people {
@@ -161,10 +155,9 @@ impl Session<'_, '_> {
     /// Answers line after line.
     fn answer_all<R: Read + Drop, W: Write>(&mut self, input: R, output: &mut W) -> io::Result<()> {
         let mut input = BufReader::new(self.alloc, input)?;
-        let mut line = Vec::new(self.alloc);
         let mut last = Vec::new(self.alloc);
         for _line in 0..u64::MAX {
-            if !self.answer_next(&mut input, &mut line, &mut last, output)? {
+            if !self.answer_next(&mut input, &mut last, output)? {
                 break;
             }
         }
@@ -175,12 +168,12 @@ impl Session<'_, '_> {
 /// The dialogue of a debugger before the first event of the schedule, by the module's names and lines. People are told first how to ask.
 fn converse<R: Read + Drop, W: Write>(
     job: &Job<'_>,
-    debugger: &mut Debugger<'_>,
+    debugger: Debugger<'_>,
     names: &Names<'_>,
     lines: &[&str],
     input: R,
     output: &mut W,
-) -> io::Result<Status> {
+) -> Result<Status, Halt> {
     let dialogue = job.request.dialogue;
     let mut session = Session {
         alloc: job.alloc,
@@ -203,7 +196,7 @@ fn converse<R: Read + Drop, W: Write>(
 /// The dialogue of a debugger before the first event of the schedule.
 fn answer_by<R: Read, W: Write>(
     job: &Job<'_>,
-    debugger: &mut Debugger<'_>,
+    debugger: Debugger<'_>,
     input: &mut R,
     output: &mut W,
 ) -> Result<Status, Halt> {
@@ -213,7 +206,7 @@ fn answer_by<R: Read, W: Write>(
         && let Ok(lines) = job.lines()
     {
         let lines = lines.as_slice();
-        return Ok(converse(job, debugger, &names, lines, &mut *input, output)?);
+        return converse(job, debugger, &names, lines, &mut *input, output);
     }
     Err(Halt::Memory)
 }
@@ -228,6 +221,6 @@ pub(crate) fn answer_commands<R: Read, W: Write>(
     let (events, memory) = scheduled(job, beside)?;
     let args = job.request.args.as_slice();
     let workers = job.request.workers;
-    let mut debugger = Debugger::new(job.alloc, job.verified, args, memory, workers, events)?;
-    answer_by(job, &mut debugger, input, output)
+    let debugger = Debugger::new(job.alloc, job.verified, args, memory, workers, events)?;
+    answer_by(job, debugger, input, output)
 }

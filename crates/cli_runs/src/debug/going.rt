@@ -21,7 +21,7 @@ fn behind_next(events: &[Event], position: usize, worker: u64) -> Option<usize> 
     None
 }
 
-impl Session<'_, '_> {
+impl Session<'_> {
     /// A position is found always: one behind the end is the end.
     pub(crate) fn go_to(&mut self, position: usize) -> Result<bool, OutOfMemory> {
         self.debugger.to(position)?;

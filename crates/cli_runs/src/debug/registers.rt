@@ -7,19 +7,25 @@ use frame::{Path, Role};
 use lists::{OutOfMemory, TextBuffer};
 use views::{Settings, ThingName, Value};
 
-impl Session<'_, '_> {
+impl Session<'_> {
+    /// Adds the arrays of a living frame, if it is a function's.
+    fn begin(&self, objects: &mut Objects, path: &Path) -> Result<(), OutOfMemory> {
+        match self.debugger.show_frame(path) {
+            Some(view) if matches!(view.frame.role, Role::Body) => {
+                objects.begin(self.names.program(), view.path, view.frame)
+            }
+            _ => Ok(()),
+        }
+    }
+
     /// Where the objects stand at this position.
     fn objects(&self) -> Result<Objects, OutOfMemory> {
+        let paths = self.debugger.paths(self.alloc)?;
         let Ok(mut objects) = Objects::of(self.alloc, self.verified) else {
             return Err(OutOfMemory);
         };
-        let paths = self.debugger.paths(self.alloc)?;
         for path in &paths {
-            if let Some(view) = self.debugger.show_frame(path) {
-                if matches!(view.frame.role, Role::Body) {
-                    objects.begin(self.names.program(), view.path, view.frame)?;
-                }
-            }
+            self.begin(&mut objects, path)?;
         }
         Ok(objects)
     }

@@ -12,9 +12,9 @@ use views::{Names, TaskName};
 
 /// A debugger, with the texts that people see.
 #[derive(Drop)]
-pub(crate) struct Session<'s, 'v> {
+pub(crate) struct Session<'s> {
     pub alloc: Global,
-    pub debugger: &'s mut Debugger<'v>,
+    pub debugger: Debugger<'s>,
     pub verified: &'s Verified,
     pub names: &'s Names<'s>,
     /// The lines of the module.
@@ -25,7 +25,7 @@ pub(crate) struct Session<'s, 'v> {
     pub has_colours: bool,
 }
 
-impl Session<'_, '_> {
+impl Session<'_> {
     pub(crate) fn colour(&self, paint: Paint) -> Colour {
         Colour::of(paint, self.has_colours)
     }

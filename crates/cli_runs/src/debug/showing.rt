@@ -10,7 +10,7 @@ use views::TaskName;
 /// The most cells that one command shows of an object.
 const MOST_CELLS: u64 = 64;
 
-impl Session<'_, '_> {
+impl Session<'_> {
     fn push_status(&self, out: &mut TextBuffer, status: Status) {
         let running = if self.is_for_people {
             "running on worker"

@@ -7,7 +7,7 @@ use lists::TextBuffer;
 /// How many lines are shown before and after a line.
 const AROUND: u64 = 6;
 
-impl Session<'_, '_> {
+impl Session<'_> {
     /// The line of the first worker that runs a task.
     pub(crate) fn first_line(&self) -> u64 {
         for worker in 0..self.workers {

@@ -64,21 +64,6 @@ fn tell_event(
     teller.add(words, event, &moment)
 }
 
-/// The next event, told. None at the end.
-fn tell_next<C: Course>(
-    words: Words<'_>,
-    watch: &mut Watch<'_>,
-    teller: &mut Teller,
-    course: &mut C,
-) -> Result<Option<String>, OutOfMemory> {
-    let Some(event) = course.next(watch.machine())? else {
-        return Ok(None);
-    };
-    let line = tell_event(words, watch, teller, &event)?;
-    course.done(watch.machine())?;
-    Ok(Some(line))
-}
-
 /// What tells of a run whose root is given these registers.
 fn teller_with<'a>(
     job: &'a Job<'_>,
@@ -110,35 +95,43 @@ fn teller_of(
     teller_with(job, words, wanted, &given)
 }
 
-/// Tells event after event. The trace goes to the output.
+/// Tells event after event, and answers what the run came to. The trace goes to the output.
 fn tell_all<C: Course, W: Write>(
     words: Words<'_>,
     watch: &mut Watch<'_>,
     teller: &mut Teller,
     course: &mut C,
     output: &mut W,
-) -> Result<(), Halt> {
+) -> Result<String, Halt> {
     for _event in 0..u64::MAX {
-        match tell_next(words, watch, teller, course)? {
-            Some(line) => output.write_all(line.as_bytes())?,
-            None => break,
-        }
+        let Some(event) = course.next(watch.machine())? else {
+            break;
+        };
+        let line = tell_event(words, watch, teller, &event)?;
+        course.done(watch.machine())?;
+        output.write_all(line.as_bytes())?;
     }
-    Ok(())
+    Ok(answer_of(teller.alloc(), words, watch.machine())?)
 }
 
 /// A run that has begun, told with these names and lines.
 fn tell_from<C: Course, W: Write>(
     job: &Job<'_>,
-    words: Words<'_>,
+    names: &Names<'_>,
+    lines: &[&str],
     watch: &mut Watch<'_>,
     course: &mut C,
-    wanted: Wanted,
+    account: Account<'_>,
     output: &mut W,
 ) -> Result<Told, Halt> {
-    let mut teller = teller_of(job, words, watch, wanted)?;
-    tell_all(words, watch, &mut teller, course, output)?;
-    let answer = answer_of(job.alloc, words, watch.machine())?;
+    let words = Words {
+        names,
+        lines,
+        crew: account.crew,
+        whole: account.whole,
+    };
+    let mut teller = teller_of(job, words, watch, account.wanted)?;
+    let answer = tell_all(words, watch, &mut teller, course, output)?;
     Ok(teller.finish(words, answer.as_str())?)
 }
 
@@ -155,13 +148,8 @@ fn tell_named<C: Course, W: Write>(
         && let Ok(names) = Names::of(job.alloc, job.verified.program(), &module)
         && let Ok(lines) = job.lines()
     {
-        let words = Words {
-            names: &names,
-            lines: lines.as_slice(),
-            crew: account.crew,
-            whole: account.whole,
-        };
-        return tell_from(job, words, watch, course, account.wanted, output);
+        let lines = lines.as_slice();
+        return tell_from(job, &names, lines, watch, course, account, output);
     }
     Err(Halt::Memory)
 }
