@@ -114,19 +114,19 @@ fn tell_all<C: Course, W: Write>(
     Ok(answer_of(teller.alloc(), words, watch.machine())?)
 }
 
-/// A run that has begun, told with these names and lines.
+/// A run that has begun, told with these names.
 fn tell_from<C: Course, W: Write>(
     job: &Job<'_>,
     names: &Names<'_>,
-    lines: &[&str],
     watch: &mut Watch<'_>,
     course: &mut C,
     account: Account<'_>,
     output: &mut W,
 ) -> Result<Told, Halt> {
+    let lines = job.lines()?;
     let words = Words {
         names,
-        lines,
+        lines: lines.as_slice(),
         crew: account.crew,
         whole: account.whole,
     };
@@ -135,7 +135,7 @@ fn tell_from<C: Course, W: Write>(
     Ok(teller.finish(words, answer.as_str())?)
 }
 
-/// A run that has begun, told with the module's names and the lines of its text.
+/// A run that has begun, told with the module's names.
 fn tell_named<C: Course, W: Write>(
     job: &Job<'_>,
     watch: &mut Watch<'_>,
@@ -146,10 +146,8 @@ fn tell_named<C: Course, W: Write>(
     // It was read before.
     if let Ok(module) = read(job.alloc, job.state, job.text)
         && let Ok(names) = Names::of(job.alloc, job.verified.program(), &module)
-        && let Ok(lines) = job.lines()
     {
-        let lines = lines.as_slice();
-        return tell_from(job, &names, lines, watch, course, account, output);
+        return tell_from(job, &names, watch, course, account, output);
     }
     Err(Halt::Memory)
 }
