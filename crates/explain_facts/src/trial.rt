@@ -41,30 +41,23 @@ impl Matched {
     }
 }
 
-/// What the phases up to that of regions say of a text.
-fn judged_regions(alloc: Global, state: RandomState, text: &[u8]) -> Result<Matched, Refused> {
-    let typed = check_types(alloc, state, read(alloc, state, text)?)?;
-    let graph = graph(alloc, typed.program)?;
-    let regions = regions(alloc, &graph)?;
-    Ok(Matched {
-        whole: read(alloc, state, text)?,
-        graph,
-        regions,
-    })
-}
-
-/// The same, or what those up to that of uses say.
 fn judged(
     alloc: Global,
     state: RandomState,
     text: &[u8],
     is_defined: bool,
 ) -> Result<Matched, Refused> {
-    let matched = judged_regions(alloc, state, text)?;
+    let typed = check_types(alloc, state, read(alloc, state, text)?)?;
+    let graph = graph(alloc, typed.program)?;
+    let regions = regions(alloc, &graph)?;
     if is_defined {
-        defined(alloc, &matched.graph, &matched.regions)?;
+        defined(alloc, &graph, &regions)?;
     }
-    Ok(matched)
+    Ok(Matched {
+        whole: read(alloc, state, text)?,
+        graph,
+        regions,
+    })
 }
 
 /// The module of a text, unless a phase up to that of regions refuses it, or up to that of uses where `is_defined` asks for it.
