@@ -6,16 +6,11 @@
 
 mod course;
 mod dice;
-mod items;
-mod objects;
 mod random;
 mod watching;
 
 pub use course::Course;
 pub(crate) use course::Listed;
-pub use items::act_at;
-pub(crate) use items::{defined_by, push_parameters};
-pub(crate) use objects::Objects;
 pub(crate) use random::Draw;
 pub(crate) use watching::Watch;
 pub use watching::{after_step, place_if};

@@ -3,7 +3,7 @@
 ghost use Rattle.std.specs.Prelude.{IfOk};
 ghost use Rattle.shared_run.specs.store.Made.{IsMadeFor};
 
-use cli_runs::{Halt, Job, prepared};
+use cli_jobs::{Halt, Job, prepared};
 use cli_words::Beside;
 use deque_pool::Launch;
 

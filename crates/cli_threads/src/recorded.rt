@@ -3,9 +3,8 @@
 use crate::clocks::microseconds_since;
 use crate::launches::launch_of;
 use crate::strands::{Told as Replayed, run_again};
-use cli_runs::{
-    Course, Event, Finished, Halt, Job, Machine, page_of, prepared, print_told, tell_course,
-};
+use cli_jobs::{Finished, Halt, Job, prepared};
+use cli_runs::{Course, Event, Machine, page_of, print_told, tell_course};
 use cli_words::{Beside, Status};
 use deque_pool::{Entry, Figures, OpenGate, Recorded, run_recorded};
 use lists::{ListBuffer, OutOfMemory, TextBuffer};

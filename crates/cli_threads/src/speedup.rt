@@ -2,7 +2,7 @@
 
 use crate::clocks::microseconds_since;
 use crate::launches::launch_of;
-use cli_runs::{Finished, Halt, Job, print_finished};
+use cli_jobs::{Finished, Halt, Job, print_finished};
 use cli_words::{Beside, Status};
 use deque_pool::OpenGate;
 use lists::TextBuffer;

@@ -3,7 +3,8 @@
 use crate::launches::launch_of;
 use crate::recorded::run_told;
 use crate::speedup::run_speedup;
-use cli_runs::{Halt, Job, is_told, print_finished};
+use cli_jobs::{Halt, Job, print_finished};
+use cli_runs::is_told;
 use cli_words::{Beside, Status};
 use deque_pool::OpenGate;
 use std::io::Write;

@@ -2,8 +2,7 @@
 //!
 //! Answers about modules, in `modules`:
 //!
-//! - `judging`: from a question to its answer, or to a module that is to run (`judged`); `cli_runs` answers one about
-//!   its runs.
+//! - `judging`: from a question to its answer, or to a module that is to run (`judged`).
 //! - `requests`: what is answered before a module is judged.
 //! - `verdict`: the verdict within the effort that is granted (`verdict_on`). `accepted`: what `verify` answers of a
 //!   module that is accepted.
@@ -19,7 +18,10 @@
 //! - `play`: takes the words of a command line, the texts of the files that they name and numbers to hash names with,
 //!   and gives out what the program would print, and the files that it would write (`answer_line`). A run on workers is
 //!   drawn there by a seed, `--load` finds no file, and `--speedup` and `--time` do nothing.
-//! - `answers`: who answers a question where there are no threads. `framed`: an answer as bytes. `seed`: those numbers.
+//! - `framed`: an answer as bytes. `seed`: those numbers.
+//!
+//! Who answers, in `answers`: a question about runs of a module (`answer_verified`: `cli_runs` or `cli_debug`), and each
+//! question where there are no threads.
 #![tactic(auto)]
 
 mod answers;
@@ -28,6 +30,7 @@ mod modules;
 mod play;
 mod seed;
 
+pub use answers::answer_verified;
 pub use modules::{Judgement, Verdict, effort_of, judged, verdict_on};
 pub use play::{Texts, answer_line};
 pub use seed::Seed;

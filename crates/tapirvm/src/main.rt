@@ -1,8 +1,8 @@
 //! The program `tapirvm`: reads a module, verifies it and runs it.
 //!
 //! [`run`](host::run) is all that the program does: it reads words and files, obeys, and answers the status. Below it, `words` of `cli_words` makes a request
-//! of a command line, and [`act`](requests::act) answers a `Question`, a request over the bytes of files: what is asked of a module by `cli_verbs`, a run on
-//! workers, each on a thread of its own, by `cli_threads`, and any other run by `cli_runs`.
+//! of a command line, and [`act`](requests::act) answers a `Question`, a request over the bytes of files: a run on workers, each on a thread of its own, by
+//! `cli_threads`, and all else by `cli_verbs`, which leaves any other run to `cli_runs` and `cli_debug`.
 #![tactic(auto)]
 
 mod files;

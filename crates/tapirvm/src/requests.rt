@@ -1,8 +1,8 @@
 //! From a question to its answer: runs on threads here, all else by the crates below (dispatch of verbs).
 
-use cli_runs::{Job, answer_verified, status_of};
+use cli_jobs::{Job, status_of};
 use cli_threads::{microseconds_since, run_on_workers};
-use cli_verbs::{Judgement, judged};
+use cli_verbs::{Judgement, answer_verified, judged};
 use cli_words::{Beside, Question, Status, Verb, ended};
 use std::io;
 use std::io::{Read, Write};

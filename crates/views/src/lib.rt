@@ -9,6 +9,8 @@
 //!
 //! - `moment`: where an event found its task, what it came to, or why it was not enabled (`Moment`).
 //! - `change`: what it set.
+//! - `items`: what stands at a frame's place, and what its next step sets (`Plan`).
+//! - `objects`: what a word means that is a pointer (`Objects`).
 //! - `rounds`: when it could have happened at the earliest (`Rounds`).
 //! - `trace`: an event as a line. `event`: an event as JSON, as `docs/FORMATS.md` tells.
 //! - `names`: the names that a module's text gives to registers and objects. `spelling`: a text as JSON spells it.
@@ -27,9 +29,11 @@
 mod change;
 mod event;
 mod figures;
+mod items;
 mod module;
 mod moment;
 mod names;
+mod objects;
 mod page;
 mod pictures;
 mod rounds;
@@ -43,9 +47,13 @@ mod trace;
 
 pub use change::{CellPlace, Change, Setting, Settings, Thing, Value, Written};
 pub use figures::{Crew, Effort, Figures};
+pub use items::{
+    Plan, Target, Which, act_at, defined_by, is_plain_at, plan_of, push_parameters, registers_at,
+};
 pub use module::{printed, show};
 pub use moment::{Act, Hindrance, Moment, Outcome, TaskName, TaskPlace};
 pub use names::{Names, ThingName};
+pub use objects::Objects;
 pub use page::{MOST_EVENTS, Start};
 pub use pictures::Scene;
 pub use rounds::{Instant, Rounds, Tally, Timing};

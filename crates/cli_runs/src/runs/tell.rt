@@ -2,13 +2,12 @@
 
 ghost use Rattle.serial_machine.specs.store.Made.{IsMadeFor};
 
-use crate::runs::halt::Halt;
-use crate::runs::job::Job;
-use crate::runs::running::{prepared, print_finished, print_replayed, scheduled};
+use crate::runs::running::print_replayed;
 use crate::runs::telling::{Account, tell};
 use crate::watch::{Course, Draw, Listed};
+use cli_jobs::{Halt, Job, prepared, print_finished, scheduled};
 use cli_words::{Beside, Status, Telling};
-use debugger::{Event, Finished, Memory, replay};
+use schedule_core::{Event, Finished, Memory, replay};
 use std::io::Write;
 use views::{Crew, Told, Wanted, Whole};
 
@@ -147,7 +146,7 @@ fn run_listed<W: Write>(
 }
 
 /// Runs by the schedule, and tells of its events where that is asked for.
-pub(crate) fn run_replay<W: Write>(
+pub fn run_replay<W: Write>(
     job: &Job<'_>,
     output: &mut W,
     beside: &mut Beside,
@@ -162,7 +161,7 @@ pub(crate) fn run_replay<W: Write>(
 }
 
 /// Runs by events that are drawn by the seed, and tells of them where that is asked for. The seed is 0 where the request names none.
-pub(crate) fn run_drawn<W: Write>(
+pub fn run_drawn<W: Write>(
     job: &Job<'_>,
     output: &mut W,
     beside: &mut Beside,

@@ -2,12 +2,11 @@
 
 ghost use Rattle.serial_machine.specs.store.Made.{IsMadeFor};
 
-use crate::runs::halt::Halt;
-use crate::runs::job::Job;
 use crate::watch::{Course, Watch};
-use debugger::{Event, Machine, Memory};
+use cli_jobs::{Halt, Job};
 use ir_reader::read;
 use lists::OutOfMemory;
+use schedule_core::{Event, Machine, Memory};
 use std::alloc::{AllocError, Global};
 use std::io::Write;
 use views::{Crew, Names, Settings, Start, Teller, Told, Wanted, Whole, Words};

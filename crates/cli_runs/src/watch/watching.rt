@@ -2,13 +2,14 @@
 
 ghost use Rattle.schedule_core.specs.store.Made.{IsMadeFor};
 
-use crate::watch::items::{Plan, Which, is_plain_at, plan_of, registers_at};
-use crate::watch::objects::Objects;
 use frame::Path;
 use lists::OutOfMemory;
 use schedule_core::{Event, Machine, Memory, RunFault, Status, TaskView, Verified};
 use std::alloc::Global;
-use views::{Act, Change, Hindrance, Moment, Outcome, Settings, TaskPlace, Written};
+use views::{
+    Act, Change, Hindrance, Moment, Objects, Outcome, Plan, Settings, TaskPlace, Which, Written,
+    is_plain_at, plan_of, registers_at,
+};
 
 /// A run that is watched: each event gives a [`Moment`].
 pub struct Watch<'v> {
@@ -176,12 +177,15 @@ impl<'v> Watch<'v> {
         requires { IsMadeFor verified.now memory }
     {
         let machine = Machine::start(alloc, verified, arguments, memory, workers)?;
+        let Ok(objects) = Objects::of(alloc, verified) else {
+            return Err(RunFault::OutOfMemory);
+        };
         Ok(Watch {
             alloc,
             verified,
             machine,
             workers,
-            objects: Objects::of(alloc, verified)?,
+            objects,
             is_detailed: false,
         })
     }

@@ -5,7 +5,7 @@ ghost use Rattle.std.specs.Prelude.{◌≡◌};
 use crate::strands::ahead::{Ahead, Runs, Then};
 use crate::strands::levels::Levels;
 use crate::strands::told::{Told, last_round, nothing_told};
-use cli_runs::{Event, act_at, after_step, place_if};
+use cli_runs::{Event, after_step, place_if};
 use frame::Path;
 use lists::OutOfMemory;
 use program::Program;
@@ -14,7 +14,7 @@ use shared_run::{
     Verified, WorkerStrand,
 };
 use std::alloc::Global;
-use views::{Act, Moment, Outcome, Rounds, Tally};
+use views::{Act, Moment, Outcome, Rounds, Tally, act_at};
 
 /// A run under way: its board, and the stack of the worker whose steps are done now.
 #[derive(Drop)]

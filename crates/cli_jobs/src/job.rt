@@ -1,10 +1,10 @@
 //! A module that the verifier took, and what is asked of it: what a run is made from.
 
 use cli_words::{Beside, Question, Request};
-use debugger::Verified;
 use program::Function;
 use std::alloc::{AllocError, Global};
 use std::hash::RandomState;
+use store::Verified;
 
 /// What a run is made from.
 #[derive(Clone, Copy)]
@@ -34,12 +34,12 @@ impl<'a> Job<'a> {
     }
 
     /// The module's text.
-    pub(crate) fn source(&self) -> &'a str {
+    pub fn source(&self) -> &'a str {
         str::from_utf8(self.text).unwrap_or("")
     }
 
     /// The lines of the module's text.
-    pub(crate) fn lines(&self) -> Result<Vec<&'a str>, AllocError> {
+    pub fn lines(&self) -> Result<Vec<&'a str>, AllocError> {
         self.source().lines().collect(self.alloc)
     }
 

@@ -1,12 +1,12 @@
 //! The objects of a run by their addresses: what a word means that is a pointer.
 
-use debugger::{Frame, Places};
+use crate::change::{CellPlace, Setting, Settings, Thing, Value};
 use frame::Path;
+use frame_engine::{Frame, Places};
 use lists::{ListBuffer, OutOfMemory};
 use program::{Program, RegisterId, RegisterKind};
-use schedule_core::{RunFault, Verified, places_of};
 use std::alloc::Global;
-use views::{CellPlace, Setting, Settings, Thing, Value};
+use verifier::Verified;
 
 /// Where the arrays of a living frame stand.
 #[derive(Drop)]
@@ -59,15 +59,12 @@ fn object_before(starts: &[i64], address: i64) -> Option<(usize, u64)> {
 
 impl Objects {
     /// Those of a module, without frames.
-    pub fn of(alloc: Global, verified: &Verified) -> Result<Objects, RunFault> {
-        match places_of(alloc, verified) {
-            Ok(places) => Ok(Objects {
-                alloc,
-                places,
-                homes: Vec::new(alloc),
-            }),
-            Err(_) => Err(RunFault::OutOfMemory),
-        }
+    pub fn of(alloc: Global, verified: &Verified) -> Result<Objects, OutOfMemory> {
+        Ok(Objects {
+            alloc,
+            places: Places::of_program(alloc, verified.program())?,
+            homes: Vec::new(alloc),
+        })
     }
 
     /// A function's frame begins.
@@ -91,7 +88,7 @@ impl Objects {
     }
 
     /// The frame of this path has returned.
-    pub(crate) fn end(&mut self, path: &Path) {
+    pub fn end(&mut self, path: &Path) {
         for place in 0..self.homes.len() {
             if self.homes[place].path.is_same(path) {
                 let _home = self.homes.swap_remove(place);
@@ -111,7 +108,7 @@ impl Objects {
     }
 
     /// The cell at an address.
-    pub(crate) fn cell_at(&self, address: i64) -> Result<Option<CellPlace>, OutOfMemory> {
+    pub fn cell_at(&self, address: i64) -> Result<Option<CellPlace>, OutOfMemory> {
         let home = self.home_at(address);
         let (starts, distance) = match home {
             Some(home) => (
@@ -151,7 +148,7 @@ impl Objects {
     }
 
     /// What these registers of a frame hold now, but for regions.
-    pub(crate) fn settings(
+    pub fn settings(
         &self,
         program: &Program,
         frame: &Frame,

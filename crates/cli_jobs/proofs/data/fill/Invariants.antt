@@ -1,10 +1,10 @@
 use Rattle.program.specs.declared.function.Program.{Program}
-use Rattle.serial_machine.specs.store.Made.{IsMadeFor}
-use Rattle.serial_machine.specs.store.Named.{HasGlobalCells}
-use Rattle.cli_runs.proofs.runs.data.load_all.Given as goal
+use Rattle.store.specs.Made.{IsMadeFor}
+use Rattle.store.specs.Named.{HasGlobalCells}
+use Rattle.cli_jobs.proofs.data.fill.Given as goal
 
-abbrev pub invariant-loop-word : goal.invariant-loop-word
-invariant-loop-word l =
+abbrev pub invariant-loop-index : goal.invariant-loop-index
+invariant-loop-index l =
     record {
       cells : (program : Program) → HasGlobalCells program l.fn.memory → HasGlobalCells program l.memory;
       made : (program : Program) → IsMadeFor program l.fn.memory → IsMadeFor program l.memory;

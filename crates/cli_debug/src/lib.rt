@@ -15,6 +15,7 @@
 //! - `showing`: tasks, frames, workers, arrays, and the position.
 //! - `registers`: the registers of a frame, as they are shown. `values`: which of them have values.
 //! - `source`: the lines around a line. `paint`: colours of a terminal.
+#![tactic(auto)]
 
 mod command;
 mod dialogue;
@@ -28,4 +29,4 @@ mod source;
 mod values;
 mod word;
 
-pub(crate) use dialogue::answer_commands;
+pub use dialogue::answer_commands;

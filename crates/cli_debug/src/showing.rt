@@ -1,7 +1,7 @@
 //! Shows a position: tasks, frames, workers, arrays of cells, and how far the run is.
 
-use crate::debug::paint::{Colour, Paint};
-use crate::debug::session::{Session, push_event};
+use crate::paint::{Colour, Paint};
+use crate::session::{Session, push_event};
 use debugger::{Status, TaskView};
 use frame::Path;
 use lists::{OutOfMemory, TextBuffer};

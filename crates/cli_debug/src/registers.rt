@@ -1,11 +1,10 @@
 //! Shows a frame's registers with what they hold, pointers by their objects (variables of a frame).
 
-use crate::debug::session::Session;
-use crate::debug::values::registers_with_values;
-use crate::watch::Objects;
+use crate::session::Session;
+use crate::values::registers_with_values;
 use frame::{Path, Role};
 use lists::{OutOfMemory, TextBuffer};
-use views::{Settings, ThingName, Value};
+use views::{Objects, Settings, ThingName, Value};
 
 impl Session<'_> {
     /// Adds the arrays of a living frame, if it is a function's.
@@ -21,9 +20,7 @@ impl Session<'_> {
     /// Where the objects stand at this position.
     fn objects(&self) -> Result<Objects, OutOfMemory> {
         let paths = self.debugger.paths(self.alloc)?;
-        let Ok(mut objects) = Objects::of(self.alloc, self.verified) else {
-            return Err(OutOfMemory);
-        };
+        let mut objects = Objects::of(self.alloc, self.verified)?;
         for path in &paths {
             self.begin(&mut objects, path)?;
         }

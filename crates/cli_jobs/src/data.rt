@@ -1,21 +1,21 @@
 //! Data that comes from files into globals before a run, and goes to files after it.
 
 ghost use Rattle.program.specs.declared.function.Program.{Program};
-ghost use Rattle.serial_machine.specs.store.Made.{IsMadeFor};
-ghost use Rattle.serial_machine.specs.store.Named.{HasGlobalCells};
+ghost use Rattle.store.specs.Made.{IsMadeFor};
+ghost use Rattle.store.specs.Named.{HasGlobalCells};
 
-use crate::runs::halt::Halt;
-use crate::runs::job::Job;
+use crate::halt::Halt;
+use crate::job::Job;
 use cli_words::{
     Beside, DataFault, DataWord, DataWords, RowWord, Status, print_numbers, read_numbers,
     read_words, write_words,
 };
-use debugger::Memory;
 use lists::ListBuffer;
 use program::GlobalId;
 use std::alloc::{AllocError, Global};
 use std::io;
 use std::io::Write;
+use store::Memory;
 
 /// Whether the module has the globals and the cells that the options name.
 pub(crate) fn has_data(memory: &Memory, data: &DataWords) -> bool {

@@ -1,6 +1,6 @@
 //! Going through the schedule: to a position, past a worker's event or call, to a line (stepping, breakpoints).
 
-use crate::debug::session::Session;
+use crate::session::Session;
 use debugger::{Event, TaskView};
 use frame::Path;
 use lists::OutOfMemory;

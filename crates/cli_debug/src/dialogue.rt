@@ -1,11 +1,11 @@
 //! The dialogue: a line is read, done and answered, until `quit` or the end of the input.
 
-use crate::debug::command::{Command, read_command};
-use crate::debug::help::HELP;
-use crate::debug::paint::{Colour, Paint};
-use crate::debug::session::Session;
-use crate::debug::word::Word;
-use crate::runs::{Halt, Job, scheduled};
+use crate::command::{Command, read_command};
+use crate::help::HELP;
+use crate::paint::{Colour, Paint};
+use crate::session::Session;
+use crate::word::Word;
+use cli_jobs::{Halt, Job, scheduled};
 use cli_words::{Beside, Status};
 use debugger::Debugger;
 use ir_reader::read;
@@ -212,7 +212,7 @@ fn answer_by<R: Read, W: Write>(
 }
 
 /// Goes through the schedule by the commands of the input.
-pub(crate) fn answer_commands<R: Read, W: Write>(
+pub fn answer_commands<R: Read, W: Write>(
     job: &Job<'_>,
     input: &mut R,
     output: &mut W,

@@ -1,7 +1,7 @@
 //! Shows the lines of the module around a line, with those where workers stand marked.
 
-use crate::debug::paint::{Colour, Paint};
-use crate::debug::session::Session;
+use crate::paint::{Colour, Paint};
+use crate::session::Session;
 use lists::TextBuffer;
 
 /// How many lines are shown before and after a line.

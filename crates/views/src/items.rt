@@ -1,11 +1,11 @@
 //! What stands in the program at a frame's place, and which registers and cells it sets.
 
-use debugger::{Frame, Places};
+use crate::moment::Act;
 use frame::{Role, block_at};
+use frame_engine::{Frame, Places};
 use lists::{ListBuffer, OutOfMemory};
 use program::{Address, Block, BlockId, Instruction, ObjectName, Program, RegisterId, Terminator};
 use std::alloc::Global;
-use views::Act;
 
 /// Cells that an instruction is about to write, from an address on.
 #[derive(Clone, Copy)]
@@ -117,7 +117,7 @@ fn act_of(terminator: &Terminator) -> Act {
 }
 
 /// Whether a frame's next step goes on with the frame, whatever others do: it neither makes a frame nor ends one.
-pub(crate) fn is_plain_at(program: &Program, frame: &Frame) -> bool {
+pub fn is_plain_at(program: &Program, frame: &Frame) -> bool {
     let Some(block) = block_at(program, frame.function, frame.place.block) else {
         return false;
     };
@@ -146,7 +146,7 @@ pub fn act_at(program: &Program, frame: &Frame) -> Act {
 }
 
 /// What the next step of a frame is about to do.
-pub(crate) fn plan_of(program: &Program, places: &Places, frame: &Frame) -> Plan {
+pub fn plan_of(program: &Program, places: &Places, frame: &Frame) -> Plan {
     let Some(block) = block_at(program, frame.function, frame.place.block) else {
         return UNKNOWN;
     };
@@ -173,11 +173,7 @@ pub(crate) fn plan_of(program: &Program, places: &Places, frame: &Frame) -> Plan
 }
 
 /// Adds the registers of a function's parameters.
-pub(crate) fn push_parameters(
-    registers: &mut ListBuffer<RegisterId>,
-    program: &Program,
-    frame: &Frame,
-) {
+pub fn push_parameters(registers: &mut ListBuffer<RegisterId>, program: &Program, frame: &Frame) {
     if let Some(function) = program.functions.as_slice().get(frame.function.0) {
         for number in 0..function.parameters.len() {
             registers.push(RegisterId(number));
@@ -205,7 +201,7 @@ fn push_phis(registers: &mut ListBuffer<RegisterId>, program: &Program, frame: &
 }
 
 /// These registers of a frame.
-pub(crate) fn registers_at(
+pub fn registers_at(
     alloc: Global,
     program: &Program,
     frame: &Frame,

@@ -1,6 +1,6 @@
 //! What a line of the dialogue asks for: commands with their numbers, paths and cells (command parser).
 
-use crate::debug::word::{Row, Takes, Word, row_of};
+use crate::word::{Row, Takes, Word, row_of};
 use cli_words::is_name;
 use debugger::{read_number, read_task};
 use frame::Path;

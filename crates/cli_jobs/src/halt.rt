@@ -1,12 +1,13 @@
 //! Why a run did not begin or go on (error, exit status).
 
-use crate::runs::job::Job;
+use crate::job::Job;
 use cli_words::{Beside, Status, print_unreadable, stop_for_memory};
-use debugger::{RunFault, ScheduleFault};
 use lists::OutOfMemory;
+use schedule_text::ScheduleFault;
 use std::alloc::AllocError;
 use std::io;
 use std::io::Write;
+use store::RunFault;
 
 /// Why a run did not begin or go on, before that is said.
 #[derive(Clone, Copy)]

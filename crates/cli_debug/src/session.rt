@@ -3,7 +3,7 @@
 
 ghost use Rattle.std.specs.Prelude.{◌≤◌, length};
 
-use crate::debug::paint::{Colour, Paint};
+use crate::paint::{Colour, Paint};
 use debugger::{Debugger, Event, TaskView, Verified};
 use frame::Path;
 use lists::{OutOfMemory, TextBuffer};
