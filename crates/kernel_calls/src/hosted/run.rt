@@ -18,7 +18,8 @@ use lists::OutOfMemory;
 use serial_machine::Decoded;
 use shared_run::turns::{Habits, Met as Served, Offers, meet};
 use shared_run::{
-    Bench, Board, BoardRest, Event, Finished, Keeping, Memory, RunFault, StrandRest, Verified,
+    Bench, Board, BoardRest, Event, Finished, Keeping, Launch, Memory, RunFault, StrandRest,
+    Verified,
 };
 use std::alloc::Global;
 use std::marker::Brand;
@@ -48,34 +49,23 @@ impl Drop for HostedRun {
 /// A board before the first event.
 fn board_as<L: Bench>(
     alloc: Global,
-    verified: &Verified,
-    arguments: &[i64],
-    memory: Memory,
-    workers: usize,
+    launch: Launch<'_>,
     blank: Blank,
 ) -> Result<BoardRest, RunFault>
-    requires made { IsMadeFor verified.now memory }
-    requires code { verified.now ≡ L.code }
-    requires arguments { arguments.now ≡ L.arguments }
-    requires memory { memory ≡ L.memory }
-    requires crew { workers ≡ L.crew }
+    requires made { IsMadeFor launch.verified.now launch.memory }
+    requires code { launch.verified.now ≡ L.code }
+    requires arguments { launch.arguments.now ≡ L.arguments }
+    requires memory { launch.memory ≡ L.memory }
+    requires crew { launch.workers ≡ L.crew }
     requires name { blank.name ≡ L.name }
     requires parts { blank.parts ≡ L.parts }
-    requires one_each { blank.parts ≡ workers }
+    requires one_each { blank.parts ≡ launch.workers }
     ensures rests { IfOk result (IsAtRest (origin L.code L.arguments L.memory L.crew)) }
     ensures new { IfOk result (λ made. made.history.events ≡ []) }
-    ensures admitted { IsAdmitted verified.now arguments.now memory workers result }
+    ensures admitted { IsAdmitted launch.entry.verified.now launch.entry.arguments.now launch.entry.memory launch.entry.workers result }
     ensures not_stopped { result ≢ Err RunFault.Stopped }
 {
-    let (board, _seats) = Board::<L>::new(
-        alloc,
-        verified,
-        arguments,
-        memory,
-        workers,
-        Keeping::Events,
-        blank,
-    )?;
+    let (board, _seats) = Board::<L>::new(alloc, launch, Keeping::Events, blank)?;
     Ok(board.rest())
 }
 
@@ -198,7 +188,13 @@ impl HostedRun {
             fuel,
         } = *request;
         let blank = Blank::new(workers as u64);
-        let board = board_as::<Brand>(alloc, verified, arguments, memory, workers, blank)?;
+        let launch = Launch {
+            verified,
+            arguments,
+            memory,
+            workers,
+        };
+        let board = board_as::<Brand>(alloc, launch, blank)?;
         match Offers::new(alloc, workers) {
             Ok(offers) => Ok(HostedRun {
                 board,
