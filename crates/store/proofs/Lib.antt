@@ -2,4 +2,4 @@ pub mod Setting
 pub mod Made
 pub mod Refilling
 pub mod Unmet
-pub mod Wide
+pub mod Words

@@ -3,6 +3,7 @@ pub mod Made
 pub mod Rows
 pub mod Requirements
 pub mod Serially
+pub mod Sums
 pub mod Named
 pub mod Refilled
 -- for the crates above

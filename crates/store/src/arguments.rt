@@ -1,10 +1,13 @@
 //! Which `requires` of `main` a run's arguments do not meet: the test before each run (precondition).
 
-ghost use Rattle.std.specs.Prelude.{◌≡◌, ◌+ℤ◌, ◌*ℤ◌, not, position, slice_get};
+ghost use Rattle.std.specs.Prelude.{◌≡◌, not, position, slice_get};
 ghost use Rattle.std.specs.Option.{option_copied};
+ghost use Rattle.semantics.specs.Written.{or_zero};
 ghost use Rattle.store.specs.Requirements as spec;
+ghost use Rattle.store.specs.Sums.{number_of};
 
-use program::{Form, Function, FunctionId, Inequality, Program, RegisterId, Term};
+use crate::sums::Sum;
+use program::{Form, Function, FunctionId, Inequality, Program, RegisterId};
 
 /// The function, where there is one.
 fn function_at(program: &Program, function: FunctionId) -> Option<&Function>
@@ -13,64 +16,32 @@ fn function_at(program: &Program, function: FunctionId) -> Option<&Function>
     program.functions.as_slice().get(function.0)
 }
 
-fn argument_at(arguments: &[i64], register: RegisterId) -> Option<i64>
-    ensures { result ≡ slice_get arguments.now register.0 }
+/// What is no argument counts as 0; no requirement of an accepted module names one.
+fn argument_at(arguments: &[i64], register: RegisterId) -> i64
+    ensures { result ≡ or_zero (slice_get arguments.now register.0) }
 {
-    arguments.get(register.0).copied()
-}
-
-/// The product, where it is a number of 128 bits.
-fn product(left: i128, right: i128) -> Option<i128>
-    ensures { result ≡ spec.wide (left *ℤ right) }
-{
-    left.checked_mul(right)
-}
-
-/// The sum, where it is a number of 128 bits.
-fn sum_of(left: i128, right: i128) -> Option<i128>
-    ensures { result ≡ spec.wide (left +ℤ right) }
-{
-    left.checked_add(right)
-}
-
-/// The sum with one more term; none past 128 bits or at a register that is no argument.
-fn with_term(sum: i128, term: &Term, arguments: &[i64]) -> Option<i128>
-    ensures { result ≡ spec.with_term arguments.now sum term.now }
-{
-    match argument_at(arguments, term.register) {
-        Some(argument) => match product(i128::from(term.coefficient), i128::from(argument)) {
-            Some(product) => sum_of(sum, product),
-            None => None,
-        },
-        None => None,
+    match arguments.get(register.0) {
+        Some(argument) => *argument,
+        None => 0,
     }
 }
 
-/// The form's value, where register i is argument i; none past 128 bits or at a register that is no argument.
-fn value(form: &Form, arguments: &[i64]) -> Option<i128>
-    ensures { result ≡ spec.value_at arguments.now form.now }
+/// The form's value, where register i is argument i.
+fn value(form: &Form, arguments: &[i64]) -> Sum
+    ensures { number_of result ≡ spec.value_at arguments.now form.now }
 {
-    let mut sum = form.constant;
+    let mut sum = Sum::of(form.constant);
     for term in form.terms.as_slice() {
-        match with_term(sum, term, arguments) {
-            Some(next) => sum = next,
-            None => return None,
-        }
+        sum = sum.plus_product(term.coefficient, argument_at(arguments, term.register));
     }
-    Some(sum)
+    sum
 }
 
 /// Whether the arguments meet the inequality.
 fn is_met(inequality: &Inequality, arguments: &[i64]) -> bool
     ensures { result ≡ spec.is_met arguments.now inequality.now }
 {
-    match value(&inequality.low, arguments) {
-        Some(low) => match value(&inequality.high, arguments) {
-            Some(high) => low <= high,
-            None => false,
-        },
-        None => false,
-    }
+    value(&inequality.low, arguments).is_at_most(value(&inequality.high, arguments))
 }
 
 /// The first requirement that the arguments do not meet, from 0.

@@ -6,6 +6,7 @@ mod arguments;
 mod memory;
 mod outcome;
 mod rows;
+mod sums;
 
 pub use arguments::unmet_requirement;
 pub use memory::Memory;
