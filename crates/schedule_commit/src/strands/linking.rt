@@ -15,14 +15,14 @@ use schedule_workers::{Activation, frame_copy_in};
 use std::alloc::Global;
 use std::mem::replace;
 use strand::Strand;
-use sync_join::RegionCount;
+use sync_join::RegionCounts;
 
 /// Lists for a frame and its path, whatever they hold.
 #[derive(Drop)]
 struct Lists {
     numbers: Vec<u64>,
     registers: Vec<i64>,
-    counts: Vec<RegionCount>,
+    counts: RegionCounts,
 }
 
 impl Lists {
@@ -34,7 +34,7 @@ impl Lists {
             return Lists {
                 numbers: Vec::new(alloc),
                 registers: Vec::new(alloc),
-                counts: Vec::new(alloc),
+                counts: RegionCounts::new(alloc),
             };
         };
         Lists {
@@ -89,14 +89,14 @@ pub(crate) fn count_above(activation: &mut Activation, above: &Frame)
     ensures counts { (region : ℕ) → counted_in activation.new region ≡ counted_of above.now.role region + counted_in activation.old region }
 {
     if let Role::Child { region, .. } = above.role {
-        activation.counts[region.0].opened();
+        activation.counts.open(region.0);
     }
 }
 
 /// What the scheduler is to know of the frame of this number, in these lists.
 fn activation_of(
     registers: Vec<i64>,
-    counts: Vec<RegionCount>,
+    counts: RegionCounts,
     worker: u8,
     strand: &Strand,
     number: usize,
