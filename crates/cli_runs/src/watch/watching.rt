@@ -11,6 +11,7 @@ use std::alloc::Global;
 use views::{Act, Change, Hindrance, Moment, Outcome, Settings, TaskPlace, Written};
 
 /// A run that is watched: each event gives a [`Moment`].
+#[derive(Drop)]
 pub struct Watch<'v> {
     alloc: Global,
     verified: &'v Verified,
@@ -19,20 +20,6 @@ pub struct Watch<'v> {
     objects: Objects,
     /// Whether the next moment tells what registers and cells were set.
     is_detailed: bool,
-}
-
-/// Written out, so that no crate above proves it anew.
-impl Drop for Watch<'_> {
-    fn drop(self) {
-        let Watch {
-            alloc: _,
-            verified: _,
-            machine: _,
-            workers: _,
-            objects: _,
-            is_detailed: _,
-        } = self;
-    }
 }
 
 /// Where a task stands.
