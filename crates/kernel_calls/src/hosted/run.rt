@@ -18,7 +18,8 @@ use lists::OutOfMemory;
 use serial_machine::Decoded;
 use shared_run::turns::{Habits, Met as Served, Offers, meet};
 use shared_run::{
-    Bench, Board, BoardRest, Event, Finished, Keeping, Memory, RunFault, StrandRest, Verified,
+    Bench, Board, BoardRest, Event, Finished, Keeping, Launch, Memory, RunFault, StrandRest,
+    Verified,
 };
 use std::alloc::Global;
 use std::marker::Brand;
@@ -56,15 +57,13 @@ fn board_as<L: Bench>(
     ensures admitted { IsAdmitted verified.now arguments.now memory workers result }
     ensures not_stopped { result ≢ Err RunFault.Stopped }
 {
-    let (board, _seats) = Board::<L>::new(
-        alloc,
+    let launch = Launch {
         verified,
         arguments,
         memory,
         workers,
-        Keeping::Events,
-        blank,
-    )?;
+    };
+    let (board, _seats) = Board::<L>::new(alloc, launch, Keeping::Events, blank)?;
     Ok(board.rest())
 }
 
