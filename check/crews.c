@@ -54,5 +54,5 @@ int main(int count, char **words) {
         free(cells);
     }
     printf("%ld cases, %ld runs on threads, %ld schedules replayed, %ld differences\n", cases, runs, replays, wrong);
-    return wrong != 0 || runs == 0;
+    return wrong != 0 || runs == 0 || (schedules > 0 && replays == 0);
 }

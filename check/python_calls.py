@@ -1,10 +1,11 @@
 #!/usr/bin/env python3
-"""What the package for Python answers: its doctests, and what is known of modules of examples/ and of their runs. It needs TAPIRVM_LIBRARY, or what
-`tools/install` put where the package looks; and it tries arrays of NumPy where that is there."""
+"""What the package for Python answers: each of its examples, and what is known of modules of examples/ and of their runs. It needs TAPIRVM_LIBRARY, or what
+`tools/install` put where the package looks; and it tries arrays of NumPy where that is there, else it says so."""
 import array
 import doctest
 import inspect
 import os
+import pathlib
 import pickle
 import random
 import signal
@@ -22,6 +23,8 @@ from tapirvm import (BadArguments, BadSchedule, BadWorkers, CellsInUse, Closed, 
 
 # a run that is told to stop has ended within so many seconds: in one of so many tries, as others may have the processors meanwhile
 SOON, TRIES = 0.1, 6
+# the package has at least so many examples, or they were not found
+FEWEST_EXAMPLES = 110
 LONG = [10**11]
 
 
@@ -278,7 +281,7 @@ def arrays():
     try:
         import numpy
     except ImportError:
-        print("no NumPy here: its arrays are not tried", file=sys.stderr)
+        print(f"no NumPy for {sys.executable}: its arrays are not tried")
         return
     pair = Kernel(text("pair"))
     cells = numpy.zeros(2, dtype=numpy.int64)
@@ -312,15 +315,35 @@ def costly():
     assert time.monotonic() - begun < 30
 
 
+def given_out():
+    """The classes and functions that the package gives out, by name."""
+    things = {name: getattr(tapirvm, name) for name in tapirvm.__all__}
+    return {name: it for name, it in things.items() if (inspect.isclass(it) or inspect.isfunction(it)) and it.__module__ == "tapirvm"}
+
+
+def lines_of_examples():
+    """How many lines of examples stand in the package's files."""
+    files = pathlib.Path(tapirvm.__file__).parent.glob("*.py")
+    return sum(line.lstrip().startswith(">>> ") for file in files for line in file.read_text().splitlines())
+
+
 def examples():
-    """All that the package gives out has an example."""
-    given = {name: getattr(tapirvm, name) for name in tapirvm.__all__}
-    things = {name: it for name, it in given.items() if (inspect.isclass(it) or inspect.isfunction(it)) and it.__module__ == "tapirvm"}
-    for name, it in list(things.items()):
-        parts = vars(it).items() if inspect.isclass(it) else ()
-        things.update({f"{name}.{part}": value for part, value in parts if part[0] != "_" and isinstance(value, (property, type(examples)))})
-    lacking = [name for name, it in things.items() if ">>> " not in (it.__doc__ or "")]
-    assert len(things) > 30 and not lacking, lacking
+    """Runs each example by itself, as a reader would, and answers how many lines they have. Whatever the package gives out has one, methods too, and no line
+    that stands in its files is left out."""
+    things = given_out()
+    parts = [(name, part, value) for name, it in things.items() if inspect.isclass(it) for part, value in vars(it).items()]
+    public = [*things, *(f"{name}.{part}" for name, part, value in parts if part[0] != "_" and isinstance(value, (property, type(examples))))]
+    # (The package says that its classes are its own, but their methods are of its parts. So where a module is named, doctest finds no methods.)
+    finder, runner, nothing = doctest.DocTestFinder(), doctest.DocTestRunner(), {}
+    tests = [doctest.DocTestParser().get_doctest(tapirvm.__doc__, nothing, "tapirvm", tapirvm.__file__, 0)]
+    tests += [test for name, it in things.items() for test in finder.find(it, name, module=False, globs=nothing)]
+    lacking = set(public) - {test.name for test in tests if test.examples}
+    assert len(public) > 30 and not lacking, lacking
+    told = [runner.run(test) for test in tests]
+    failed, tried, stand = sum(it.failed for it in told), sum(it.attempted for it in told), lines_of_examples()
+    assert failed == 0, f"{failed} lines of the package's examples differ"
+    assert tried == stand >= FEWEST_EXAMPLES, f"{tried} lines of examples were tried, and {stand} stand in the package"
+    return tried
 
 
 def cases():
@@ -356,7 +379,7 @@ def soak(minutes):
     print(f"{runs} runs on threads from Python")
 
 
-TESTS = [serial_runs, refusals, threads, in_steps, stops, wrong_values, in_use, waiting, views, arrays, pickles, costly, examples]
+TESTS = [serial_runs, refusals, threads, in_steps, stops, wrong_values, in_use, waiting, views, arrays, pickles, costly]
 
 
 def main():
@@ -367,11 +390,8 @@ def main():
         return soak(minutes)
     for test in TESTS:
         test()
-    parts = [tapirvm] + [module for name, module in sorted(sys.modules.items()) if name.startswith("tapirvm.")]
-    told = [doctest.testmod(part) for part in parts]
-    if sum(it.failed for it in told):
-        sys.exit("the package's examples differ")
-    print(f"{len(TESTS)} tests and {sum(it.attempted for it in told)} examples of the package for Python, with version {tapirvm.version()}")
+    tried = examples()
+    print(f"{len(TESTS)} tests and {tried} lines of examples of the package for Python, with version {tapirvm.version()}")
 
 
 if __name__ == "__main__":

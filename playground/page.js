@@ -529,7 +529,7 @@ async function begin() {
     showExample();
   }
   if (!WebAssembly.validate(MEMORY_OF_64_BITS)) {
-    const others = "Chrome and Edge have it from version 133, Firefox from 134.";
+    const others = "Chrome and Edge have it from version 133, Firefox from 134. We know of no Safari that has it.";
     return say(`This browser has no WebAssembly with 64-bit memory, so nothing runs here. ${others}`, "refused");
   }
   await program.load();

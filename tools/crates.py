@@ -1,12 +1,16 @@
 """What crates.txt says of the crates, and where the kit is: for the scripts of tools/ and docs/."""
 import pathlib
+import shutil
 import subprocess
+import sys
 
 TOP = pathlib.Path(__file__).resolve().parent.parent
 
 
 def kit():
-    """The folder of the kit that proves the repository."""
+    """The folder of the kit that proves the repository. A script that wants one ends where there is none."""
+    if not shutil.which("rt"):
+        sys.exit("there is no `rt` on the path: this wants the Rattle kit (README says what that is)")
     return pathlib.Path(subprocess.run(["rt", "doc"], capture_output=True, text=True, check=True).stdout.strip()).parent
 
 

@@ -60,6 +60,7 @@ def map_rows(client: Client, kernel: Kernel, arguments: Any, cells: Numbers, *, 
 
     >>> from distributed import Client, LocalCluster
     >>> from tapirvm import EXAMPLE, Kernel
+    >>> from tapirvm_dask import map_rows
     >>> with LocalCluster(n_workers=1, processes=False, dashboard_address=None) as cluster, Client(cluster) as client:
     ...     outcomes = map_rows(client, Kernel(EXAMPLE), [[1], [2], [3]], [0, 0, 0], progress=False)
     >>> [(it.result, it.cells.tolist()) for it in outcomes]

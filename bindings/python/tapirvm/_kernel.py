@@ -189,6 +189,8 @@ class Kernel:
             stop: Stop | None = None) -> Outcome:
         """Runs the module: serially, or on so many threads, which have ended when it returns. The answer is the serial run's in both.
 
+        `args` are whole numbers. A buffer of 64-bit integers is read where it stands, but one that cannot be written is copied first.
+
         `cells` are changed in place where they are a buffer of 64-bit integers, as an `array.array("q")`, a `memoryview` or an array of NumPy. Of other
         sequences a copy is. Where none are passed, they are the kernel's own. At any exception they are as they were. (But Ctrl-C may come when the run
         has just ended.)
@@ -197,8 +199,8 @@ class Kernel:
         ends a run within a tenth of a second, and so does a `stop` that another thread sets.
 
         Raises BadArguments, OtherCells, OutOfFuel, TimedOut, Stopped, NoMemory or Closed. And before anything is called: OverflowError for a number
-        that does not fit 64 bits, TypeError for cells that are no integers, ValueError where cells and arguments overlap, BadWorkers, and CellsInUse
-        where another thread runs over the same cells.
+        that does not fit 64 bits, TypeError for cells that are no integers or cannot be written, ValueError where cells and arguments overlap, BadWorkers,
+        and CellsInUse where another thread runs over the same cells.
 
         >>> from tapirvm import EXAMPLE, Kernel
         >>> Kernel(EXAMPLE).run([7], [100], workers=4, fuel=1_000_000)

@@ -153,6 +153,7 @@ def written(call: Callable[..., Any], *before: object, after: tuple[object, ...]
 def version() -> str:
     """The version of the library that was found.
 
+    >>> from tapirvm import version
     >>> version().split(".")[0]
     '3'
     """

@@ -18,7 +18,8 @@ UNBOUNDED = 2**64 - 1
 #: A text, or its bytes.
 Text = Union[str, bytes, bytearray, memoryview]
 
-#: Numbers of 64 bits: any iterable of whole numbers, or a buffer of them such as an `array.array("q")`, a `memoryview` or an array of NumPy.
+#: Numbers of 64 bits: any iterable of whole numbers, or a buffer of them such as an `array.array("q")`, a `memoryview` or an array of NumPy. Arguments in a
+#: buffer that cannot be written are copied; for cells such a buffer is a TypeError.
 Numbers = Any
 
 

@@ -12,6 +12,7 @@ EFFORT = 1_000_000_000
 def rule(number: int) -> str | None:
     """The text of a rule, with an example and how to mend it. None where no rule has this number.
 
+    >>> from tapirvm import rule
     >>> rule(602).splitlines()[0][:5]
     '602: '
     >>> rule(999) is None
@@ -28,7 +29,7 @@ def rule(number: int) -> str | None:
 def explain(text: Text, *, effort: int = EFFORT) -> str:
     """What `tapirvm explain` prints of a text: why it is refused, or what it could do without. Raises OutOfEffort or NoMemory.
 
-    >>> from tapirvm import EXAMPLE
+    >>> from tapirvm import EXAMPLE, explain
     >>> explain(EXAMPLE).splitlines()[0]
     'accepted'
     """
