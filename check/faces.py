@@ -58,14 +58,21 @@ def public_names(crate):
     return face(crate) | {name for _, name, _ in functions(crate)}
 
 
+def spec_file(crate, path):
+    """The file of specs/ that an import names, also by way of a crate that passes it on; none where it is no file of this repository."""
+    parts = [crate, *path.split(".")]
+    files = (TOP / "crates" / parts[first] / "specs" / ("/".join(parts[first + 1:]) + ".antt") for first in range(len(parts) - 1))
+    return next((file for file in files if file.exists()), None)
+
+
 def cited():
     """The files of specs/ of this repository that contracts of public functions cite, each with those functions."""
     found = {}
     for crate in sorted(path.parent.name for path in TOP.glob("crates/*/src")):
         for file, name, head in functions(crate):
             for of, path, names, alias in CITED.findall(file.read_text()):
-                spec = TOP / "crates" / of / "specs" / (path.replace(".", "/") + ".antt")
+                spec = spec_file(of, path)
                 words = [word.split(" as ")[-1].strip() for word in (names or alias or path.split(".")[-1]).split(",")]
-                if spec.exists() and any(re.search(rf"(?<![\w.]){re.escape(word)}(?!\w)", head) for word in words):
+                if spec and any(re.search(rf"(?<![\w.]){re.escape(word)}(?!\w)", head) for word in words):
                     found.setdefault(spec, []).append(f"{crate}::{name}")
     return found
