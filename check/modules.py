@@ -48,6 +48,44 @@ ret i64 %r
 """
 
 
+def deep(most, registers):
+    """A recursion as deep as @main's argument says, up to so much, in frames of so many registers. The last one does a sum for each register that is left."""
+    sums = registers - 5
+    each = sums + 3
+    lines = "".join(f"%x{k} = add i64 {f'%x{k - 1}' if k else '%n'}, 1\n" for k in range(sums))
+    return f"""define i64 @down(i64 %n) {{
+;! requires %n >= 0
+;! requires %n <= {most}
+;! measure %n max {most}
+;! budget 1 {each}
+entry:
+;! left 1 {each}
+%c = icmp sgt i64 %n, 0
+br i1 %c, label %more, label %last
+more:
+;! keeps %n >= 1
+;! keeps %n <= {most}
+;! left 1 4
+%m = sub nsw i64 %n, 1
+%r = call i64 @down(i64 %m)
+%t = add i64 %r, 1
+ret i64 %t
+last:
+;! left 0 {sums + 1}
+{lines}ret i64 %x{sums - 1}
+}}
+define i64 @main(i64 %n) {{
+;! requires %n >= 0
+;! requires %n <= {most}
+;! budget 0 {each * (most + 1) + 2}
+entry:
+;! left 0 {each * (most + 1) + 2}
+%r = call i64 @down(i64 %n)
+ret i64 %r
+}}
+"""
+
+
 # A loop of so many rounds as @main's argument says, of four instructions each.
 LOOP = """define i64 @main(i64 %n) {
 ;! requires %n >= 1
