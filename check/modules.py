@@ -11,6 +11,81 @@ def fib(most):
     return re.sub(r"(?<![\w.])20\b", str(most), text)
 
 
+def fib_without_tasks(most):
+    """The same numbers by two calls, up to so much."""
+    return f"""define i64 @fib(i64 %n) {{
+;! requires %n >= 0
+;! requires %n <= {most}
+;! measure %n max {most}
+;! budget 2 8
+entry:
+;! left 2 8
+%c = icmp slt i64 %n, 2
+br i1 %c, label %small, label %big
+small:
+;! left 0 1
+ret i64 %n
+big:
+;! keeps %n >= 2
+;! keeps %n <= {most}
+;! left 2 6
+%m = sub nsw i64 %n, 1
+%x = call i64 @fib(i64 %m)
+%l = sub nsw i64 %n, 2
+%y = call i64 @fib(i64 %l)
+%t = add i64 %x, %y
+ret i64 %t
+}}
+define i64 @main(i64 %n) {{
+;! requires %n >= 0
+;! requires %n <= {most}
+;! budget 0 {8 * (2 ** (most + 1) - 1) + 2}
+entry:
+;! left 0 {8 * (2 ** (most + 1) - 1) + 2}
+%r = call i64 @fib(i64 %n)
+ret i64 %r
+}}
+"""
+
+
+def deep(most, registers):
+    """A recursion as deep as @main's argument says, up to so much, in frames of so many registers. The last one does a sum for each register that is left."""
+    sums = registers - 5
+    each = sums + 3
+    lines = "".join(f"%x{k} = add i64 {f'%x{k - 1}' if k else '%n'}, 1\n" for k in range(sums))
+    return f"""define i64 @down(i64 %n) {{
+;! requires %n >= 0
+;! requires %n <= {most}
+;! measure %n max {most}
+;! budget 1 {each}
+entry:
+;! left 1 {each}
+%c = icmp sgt i64 %n, 0
+br i1 %c, label %more, label %last
+more:
+;! keeps %n >= 1
+;! keeps %n <= {most}
+;! left 1 4
+%m = sub nsw i64 %n, 1
+%r = call i64 @down(i64 %m)
+%t = add i64 %r, 1
+ret i64 %t
+last:
+;! left 0 {sums + 1}
+{lines}ret i64 %x{sums - 1}
+}}
+define i64 @main(i64 %n) {{
+;! requires %n >= 0
+;! requires %n <= {most}
+;! budget 0 {each * (most + 1) + 2}
+entry:
+;! left 0 {each * (most + 1) + 2}
+%r = call i64 @down(i64 %n)
+ret i64 %r
+}}
+"""
+
+
 # A loop of so many rounds as @main's argument says, of four instructions each.
 LOOP = """define i64 @main(i64 %n) {
 ;! requires %n >= 1
