@@ -12,12 +12,14 @@ DIVISIONS = ["((int64_t)({a}) {o} ((({b}) & 63) + 1))", "((int)({a}) {o} (int)((
 
 class Draw:
     """A file with arrays `int64_t A[8]`, `int B[8]` and a function `kernel` of two numbers."""
+    DIVISIONS, CLAIMS, STATEMENTS, DEEPEST = DIVISIONS, [], 6, 3
+
     def __init__(self, seed):
         self.chance, self.count, self.variables, self.lines = random.Random(seed), 0, [("p", "l"), ("q", "l")], []
 
     def text(self):
-        self.lines = ['#include "tapir.h"', "int64_t A[8]; int B[8];", "int64_t kernel(int64_t p, int64_t q) {"]
-        for _ in range(6):
+        self.lines = ['#include "tapir.h"', "int64_t A[8]; int B[8];", "int64_t kernel(int64_t p, int64_t q) {", *self.CLAIMS]
+        for _ in range(self.STATEMENTS):
             self.statement(1)
         return "\n".join([*self.lines, f"    return {self.value(2)};", "}", ""])
 
@@ -37,7 +39,7 @@ class Draw:
             wide, narrow = f"(int64_t)((uint64_t)({a}) {o} (uint64_t)({b}))", f"(int)((uint32_t)({a}) {o} (uint32_t)({b}))"
             return wide if self.chance.random() < 0.6 else narrow
         if o in "/%":
-            return self.chance.choice(DIVISIONS).format(a=a, b=b, o=o)
+            return self.chance.choice(self.DIVISIONS).format(a=a, b=b, o=o)
         type = self.chance.choice(list(TYPES.values()))
         forms = {"<<": f"(int64_t)((uint64_t)({a}) << (({b}) & 31))", ">>": f"(({type.replace('_Bool', 'int')})({a}) >> (({b}) & 15))",
                  "?:": f"(({self.leaf()}) ? ({a}) : ({b}))", "!": f"(!({a}))", "~": f"(~({a}))", "cast": f"(({type})({a}))",
@@ -64,7 +66,7 @@ class Draw:
             self.put(deep, self.assignment(*self.chance.choice(self.variables)))
         elif kind < 0.6:
             self.put(deep, f"{self.chance.choice('AB')}[{self.value(1)} & 7] = (int)({self.value(2)});")
-        elif deep <= 3:
+        elif deep <= self.DEEPEST:
             self.compound(deep, kind)
 
     def assignment(self, name, type):
@@ -109,6 +111,43 @@ class Draw:
             self.block(deep + 1)
             self.put(deep, "}" + (" break;" if self.chance.random() < 0.7 else ""))
         self.put(deep, "default: ;")
+
+
+class Judged(Draw):
+    """A smaller one for the verifier: it says what the parameters are, divides by what is above 0, and has no SPAWN. Often it compares and halves sums, of
+    small numbers or of unsigned ones that wrap: there the tool tries other compares and quotients."""
+    STATEMENTS, DEEPEST = 3, 1
+    DIVISIONS = ["((int64_t)({a}) {o} (((int64_t)({b}) & 63) + 1))"]
+    CLAIMS = ["    REQUIRES(0 <= p && -100 <= q && q <= 100);"]
+    INPUTS = [("0", "-100"), ("9223372036854775807", "100"), ("4611686018427387904", "0"), ("41", "7")]
+    FORMS = ["((uint64_t){x} {sign} {few} {same} 0)", "((uint64_t){x} {sign} (uint64_t){y} {same} {few}u)", "({small} {sign} {least} {same} {few})",
+             "({least} {same} {small})", "((int64_t){y} {same} {small} - {few})", "(({small} + {least}) / 2)", "(({large} + {small}) / 2)", "({x} / 2)",
+             "((int64_t)((uint64_t){x} + (uint64_t){y}) / 2)", "({large} / {few})", "({large} >> {few})", "({large} % ({least} + 1))",
+             "({large} / ({least} + 1))"]
+
+    def value(self, deep):
+        if deep == 0 or self.chance.random() < 0.4:
+            return super().value(min(deep, 2))
+        x, y, z = (self.chance.choice(self.variables)[0] for _ in range(3))
+        small = self.chance.choice(["q", f"((int64_t){x} & 63)"])
+        words = {"x": x, "y": y, "least": f"((int64_t){z} & 7)", "small": small, "large": f"((int64_t){y} & 1048575)"}
+        words |= {"few": self.chance.randint(1, 4), "sign": self.chance.choice("+-*"), "same": self.chance.choice(["==", "!="])}
+        return self.chance.choice(self.FORMS).format(**words)
+
+    def compound(self, deep, kind):
+        super().compound(deep, min(kind, 0.92))
+
+    def loop(self, deep):
+        """Half of them go by other steps than ++, up or down to an end."""
+        if self.chance.random() < 0.5:
+            return super().loop(deep)
+        self.count += 1
+        k = f"k{self.count}"
+        start, test, step = self.chance.choice([("-20", "<= 40", "+= 3"), ("30", "> 0", "/= 2"), ("12", "!= 0", "-= 1"), ("1", "< 50", "*= 2")])
+        self.put(deep, f"int64_t {k} = {start};")
+        self.put(deep, f"while ({k} {test}) {{")
+        self.put(deep + 1, f"{k} {step};")
+        self.block(deep + 1)
 
 
 def elision(text):

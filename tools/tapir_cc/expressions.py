@@ -132,7 +132,7 @@ class Expressions:
         """a / b, with its bound, where a has one. (x + y) / 2 is x + (y - x) / 2, which lies between them. Of
         1 + (x - 2) / 2 it is known that it is below x and not 0, and of (x - 1) - (x - 1) / 2 that it is below x."""
         binary, form, x = self.build.binary, self.build.form(a), self.build.makers.get(a)
-        if b == 2 and x is not None and x.op == "add" and all(isinstance(v, str) for v in x.args):
+        if b == 2 and a in self.build.linear and x.op == "add" and all(isinstance(v, str) for v in x.args):
             low, high = x.args
             if self.shown("middle", self.build.form(high) - self.build.form(low), form):
                 return binary("add", low, self.quotient(binary("sub", high, low, True), 2), True)
@@ -233,10 +233,10 @@ class Expressions:
             return self.marker(name[len("__tapir_") :], node)
         if name == "memset":
             at, value, size = [x.unconverted for x in node.inner[1:]]
-            is_whole = self.value(value) == 0 and self.value(size) == at.type.cells * at.type.bytes
+            (object, index), bytes = self.address(at), at.type._replace(is_pointer=False).bytes
+            is_whole = (index, self.value(value), self.value(size)) == (0, 0, bytes * self.f.extents[object])
             text = "memset clears a whole array at once, and sets to nothing else"
             node.place.refuse(not is_whole, text, "write a loop")
-            object = self.address(at).object
             return self.build.put("zero", object, object=object)
         node.place.refuse(not name, "a call through a pointer is not taken", "name the function")
         self.unit.need(name, node.place)

@@ -24,12 +24,13 @@ class Verdict(NamedTuple):
 class Judge:
     """One way to translate a file, which may put in more tests. Without a program nothing that was tried stays."""
 
-    def __init__(self, program: Optional[str], file: str, tree: Tree, entry: str, is_thorough: bool = False):
-        self.program, self.file, self.tree, self.entry, self.is_thorough = program, file, tree, entry, is_thorough
+    def __init__(self, program: Optional[str], file: str, tree: Tree, entry: str, effort: str, is_thorough: bool):
+        self.program, self.file, self.effort = program, file, f"--effort={effort}"
+        self.tree, self.entry, self.is_thorough = tree, entry, is_thorough
         self.refused: set[Choice] = set()
 
     def ask(self, *words: str) -> subprocess.CompletedProcess:
-        return subprocess.run([self.program, *words, self.file], capture_output=True, text=True)
+        return subprocess.run([self.program, *words, self.file, self.effort], capture_output=True, text=True)
 
     def verdict(self) -> Verdict:
         self.unit = translate(self.tree, self.entry, self.refused, self.is_thorough)

@@ -15,16 +15,14 @@ SHOWN = r"\s*(known:|nearest:|to show:|touched:|still pending)(?!.*put `shows`)"
 DOES = {"detach": "this SPAWN", "ret": "this return", "reattach": "the end of this SPAWN"}
 VERBS = {"reads": "read", "writes": "write", "adds": "add to"}
 OUTSIDE = "{what} is outside the zones that are said or found"
-UNBOUND = "no bound is found for the rounds of a loop, or a round costs over 1,000,000"
+UNBOUND = "no bound is found for the rounds of a loop, a round costs over 1,000,000, or all costs more than BUDGET"
 SPENT = "the search for what shows it is spent, or finds nothing; make functions of parts of this one"
 DEPTH = "let a depth fall, by 1 for each halving, in place of a length"
 OWN_CELLS = "let each SPAWN touch cells of its own, by its counter, or use ADD"
 RULES = {  # what one means, and what to change. {what} is refused, {goal} to be shown, {may} is what may be instead
     206: (UNBOUND, "let a round do less, or make a function of a part of it with a BUDGET"),
-    **dict.fromkeys((301, 303), ("", "write SYNC before")),
-    402: ("", "give it a value where it is declared"),
     501: ("{what} may be outside the array: {may}", ""),
-    **dict.fromkeys((502, 503, 504), ("{what} may not be defined: {may}", "")),
+    **dict.fromkeys((502, 504), ("{what} may not be defined: {may}", "")),
     505: ("a round, or a way to here, does not keep {goal}", ""),
     506: ("{what} does not meet its REQUIRES: {may}", ""),
     507: ("this return does not meet ENSURES: {may}", ""),
@@ -34,7 +32,7 @@ RULES = {  # what one means, and what to change. {what} is refused, {goal} to be
     **dict.fromkeys((601, 604), (OUTSIDE, "name the cells in READS, WRITES or ADDS of the function")),
     702: (UNBOUND, "write `for (k = 0; k < N && ..; k++)` or WHILE_AT_MOST(N, ..); or make a function of the round"),
     703: ("", "pass a depth that falls, depth - 1, with REQUIRES(0 <= depth && depth <= 20), or write MEASURE"),
-    704: ("", "write REQUIRES(depth <= 20) for what falls with each call"),
+    704: ("", "write REQUIRES(n <= 64) for what its loops and its calls of itself go by"),
     705: ("two calls of itself cost twice as much for each step of the measure: over 1,000,000,000,000", DEPTH),
 }
 
@@ -119,7 +117,7 @@ class Report:
         if means and (self.goals or not re.search("{may}|{goal}", means)):
             return means.format(what=self.what(), goal=self.goal, may=may, race=self.race())
         said = "".join(re.findall(rf"^ *{self.rule}: (.*)", self.told, re.M)[:1])
-        return (f"{self.what()}: " if self.rule in (502, 503, 504) else "") + self.names.in_text(said) or SPENT
+        return (f"{self.what()}: " if self.rule in (502, 504) else "") + self.names.in_text(said) or SPENT
 
     def race(self) -> str:
         touched = re.search(r"touched: (\w+) ([@%][\w.]+)", self.told)

@@ -211,12 +211,12 @@ class Statements(Zones):
         return (most + 1, counter) if most is not None and 0 <= most < MOST_ROUNDS else (0, "")
 
     def first_of(self, test: Node) -> Node:
-        """What holds first where a test does, if that is a form or compares forms. (The header puts a `sync` by it.)"""
+        """What holds first where a test does, if that is a signed form or compare. (The header puts a `sync` by it.)"""
         first, plain = test.bare, {"", "+", "-", "*", *COMPARES}
         while first.opcode == "&&" or first.calls_of("__tapir_sync"):
             first = first.inner[0].bare
         is_simple = all(x.kind in SIMPLE and (x.opcode in plain or not x.named()) for x in first.walk())
-        return first if is_simple else NOTHING
+        return first if is_simple and "ulong" not in {x.type.base for x in first.walk()} else NOTHING
 
     def enter(self, test: Node, first: Node, counters: dict[str, str], out: Block) -> None:
         """Tests before a loop, too, that its counter does not begin past its end, where that is not known."""
@@ -357,12 +357,14 @@ class Statements(Zones):
             self.sync()
         elif word == "add":
             at = args[0].unconverted
-            object, index = self.address(at)
-            value = self.converted(self.value(args[1]), Type("long"), at.type._replace(is_pointer=False))
+            (object, index), type = self.address(at), at.type._replace(is_pointer=False)
+            at.place.refuse(type.base in ("uint", "bool"), "ADD to unsigned or bool is not taken", "write int64_t")
+            value = self.converted(self.value(args[1]), Type("long"), type)
             self.build.put("atomic", value, object=object, index=index)
         elif word in ("reads", "writes", "adds"):
-            ends = [self.build.form(self.value(x)) for x in args[1:]]
-            self.task.given.append(Zone(word, self.address(args[0].unconverted).object, *ends))
+            object, index = self.address(args[0].unconverted)
+            ends = [self.build.form(self.value(x)) + self.build.form(index) for x in args[1:]]
+            self.task.given.append(Zone(word, object, *ends))
         elif word in ("measure", "budget"):
             first, last = [self.build.form(self.value(x)) for x in args]
             is_open = word == "measure" and last.terms

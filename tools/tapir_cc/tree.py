@@ -101,9 +101,9 @@ class Node:
 
     def callee(self) -> str:
         """The function that a call names; none where it is no call, or one through a pointer."""
-        parts = self.inner[0].walk() if self.kind == "CallExpr" else ()
-        named = next((x.declared for x in parts if x.kind == "DeclRefExpr"), None)
-        return named.name if named and named.kind == "FunctionDecl" else ""
+        parts = list(self.inner[0].walk()) if self.kind == "CallExpr" else []
+        named = [x.declared.name for x in parts if x.declared.kind == "FunctionDecl"]
+        return named[0] if named and all(len(x.inner) < 2 for x in parts) else ""
 
     def calls_of(self, name: str) -> list["Node"]:
         return [x for x in self.walk() if x.callee() == name]
@@ -132,8 +132,7 @@ class Node:
 class Tree:
     def __init__(self, clang: str, words: list[str]):
         if not shutil.which(clang):
-            change = "install it (Debian: apt-get install clang), or name it by --clang"
-            sys.exit(f"tapir-cc: {clang} is not there: {change}")
+            sys.exit(f"tapir-cc: no {clang} here: install it (Debian: apt-get install clang), or name it by --clang")
         self.command = [clang, *FLAGS, *words, "-Xclang"]
         self.types: dict[str, str] = {}  # a typedef or an enumeration -> what it stands for
         self.constants: dict[str, int] = {}  # an enumerator's id -> its value

@@ -1,4 +1,4 @@
-// accepted; args 0 | 3
+// accepted; args 0 | 3 | 1
 #include "tapir.h"
 static const int64_t none[4] = {0};
 const unsigned mask = 0xff0000ffu;
