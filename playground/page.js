@@ -244,11 +244,12 @@ function showRefused(faults) {
   say(`Refused by rule ${first.rule} in line ${first.line}: ${first.words}.${more}`, "refused");
 }
 
+// (It is said last: what is said before the program answers again would give way to what is being done.)
 async function showAccepted(verdict) {
   editor.mark("bad", []);
-  say(`Accepted. A run does at most ${verdict.budget} instructions, and frames stand at most ${verdict.depth} deep.`, "accepted");
   const told = JSON.parse((await ask(["explain", MODULE, "--json"])).output);
   if (told.remarks?.length) byId("faults").replaceChildren(...list("What could be left out:", told.remarks));
+  say(`Accepted. A run does at most ${verdict.budget} instructions, and frames stand at most ${verdict.depth} deep.`, "accepted");
 }
 
 // The verdict on the text as it stands; true where it is accepted.
