@@ -10,6 +10,6 @@ mod pruning;
 mod trying;
 mod verdict;
 
-pub use annotate_lines::{Limit, MetLimit, NewLines, is_long, limits_met};
+pub use annotate_lines::{Limit, MetLimit, NewLines};
 pub use pruning::pruned;
 pub use trying::annotated;

@@ -6,7 +6,7 @@ ghost use Rattle.ir_reader.specs.Reading.{IsFaultOfText};
 
 use crate::own_lines::is_annotated;
 use crate::verdict::verdict;
-use annotate_lines::with_lines;
+use annotate_lines::{MetLimit, with_lines};
 use ir_reader::read;
 use ranges::Effort;
 use refusal::Refused;
@@ -68,7 +68,8 @@ fn judged(
 }
 
 /// A module's text with lines put in that follow from others, each of them tried; none is changed or taken away, and a last line without an end gets one. The
-/// names of the text are hashed with `state`. Where the effort is spent, the text stays as it was.
+/// names of the text are hashed with `state`. Where the effort is spent, the text stays as it was. Which limits of what is looked at were met, so that lines that
+/// follow may be missing, is put into `met`, by the lines of the text without those that are put in.
 ///
 /// # Errors
 ///
@@ -78,6 +79,7 @@ pub fn annotated(
     state: RandomState,
     text: &[u8],
     effort: &Effort,
+    met: &mut Vec<MetLimit>,
 ) -> Result<Vec<u8>, Refused>
     ensures accepted { IfOk result (λ out. StaysAccepted text.now out.items) }
     ensures annotated { IfOk result (λ out. IsAnnotated text.now out.items) }
@@ -85,6 +87,7 @@ pub fn annotated(
     ensures refused { IfErr result (IsFaultOfText text.now) }
 {
     drop(read(alloc, state, text)?);
-    let more = with_lines(alloc, state, text, effort)?;
+    let (more, limits) = with_lines(alloc, state, text, effort)?;
+    *met = limits;
     Ok(judged(alloc, state, text, more.as_bytes(), effort)?)
 }

@@ -1,6 +1,7 @@
 //! Facts that follow from those that are known where a register is made, and may be of use in later blocks: between which numbers it lies, and what its call
 //! says of it.
 
+use crate::limits::{Limit, MetLimit, meet};
 use annotate_facts::{
     Edge, Extra, Heap, Known, Sum, block_at, facts_of, greatest_number, is_used_beside,
     register_of, value_from,
@@ -53,6 +54,8 @@ struct Finder<'w, 'a> {
     /// For each block what is known at its end.
     ends: Vec<Vec<Sum<'a>>>,
     extras: Vec<Extra<'a>>,
+    /// The limits that were met.
+    met: Vec<MetLimit>,
 }
 
 fn span_of<'a>(facts: &[Sum<'a>], sum: &Sum<'a>) -> Span {
@@ -77,6 +80,11 @@ fn facts_of_span<'a>(heap: &'a Heap, name: &'a str, span: Span) -> Vec<Sum<'a>> 
 }
 
 impl<'a> Finder<'_, 'a> {
+    /// Notes that a limit is met at a line.
+    fn meet(&mut self, line: u32, limit: Limit) {
+        meet(self.scope.heap, &mut self.met, line, limit);
+    }
+
     fn push_extra(&mut self, block: usize, is_at_head: bool, fact: Sum<'a>) {
         if fact.is_form() && self.extras.len() < MOST_FOUND {
             let extra = Extra {
@@ -105,24 +113,30 @@ impl<'a> Finder<'_, 'a> {
         span
     }
 
-    /// The registers of facts, each once.
-    fn registers_in(&self, facts: &[Sum<'a>]) -> Sum<'a> {
+    /// The registers of facts of the block of this line, each once.
+    fn registers_in(&mut self, line: u32, facts: &[Sum<'a>]) -> Sum<'a> {
         let mut all = Sum::number(self.scope.heap, 0);
         for fact in facts {
             for (name, _coefficient) in &fact.terms {
-                if all.terms.len() < MOST_REGISTERS && !all.has(name) {
+                let is_new = !all.has(name);
+                if is_new && all.terms.len() < MOST_REGISTERS {
                     all.add_term(name, 1);
+                } else if is_new {
+                    self.meet(line, Limit::AtEnds);
                 }
             }
         }
         all
     }
 
-    /// What is known where a block begins, with the bounds of its registers.
-    fn facts_at(&self, index: usize) -> Vec<Sum<'a>> {
+    /// What is known where the block of this line begins, with the bounds of its registers.
+    fn facts_at(&mut self, line: u32, index: usize) -> Vec<Sum<'a>> {
         let mut facts = self.known.facts_at(index);
-        facts.truncate(MOST_AT_HEAD);
-        let registers = self.registers_in(facts.as_slice());
+        if facts.len() > MOST_AT_HEAD {
+            self.meet(line, Limit::AtEnds);
+            facts.truncate(MOST_AT_HEAD);
+        }
+        let registers = self.registers_in(line, facts.as_slice());
         for (name, _coefficient) in &registers.terms {
             self.bound(&mut facts, name);
         }
@@ -162,10 +176,12 @@ impl<'a> Finder<'_, 'a> {
     }
 
     fn add_end(&mut self, index: usize, block: &'a Block) {
-        let mut facts = self.facts_at(index);
+        let mut facts = self.facts_at(block.line, index);
         for step in block.steps.as_slice() {
             if facts.len() < MOST_AT_END {
                 self.learn(&mut facts, index, &step.instruction);
+            } else {
+                self.meet(block.line, Limit::AtEnds);
             }
         }
         self.scope.heap.push(&mut self.ends, facts);
@@ -225,6 +241,7 @@ fn finder_of<'w, 'a>(scope: Scope<'a>, known: &'w Known<'a>) -> Finder<'w, 'a> {
         known,
         ends: scope.heap.list(),
         extras: scope.heap.list(),
+        met: scope.heap.list(),
     };
     for (index, block) in scope.function.blocks.as_slice().iter().enumerate() {
         finder.add_end(index, block);
@@ -232,16 +249,24 @@ fn finder_of<'w, 'a>(scope: Scope<'a>, known: &'w Known<'a>) -> Finder<'w, 'a> {
     finder
 }
 
-/// Facts that follow from what is known at the blocks, or may be so.
-pub fn derived<'w, 'a>(scope: Scope<'a>, known: &'w Known<'a>) -> Vec<Extra<'a>> {
+/// Facts that follow from what is known at the blocks, or may be so, and the limits that were met.
+pub fn derived<'w, 'a>(scope: Scope<'a>, known: &'w Known<'a>) -> (Vec<Extra<'a>>, Vec<MetLimit>) {
     let mut finder = finder_of(scope, known);
     for (index, block) in scope.function.blocks.as_slice().iter().enumerate() {
         finder.add_phis(index, block.phis.as_slice());
     }
-    finder.extras
+    if finder.extras.len() >= MOST_FOUND {
+        finder.meet(scope.function.line, Limit::Derived);
+    }
+    let Finder { extras, met, .. } = finder;
+    (extras, met)
 }
 
-/// For each block what is known at its end.
-pub fn ends_of<'w, 'a>(scope: Scope<'a>, known: &'w Known<'a>) -> Vec<Vec<Sum<'a>>> {
-    finder_of(scope, known).ends
+/// For each block what is known at its end, and the limits that were met.
+pub fn ends_of<'w, 'a>(
+    scope: Scope<'a>,
+    known: &'w Known<'a>,
+) -> (Vec<Vec<Sum<'a>>>, Vec<MetLimit>) {
+    let Finder { ends, met, .. } = finder_of(scope, known);
+    (ends, met)
 }

@@ -23,7 +23,7 @@ mod trial;
 mod tries;
 mod wanted;
 
-pub use limits::{Limit, MetLimit, limits_met};
+pub use limits::{Limit, MetLimit};
 pub use needless::without_needless;
 pub use new_lines::NewLines;
-pub use tries::{is_long, with_lines};
+pub use tries::with_lines;

@@ -1,127 +1,91 @@
 //! The limits of what is looked at that a text meets, each with its line and words.
 
-use crate::proposal::{MOST_LINES, put_all_in_order};
-use annotate_facts::{
-    Heap, Known, MOST_BLOCKS, Place, block_at, dominators_of, has_many_instructions, known_of,
-};
-use ir_reader::read;
-use refusal::Refused;
-use std::alloc::Global;
-use std::hash::RandomState;
-use syntax::Function;
+use annotate_facts::Heap;
 
-/// A limit of what is looked at in a function or a block.
-#[derive(Clone, Copy)]
+/// A limit of what is looked at in a text, a function or a block, or before an instruction.
+#[derive(Clone, Copy, PartialEq, Eq)]
 pub enum Limit {
+    Bytes,
     Blocks,
     Instructions,
     Facts,
+    DerivedFrom,
+    AtEnds,
+    Derived,
+    Wanted,
     Guesses,
-    Lines,
+    Keeps,
+    Pending,
+    InBlock,
+    Shows,
+    Effort,
+    Calls,
+    Rounds,
 }
 
 impl Limit {
-    /// What the limit says of a function or a block that meets it.
+    /// What the limit says of what meets it.
     pub fn text(self) -> &'static str {
         match self {
+            Limit::Bytes => {
+                "the text has more than 65,536 bytes, with the lines put in: only what is sure is tried, and no zones are found"
+            }
             Limit::Blocks => {
                 "the function has more than 256 blocks: nothing is tried at its loops, and no zones are found"
             }
             Limit::Instructions => {
                 "the function has more than 2,048 instructions: what they make of registers is not looked at"
             }
-            Limit::Facts => "the function has 512 facts and more: the others are not looked at",
+            Limit::Facts => {
+                "the function has 512 facts and more, with those that may be so: the others are not looked at"
+            }
+            Limit::DerivedFrom => {
+                "the function has more than 500 facts, with those that may be so: what follows from them is not looked at"
+            }
+            Limit::AtEnds => {
+                "128 facts at the block's head, 64 of their registers and 256 facts at its end are looked at: what follows from others is not tried"
+            }
+            Limit::Derived => "512 facts that follow in the function are tried: the others are not",
+            Limit::Wanted => {
+                "256 facts that the function's blocks ask for are looked at: the others are not"
+            }
             Limit::Guesses => {
                 "there is room for 24 facts that may be so of the block's phis: the others are not tried"
             }
-            Limit::Lines => "the block has 32 `keeps` lines: there is no room for others",
+            Limit::Keeps => {
+                "there is room for 32 `keeps` lines at the block: the others are not tried"
+            }
+            Limit::Pending => {
+                "there is room for 32 `pending` lines at the block: the others are not tried"
+            }
+            Limit::InBlock => "the block has 1,024 facts and more: the others show nothing in it",
+            Limit::Shows => {
+                "there is room for 32 `shows` lines before the instruction: the others are not tried"
+            }
+            Limit::Effort => {
+                "the search for `shows` lines ends in this block: none are put in behind it"
+            }
+            Limit::Calls => {
+                "zones are found through three calls: a function that is called here has none by then, so none are found"
+            }
+            Limit::Rounds => {
+                "lines are tried 64 times: some behind this one are refused even then, so none of their kind are put in"
+            }
         }
     }
 }
 
-/// A limit, and the line of a function or a block that meets it.
-#[derive(Clone, Copy)]
+/// A limit, and the line of a function, a block or an instruction that meets it.
+#[derive(Clone, Copy, PartialEq, Eq)]
 pub struct MetLimit {
     pub line: u32,
     pub limit: Limit,
 }
 
-/// The limits that are met so far.
-#[derive(Drop)]
-struct Limits<'a> {
-    heap: &'a Heap,
-    met: Vec<MetLimit>,
-}
-
-impl<'a> Limits<'a> {
-    fn push(&mut self, line: u32, limit: Limit, is_met: bool) {
-        if is_met {
-            self.heap.push(&mut self.met, MetLimit { line, limit });
-        }
+/// Adds a limit that is met at a line, unless it is there.
+pub(crate) fn meet(heap: &Heap, met: &mut Vec<MetLimit>, line: u32, limit: Limit) {
+    let next = MetLimit { line, limit };
+    if !met.contains(&next) {
+        heap.push(met, next);
     }
-
-    /// Adds the limits that blocks meet.
-    fn push_blocks(&mut self, known: &Known<'a>, annotated: &Function) {
-        let heap = self.heap;
-        let blocks = known.function.blocks.as_slice();
-        let above = dominators_of(heap, known.edges.as_slice(), blocks.len());
-        for (index, block) in blocks.iter().enumerate() {
-            let place = Place {
-                heap,
-                function: known.function,
-                above: above.as_slice(),
-                block: index,
-            };
-            let has_all_guesses = place.has_all_guesses(known.facts.sums.as_slice());
-            self.push(block.line, Limit::Guesses, has_all_guesses);
-            if let Some(other) = block_at(annotated, index) {
-                let has_all_lines = other.notes.keeps.len() >= MOST_LINES;
-                self.push(block.line, Limit::Lines, has_all_lines);
-            }
-        }
-    }
-
-    /// Adds the limits that a function meets, and its blocks, by the function with the lines that were put in.
-    fn push_all(&mut self, function: &'a Function, annotated: &Function) {
-        let line = function.line;
-        let known = known_of(self.heap, function, false, &[]);
-        let has_many_blocks = function.blocks.len() > MOST_BLOCKS;
-        self.push(line, Limit::Blocks, has_many_blocks);
-        self.push(line, Limit::Instructions, has_many_instructions(function));
-        self.push(line, Limit::Facts, known.facts.is_full());
-        if !has_many_blocks {
-            self.push_blocks(&known, annotated);
-        }
-    }
-}
-
-/// The limits that the functions and blocks of a text meet, so that lines that follow may be missing; `annotated` is the text with those that were put in.
-///
-/// # Errors
-///
-/// The first fault of a text, from 101 to 107, at its line; or memory was refused.
-pub fn limits_met(
-    alloc: Global,
-    state: RandomState,
-    text: &[u8],
-    annotated: &[u8],
-) -> Result<Vec<MetLimit>, Refused> {
-    let mut module = read(alloc, state, text)?;
-    let mut other = read(alloc, state, annotated)?;
-    let heap = Heap::new(alloc);
-    put_all_in_order(&heap, &mut module);
-    put_all_in_order(&heap, &mut other);
-    let mut limits = Limits {
-        heap: &heap,
-        met: heap.list(),
-    };
-    let others = other.functions.as_slice();
-    for (place, function) in module.functions.as_slice().iter().enumerate() {
-        if let Some(annotated) = others.get(place) {
-            limits.push_all(function, annotated);
-        }
-    }
-    let Limits { met, .. } = limits;
-    heap.finish()?;
-    Ok(met)
 }

@@ -119,6 +119,19 @@ impl NewLines {
         false
     }
 
+    /// The line, without those that were put in, behind which the first one stands that is refused; counted from 1.
+    pub(crate) fn first_refused(&self) -> u32 {
+        let mut own = 0u32;
+        for mark in &self.marks {
+            match mark {
+                Mark::Own => own = own.saturating_add(1),
+                Mark::PutIn => {}
+                Mark::Refused => return own,
+            }
+        }
+        own
+    }
+
     /// The text that they were put into, without those that are refused.
     pub(crate) fn without_refused(&self, means: &Means<'_>, text: &str) -> String {
         let mut out = TextBuffer::new(means.alloc);

@@ -1,11 +1,13 @@
 //! The lines that are put in (`keeps`, `pending`, `left`, `shows`, `budget`): which are proposed, kind by kind.
 
 use crate::derived::{derived, ends_of};
+use crate::limits::{Limit, MetLimit, meet};
 use crate::order::put_in_order;
 use crate::step::{Told, Walk};
 use crate::wanted::Wants;
 use annotate_facts::{
-    Extra, Heap, Known, Lives, MOST_BLOCKS, Place, Sum, dominators_of, edges_of, known_of,
+    Extra, Heap, Known, Lives, MOST_BLOCKS, Place, Sum, dominators_of, edges_of,
+    has_many_instructions, known_of,
 };
 use annotate_uses::{
     Need, Scope, Stand, Total, firsts_of, handed_of, has_no_zones, hulls_of, needs_of, uses_of,
@@ -63,6 +65,19 @@ struct Draft<'a> {
     /// For each line of the text the lines to put behind it, each with its end.
     behind: Vec<String>,
     costs: Vec<(&'a str, u128)>,
+    /// The lines of functions whose zones wait for those of a callee, and whether zones are proposed.
+    waiting: Vec<u32>,
+    has_zones: bool,
+    /// The limits that were met, by the lines of the text.
+    met: Vec<MetLimit>,
+}
+
+/// A text with lines put in.
+#[derive(Drop)]
+pub(crate) struct Proposal {
+    pub text: String,
+    /// The limits that were met, by the lines of the text without them.
+    pub met: Vec<MetLimit>,
 }
 
 /// Whether a fact is known at a block, but not by its head or by a fact that says more, and may serve there.
@@ -78,6 +93,16 @@ fn is_kept<'a>(
         && fact.is_form()
         && (known.is_guessed(index, number) || lives.are_live(index, fact))
         && !known.is_weaker(index, fact)
+}
+
+/// Whether a function has no zones, or one of its children.
+fn lacks_zones(known: &Known<'_>) -> bool {
+    for (index, block) in known.function.blocks.as_slice().iter().enumerate() {
+        if known.is_child(index) && block.notes.foot.is_empty() {
+            return true;
+        }
+    }
+    has_no_zones(known.function)
 }
 
 /// The last of a block's `keeps` lines, or its label.
@@ -107,6 +132,51 @@ impl<'a> Draft<'a> {
         }
     }
 
+    /// Notes a limit of what is looked at, if it is met at a line.
+    fn meet(&mut self, line: u32, limit: Limit, is_met: bool) {
+        if is_met {
+            meet(self.heap, &mut self.met, line, limit);
+        }
+    }
+
+    fn meet_all(&mut self, met: &[MetLimit]) {
+        for next in met {
+            self.meet(next.line, next.limit, true);
+        }
+    }
+
+    /// What is known in a function.
+    fn known(
+        &mut self,
+        function: &'a Function,
+        has_guesses: bool,
+        extras: &[Extra<'a>],
+    ) -> Known<'a> {
+        let known = known_of(self.heap, function, has_guesses, extras);
+        self.meet(function.line, Limit::Facts, known.facts.is_full());
+        known
+    }
+
+    /// Notes the blocks of which more may be so than is guessed.
+    fn meet_guesses(&mut self, known: &Known<'a>) {
+        let (heap, function) = (self.heap, known.function);
+        let blocks = function.blocks.as_slice();
+        if blocks.len() > MOST_BLOCKS {
+            return;
+        }
+        let above = dominators_of(heap, known.edges.as_slice(), blocks.len());
+        for (index, block) in blocks.iter().enumerate() {
+            let place = Place {
+                heap,
+                function,
+                above: above.as_slice(),
+                block: index,
+            };
+            let has_all = place.has_all_guesses(known.facts.sums.as_slice());
+            self.meet(block.line, Limit::Guesses, has_all);
+        }
+    }
+
     /// Proposes lines behind a line of the text; there is one proposal for a line at most.
     fn propose(&mut self, behind: u32, lines: TextBuffer) {
         if let Some(lines) = self.heap.kept(lines.finish()) {
@@ -122,7 +192,11 @@ impl<'a> Draft<'a> {
         let mut count = block.notes.keeps.len();
         let mut lines = self.heap.text();
         for (number, fact) in known.facts.sums.iter().enumerate() {
-            if count < MOST_LINES && is_kept(known, lives, index, number, fact) {
+            if is_kept(known, lives, index, number, fact) {
+                if count >= MOST_LINES {
+                    self.meet(block.line, Limit::Keeps, true);
+                    break;
+                }
                 lines.push_str("  ;! keeps ");
                 fact.spell_inequality(&mut lines);
                 lines.push_str("\n");
@@ -169,11 +243,16 @@ impl<'a> Draft<'a> {
     /// Proposes what one told who went over a block, if `shows` lines are wanted. What was missed.
     fn take_up(&mut self, walk: Walk<'a>) -> Vec<Sum<'a>> {
         let Walk {
+            block,
             effort,
             missed,
             lines,
+            met,
             ..
         } = walk;
+        self.meet_all(met.as_slice());
+        let is_spent = effort == 0 && self.effort > 0;
+        self.meet(block.line, Limit::Effort, is_spent);
         self.effort = effort;
         if matches!(self.kind, Kind::Steps) {
             for told in lines {
@@ -185,16 +264,27 @@ impl<'a> Draft<'a> {
     }
 
     /// Facts that follow from others and from guesses, and what follows from these in turn.
-    fn derived(&self, function: &'a Function) -> Vec<Extra<'a>> {
+    fn derived(&mut self, function: &'a Function) -> Vec<Extra<'a>> {
         let scope = self.scope_of(function);
         let mut extras = self.heap.list();
         for _round in 0..DERIVED_ROUNDS {
-            let known = known_of(self.heap, function, true, extras.as_slice());
+            let known = self.known(function, true, extras.as_slice());
             if known.facts.sums.len() > MOST_DERIVED_FROM {
+                self.meet(function.line, Limit::DerivedFrom, true);
                 return extras;
             }
-            extras = derived(scope, &known);
+            let (found, met) = derived(scope, &known);
+            self.meet_all(met.as_slice());
+            extras = found;
         }
+        extras
+    }
+
+    /// Facts that would show what the blocks of a function ask.
+    fn wanted(&mut self, function: &'a Function) -> Vec<Extra<'a>> {
+        let known = self.known(function, false, &[]);
+        let (extras, is_full) = self.walk_all(&known).finish();
+        self.meet(function.line, Limit::Wanted, is_full);
         extras
     }
 
@@ -202,10 +292,7 @@ impl<'a> Draft<'a> {
     fn extras(&mut self, function: &'a Function) -> Vec<Extra<'a>> {
         match self.kind {
             _ if function.blocks.len() > MOST_BLOCKS => self.heap.list(),
-            Kind::Wanted => {
-                let known = known_of(self.heap, function, false, &[]);
-                self.walk_all(&known).finish()
-            }
+            Kind::Wanted => self.wanted(function),
             Kind::Guesses => self.derived(function),
             _ => self.heap.list(),
         }
@@ -215,7 +302,10 @@ impl<'a> Draft<'a> {
     fn add_facts(&mut self, function: &'a Function) {
         let extras = self.extras(function);
         let has_guesses = matches!(self.kind, Kind::Guesses);
-        let known = known_of(self.heap, function, has_guesses, extras.as_slice());
+        let known = self.known(function, has_guesses, extras.as_slice());
+        if matches!(self.kind, Kind::Facts) {
+            self.meet_guesses(&known);
+        }
         let mut lives = Lives::new(self.heap, function);
         for fact in &known.facts.sums {
             lives.ask(known.edges.as_slice(), fact);
@@ -237,11 +327,18 @@ impl<'a> Draft<'a> {
     /// Proposes the zones of the children that have none, and of the function, if it has none.
     fn add_feet(&mut self, function: &'a Function) {
         let scope = self.scope_of(function);
-        if function.blocks.len() > MOST_BLOCKS || waits_for_callee(scope) {
+        if function.blocks.len() > MOST_BLOCKS {
             return;
         }
-        let known = known_of(self.heap, function, false, &[]);
-        let ends = ends_of(scope, &known);
+        let known = self.known(function, false, &[]);
+        if waits_for_callee(scope) {
+            if lacks_zones(&known) {
+                self.heap.push(&mut self.waiting, function.line);
+            }
+            return;
+        }
+        let (ends, met) = ends_of(scope, &known);
+        self.meet_all(met.as_slice());
         let above = dominators_of(self.heap, known.edges.as_slice(), function.blocks.len());
         for (block, own) in function.blocks.as_slice().iter().enumerate() {
             let (begin, behind) = if block == 0 && has_no_zones(function) {
@@ -263,7 +360,16 @@ impl<'a> Draft<'a> {
                 lines.push_str(begin);
                 self.push_zone(&mut lines, zone);
             }
+            self.has_zones = self.has_zones || !lines.is_empty();
             self.propose(behind, lines);
+        }
+    }
+
+    /// Notes the functions that wait for zones of a callee, if some are proposed, so that more would be found with these.
+    fn meet_waiting(&mut self) {
+        let waiting = replace(&mut self.waiting, self.heap.list());
+        for line in &waiting {
+            self.meet(*line, Limit::Calls, self.has_zones);
         }
     }
 
@@ -277,6 +383,7 @@ impl<'a> Draft<'a> {
                 return;
             };
             let room = MOST_LINES.saturating_sub(block.notes.pending.len());
+            self.meet(block.line, Limit::Pending, handed.len() > room);
             let count = room.min(handed.len());
             let mut lines = self.heap.text();
             for next in &handed[..count] {
@@ -322,7 +429,7 @@ impl<'a> Draft<'a> {
 
     /// Proposes what is left at the heads of the blocks, where it is known: at the entry all of the budget that is given, and else a budget. The budget then.
     fn add_costs(&mut self, function: &'a Function, given: Option<Total>) -> Option<Total> {
-        let known = known_of(self.heap, function, false, &[]);
+        let known = self.known(function, false, &[]);
         let needs = needs_of(&known, self.costs.as_slice());
         let blocks = function.blocks.as_slice();
         let mut total = given;
@@ -347,10 +454,14 @@ impl<'a> Draft<'a> {
         let module = self.module;
         for function in module.functions.as_slice() {
             let mut total = Total::given(function);
+            let has_many_blocks = function.blocks.len() > MOST_BLOCKS;
+            self.meet(function.line, Limit::Blocks, has_many_blocks);
+            let is_long = has_many_instructions(function);
+            self.meet(function.line, Limit::Instructions, is_long);
             match self.kind {
                 Kind::Facts | Kind::Guesses | Kind::Wanted => self.add_facts(function),
                 Kind::Steps => {
-                    let known = known_of(self.heap, function, false, &[]);
+                    let known = self.known(function, false, &[]);
                     drop(self.walk_all(&known));
                 }
                 Kind::Feet => self.add_feet(function),
@@ -363,6 +474,7 @@ impl<'a> Draft<'a> {
                     .push(&mut self.costs, (function.name.as_str(), cost));
             }
         }
+        self.meet_waiting()
     }
 
     /// The text with the lines put in.
@@ -391,7 +503,7 @@ pub(crate) fn put_all_in_order(heap: &Heap, module: &mut Module) {
 }
 
 /// The text of a module with the lines put in.
-fn with_lines_of(means: &Means<'_>, module: Module, text: &str, kind: Kind) -> String {
+fn with_lines_of(means: &Means<'_>, module: Module, text: &str, kind: Kind) -> Proposal {
     let heap = Heap::new(means.alloc);
     let mut module = module;
     put_all_in_order(&heap, &mut module);
@@ -402,27 +514,36 @@ fn with_lines_of(means: &Means<'_>, module: Module, text: &str, kind: Kind) -> S
         effort: MOST_EFFORT,
         behind: heap.list(),
         costs: heap.list(),
+        waiting: heap.list(),
+        has_zones: false,
+        met: heap.list(),
     };
     for _line in text.lines() {
         heap.push(&mut draft.behind, String::new(means.alloc));
     }
     draft.add_functions();
     means.noted(heap.finish());
-    means.text(draft.put_in(text))
+    let text = means.text(draft.put_in(text));
+    let Draft { met, .. } = draft;
+    Proposal { text, met }
 }
 
 /// A module's text with lines of a kind put in that follow from others; none is changed or taken away, and a last line without an end gets one. The
 /// names of the text are hashed with `state`. A text that cannot be read stays as it was; where the means do not reach, it is empty.
-pub(crate) fn proposed(means: &Means<'_>, state: RandomState, text: &str, kind: Kind) -> String {
+pub(crate) fn proposed(means: &Means<'_>, state: RandomState, text: &str, kind: Kind) -> Proposal {
+    let mut same = Proposal {
+        text: String::new(means.alloc),
+        met: Vec::new(means.alloc),
+    };
     if means.finish().is_err() {
-        return String::new(means.alloc);
+        return same;
     }
     match read(means.alloc, state, text.as_bytes()) {
-        Ok(module) => with_lines_of(means, module, text, kind),
-        Err(Refused::Fault { .. }) => means.made(String::from_str(means.alloc, text)),
-        Err(Refused::Memory) => {
-            means.note(Unanswered::OutOfMemory);
-            String::new(means.alloc)
+        Ok(module) => return with_lines_of(means, module, text, kind),
+        Err(Refused::Fault { .. }) => {
+            same.text = means.made(String::from_str(means.alloc, text));
         }
+        Err(Refused::Memory) => means.note(Unanswered::OutOfMemory),
     }
+    same
 }

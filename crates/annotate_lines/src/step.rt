@@ -1,5 +1,6 @@
 //! Lines within blocks, with which facts show what is asked at an instruction or along an edge: lines to be tried.
 
+use crate::limits::{Limit, MetLimit, meet};
 use crate::proposal::MOST_LINES;
 use annotate_facts::{
     Edge, Equation, Heap, Known, Sum, Way, block_at, facts_of, lines_between, moved, register_of,
@@ -27,7 +28,7 @@ pub struct Told {
 pub struct Walk<'a> {
     scope: Scope<'a>,
     place: usize,
-    block: &'a Block,
+    pub block: &'a Block,
     /// Whether the block belongs to the function itself, and not to a child.
     is_function: bool,
     facts: Vec<Sum<'a>>,
@@ -38,12 +39,16 @@ pub struct Walk<'a> {
     /// What is told before an instruction, beside so many lines of the text.
     told: Vec<Sum<'a>>,
     stated: usize,
+    /// The line of what is gone over.
+    line: u32,
     /// How many steps were gone over.
     passed: usize,
     /// What is asked and not shown, at the block's start.
     pub missed: Vec<Sum<'a>>,
     /// The lines that were told.
     pub lines: Vec<Told>,
+    /// The limits that were met.
+    pub met: Vec<MetLimit>,
 }
 
 /// What is at least 0 where cells do not begin before a zone.
@@ -87,9 +92,11 @@ impl<'a> Walk<'a> {
             covering: scope.covering(first),
             told: scope.heap.list(),
             stated: 0,
+            line: block.line,
             passed: 0,
             missed: scope.heap.list(),
             lines: scope.heap.list(),
+            met: scope.heap.list(),
         };
         let stated = if place == 0 {
             scope.function.notes.requirements.as_slice()
@@ -107,8 +114,12 @@ impl<'a> Walk<'a> {
     }
 
     fn learn(&mut self, fact: Sum<'a>) {
+        let heap = self.scope.heap;
+        let line = self.block.line;
         if self.facts.len() < MOST_FACTS {
-            self.scope.heap.push(&mut self.facts, fact);
+            heap.push(&mut self.facts, fact);
+        } else {
+            meet(heap, &mut self.met, line, Limit::InBlock);
         }
     }
 
@@ -116,6 +127,8 @@ impl<'a> Walk<'a> {
     fn tell_all(&mut self, lines: Vec<Sum<'a>>) {
         let count = self.stated.saturating_add(self.told.len());
         if count.saturating_add(lines.len()) > MOST_LINES {
+            let line = self.line;
+            meet(self.scope.heap, &mut self.met, line, Limit::Shows);
             return;
         }
         for line in &lines {
@@ -249,8 +262,9 @@ impl<'a> Walk<'a> {
         }
     }
 
-    /// Begins with the lines of the text before an instruction, and tells how the facts show them.
-    fn begin(&mut self, shows: &'a [Inequality]) {
+    /// Begins with the lines of the text before the instruction of this line, and tells how the facts show them.
+    fn begin(&mut self, line: u32, shows: &'a [Inequality]) {
+        self.line = line;
         self.stated = shows.len();
         for inequality in shows {
             let sum = Sum::of_inequality(self.scope.heap, inequality);
@@ -322,7 +336,7 @@ impl<'a> Walk<'a> {
 
     /// Goes over a step: tells how the facts show what it asks, and that the cells that it touches are covered.
     pub fn pass(&mut self, step: &'a Step) {
-        self.begin(step.shows.as_slice());
+        self.begin(step.line, step.shows.as_slice());
         if self.effort == 0 {
             return;
         }
@@ -443,7 +457,7 @@ impl<'a> Walk<'a> {
     /// Goes over the end of the block: tells how the facts show what a return asks of its value, and what the edges ask.
     pub fn end(&mut self, known: &Known<'a>, ending: &'a Ending, uses: &Need<'a>) {
         let Scope { heap, function, .. } = self.scope;
-        self.begin(ending.shows.as_slice());
+        self.begin(ending.line, ending.shows.as_slice());
         if let Terminator::Return { value: Some(value) } = &ending.terminator {
             let result = Sum::of_operand(heap, value, 1);
             for inequality in function.notes.guarantees.as_slice() {

@@ -28,6 +28,8 @@ pub struct Wants<'w, 'a> {
     /// For each block one that is on all ways to it, once the facts are looked for.
     above: Vec<usize>,
     wants: Vec<Want<'a>>,
+    /// Whether more is wanted than there is room for.
+    is_full: bool,
     extras: Vec<Extra<'a>>,
 }
 
@@ -39,6 +41,7 @@ impl<'w, 'a> Wants<'w, 'a> {
             edges,
             above: heap.list(),
             wants: heap.list(),
+            is_full: false,
             extras: heap.list(),
         }
     }
@@ -54,13 +57,14 @@ impl<'w, 'a> Wants<'w, 'a> {
 
     /// Wants a sum to be at least 0 at a block's start.
     fn push(&mut self, block: usize, sum: Sum<'a>, moves: usize) {
-        if sum.first().is_some()
-            && sum.is_form()
-            && self.wants.len() < MOST_WANTS
-            && !self.is_wanted(block, &sum)
-        {
+        if self.is_full || sum.first().is_none() || !sum.is_form() || self.is_wanted(block, &sum) {
+            return;
+        }
+        if self.wants.len() < MOST_WANTS {
             let want = Want { block, sum, moves };
             self.heap.push(&mut self.wants, want);
+        } else {
+            self.is_full = true;
         }
     }
 
@@ -136,8 +140,8 @@ impl<'w, 'a> Wants<'w, 'a> {
         }
     }
 
-    /// The facts that would show what is wanted.
-    pub fn finish(self) -> Vec<Extra<'a>> {
+    /// The facts that would show what is wanted, and whether more is wanted than there was room for.
+    pub fn finish(self) -> (Vec<Extra<'a>>, bool) {
         let mut wants = self;
         wants.above = dominators_of(wants.heap, wants.edges, wants.function.blocks.len());
         for index in 0..MOST_WANTS {
@@ -154,7 +158,11 @@ impl<'w, 'a> Wants<'w, 'a> {
                 }
             }
         }
-        let Wants { extras, .. } = wants;
-        extras
+        let Wants {
+            extras,
+            is_full,
+            ..
+        } = wants;
+        (extras, is_full)
     }
 }

@@ -28,21 +28,34 @@ pub(crate) fn annotation(
         request,
         ..
     } = question;
-    let file = request.file.as_str();
     let mut made = if request.annotating.takes_out {
         pruned(alloc, state, text, effort)?
     } else {
-        let more = annotated(alloc, state, text, effort)?;
-        note_limits(question, text, more.as_slice(), effort, beside)?;
-        more
+        with_more(alloc, state, request, text, effort, beside)?
     };
     if request.annotating.writes {
+        let file = request.file.as_str();
         beside.keep_file(file, mem::replace(&mut made, Vec::new(alloc)));
     }
     Ok(Answer {
         text: made,
         status: Status::Done,
     })
+}
+
+/// The text of a request's file with lines put in that follow from others; what was not looked at for them is told beside it.
+fn with_more(
+    alloc: Global,
+    state: RandomState,
+    request: &Request,
+    text: &[u8],
+    effort: &Effort,
+    beside: &mut Beside,
+) -> Result<Vec<u8>, Refused> {
+    let mut met = Vec::new(alloc);
+    let more = annotated(alloc, state, text, effort, &mut met)?;
+    note_limits(request.file.as_str(), met.as_slice(), effort, beside);
+    Ok(more)
 }
 
 /// The text that is judged: with lines put in that follow from others, if the request asks for that.
@@ -52,9 +65,10 @@ pub(crate) fn judged_text(
     request: &Request,
     text: &[u8],
     effort: &Effort,
+    beside: &mut Beside,
 ) -> Result<Vec<u8>, Refused> {
     if request.annotating.puts_in {
-        return annotated(alloc, state, text, effort);
+        return with_more(alloc, state, request, text, effort, beside);
     }
     Ok(Vec::from_slice(alloc, text)?)
 }

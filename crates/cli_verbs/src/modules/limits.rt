@@ -1,35 +1,30 @@
 //! Notes of what was not looked at for annotations, since a text meets a limit.
 
-use annotate::{is_long, limits_met};
-use cli_words::{Beside, Question};
-use std::alloc::AllocError;
-use verifier::{Effort, Refused};
+use annotate::MetLimit;
+use cli_words::Beside;
+use verifier::Effort;
 
-/// Says which limits a text meets, so that lines that follow may be missing; `annotated` is the text with those that were put in.
-pub(crate) fn note_limits(
-    question: Question<'_>,
-    text: &[u8],
-    annotated: &[u8],
-    effort: &Effort,
-    beside: &mut Beside,
-) -> Result<(), AllocError> {
-    if effort.is_spent() {
-        beside.note("the effort is spent, and no line is put in; --effort=N grants more");
+/// What a line for standard error begins with that tells of no fault.
+fn note_word(beside: &Beside) -> &'static str {
+    if beside.has_colours {
+        "\u{1b}[36mnote:\u{1b}[0m"
+    } else {
+        "note:"
     }
-    if is_long(text) {
-        beside.note(
-            "the text has more than 65,536 bytes: only what is sure is tried, and no zones are found",
+}
+
+/// Says which limits were met at which lines of a file, so that lines that follow may be missing, and whether the effort is spent.
+pub(crate) fn note_limits(file: &str, met: &[MetLimit], effort: &Effort, beside: &mut Beside) {
+    let note = note_word(beside);
+    if effort.is_spent() {
+        writeln!(
+            beside,
+            "{note} the effort is spent, and no line is put in; --effort=N grants more"
         );
     }
-    match limits_met(question.alloc, question.state, text, annotated) {
-        Ok(met) => {
-            let file = question.request.file.as_str();
-            for next in &met {
-                beside.note_at(file, u64::from(next.line), next.limit.text());
-            }
-            Ok(())
-        }
-        Err(Refused::Fault { .. }) => Ok(()),
-        Err(Refused::Memory) => Err(AllocError),
+    for next in met {
+        let line = next.line;
+        let what = next.limit.text();
+        writeln!(beside, "{file}:{line}: {note} {what}");
     }
 }

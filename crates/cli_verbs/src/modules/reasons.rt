@@ -69,7 +69,7 @@ pub(crate) fn reasons(
         request,
         ..
     } = question;
-    match judged_text(alloc, state, request, text, effort) {
+    match judged_text(alloc, state, request, text, effort, beside) {
         Ok(more) => {
             let new = lines_put_in(alloc, text, more.as_slice())?;
             explained(question, more.as_slice(), &new, effort, beside)

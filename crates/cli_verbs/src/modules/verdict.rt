@@ -32,7 +32,8 @@ pub fn verdict_on(
     ensures accepted { IfOk result (λ v. IfOk v.answer (IsProgramOf v.text.items)) }
     ensures spent { IfOk result (λ v. IfErr v.answer (IsSpentWithin (granted_by request.now.effort))) }
 {
-    let more = match judged_text(alloc, state, request, text, &effort_of(request)) {
+    let granted = effort_of(request);
+    let more = match judged_text(alloc, state, request, text, &granted, beside) {
         Ok(more) => more,
         Err(refused) => {
             return Ok(Verdict {
