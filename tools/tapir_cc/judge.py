@@ -40,7 +40,7 @@ class Judge:
             return Verdict("", 0, UNJUDGED)
         done = self.ask("verify", "--annotate")
         found = re.search(r"refused (\d+) line (\d+)", done.stdout)
-        return Verdict(done.stdout + done.stderr, done.returncode, *map(int, found.groups() if found else ()))
+        return Verdict(done.stdout + (done.stderr if done.returncode else ""), done.returncode, *map(int, found.groups() if found else ()))
 
     def judge(self) -> Verdict:
         for _ in range(MOST_TRIES):
