@@ -1,7 +1,7 @@
 -- A detach of the frame in a slot: the worker goes on with the child, and nobody runs the parent.
 use Rattle.std.proofs.Common.{◌≡◌, ◌≢◌, ℕ, zero, suc, ◌+◌, ◌<◌, ◌≤◌, List, [], ◌∷◌, ◌++◌, length, max, reverse, Option, Some, None, Bool, true, false, cond, eqb, inl, inr, refl, sym, ap, ◌∙◌, subst, arith, ℤ, ◌+ℤ◌}
 use Rattle.std.specs.Prelude.{slice_get}
-use Rattle.std.specs.Vec.{vec_len, with_item}
+use Rattle.std.specs.Vec.{with_item}
 use Rattle.std.proofs.lemmas.Bool.Decides.{eqb_tells}
 use Rattle.std.proofs.lemmas.List.{reverse-reverse}
 use Rattle.linear.specs.declared.form.RegisterId.{RegisterId}
@@ -175,15 +175,14 @@ module _ (prog : Program) (places : Places) (k : Run) (slot : ℕ) (node : Node 
       let x = can.made in
       omega (arith, few, same, x)
 
-  pub counts_region : (moves : ℕ) → TextFits prog places moves → r.0 < vec_len a.counts
+  pub counts_region : (moves : ℕ) → TextFits prog places moves → r.0 < length a.counts.items
   counts_region moves text =
       let fits = shown.agrees.nodes slot node stands in
       let low = region_within prog places moves text a.frame fits.fits r b n item in
       let found = at prog places moves text a.frame fits.fits r b n item in
       let words = fits.fits.registers found.function found.is in
       let counts = fits.counts found.function found.is in
-      let size = a.counts.ok.0 in
-      omega (arith, low, words, counts, size)
+      omega (arith, low, words, counts)
 
   -- ---- the event
 

@@ -1,42 +1,11 @@
--- What a frame counts once a child of it ended, and whether it goes on.
-use Rattle.std.proofs.Common.{◌≡◌, ◌≢◌, ℕ, zero, suc, ◌+◌, ◌-◌, ◌<◌, List, [], ◌∷◌, set, length, Option, Some, None, true, false, cond, eqb, inl, inr, refl, sym, ap, subst, arith}
+-- Whether a frame goes on once a child of it ended.
+use Rattle.std.proofs.Common.{◌≡◌, ◌≢◌, ℕ, ◌+◌, ◌-◌, ◌<◌, Option, Some, None, true, false, eqb, inl, inr, refl, sym, ap, arith}
 use Rattle.std.proofs.lemmas.Bool.Decides.{eqb_tells}
-use Rattle.std.proofs.lemmas.Option.{same_Some}
-use Rattle.std.specs.Prelude.{slice_get}
 use Rattle.frame.specs.declared.frame.Wait.{Wait}
 use Rattle.frame.specs.declared.frame.Wait.TheVariants as wait
 use Rattle.sync_join.specs.declared.count.Parent.{Parent}
 use Rattle.sync_join.specs.declared.count.Parent.TheVariants as parent
-use Rattle.sync_join.specs.declared.count.RegionCount.{RegionCount}
 use Rattle.schedule_workers.specs.Forking.{parent_of, resumed_by_child}
-use Rattle.schedule_workers.specs.Scheduling.{living_in}
-
-here : (counts : List RegionCount) (region : ℕ) (was is : RegionCount) → slice_get counts region ≡ Some was → is.living + 1 ≡ was.living → living_in (set counts region is) region ≡ living_in counts region - 1
-here [] region was is there less = absurd cc
-here (c ∷ cs) zero was is there less = let same = ap (λ (x : RegionCount). x.living) (same_Some c was there) in omega (arith, same, less)
-here (c ∷ cs) (suc region) was is there less = here cs region was is there less
-
-elsewhere : (counts : List RegionCount) (region other : ℕ) (is : RegionCount) → region ≢ other → living_in (set counts region is) other ≡ living_in counts other
-elsewhere [] region other is away = refl
-elsewhere (c ∷ cs) zero zero is away = absurd (away refl)
-elsewhere (c ∷ cs) zero (suc other) is away = refl
-elsewhere (c ∷ cs) (suc region) zero is away = refl
-elsewhere (c ∷ cs) (suc region) (suc other) is away = elsewhere cs region other is (λ e. away (ap suc e))
-
-pub one_less : (counts : List RegionCount) (region other : ℕ) (was is : RegionCount) → slice_get counts region ≡ Some was → is.living + 1 ≡ was.living →
-    living_in (set counts region is) other ≡ cond (eqb region other) (living_in counts region - 1) (living_in counts other)
-one_less counts region other was is there less =
-    elim (eqb_tells region other) [
-      | inl h ↦ rw h.0 (subst (λ (x : ℕ). living_in (set counts region is) x ≡ living_in counts region - 1) h.1 (here counts region was is there less))
-      | inr h ↦ rw h.0 (elsewhere counts region other is h.1)
-    ]
-
-pub living_now : (counts : List RegionCount) (region : ℕ) (is : RegionCount) → region < length counts → living_in (set counts region is) region ≡ is.living
-living_now [] region is there = absurd (omega (arith, there))
-living_now (c ∷ cs) zero is there = refl
-living_now (c ∷ cs) (suc region) is there = living_now cs region is (omega (arith, there))
-
--- ---- whether the frame goes on
 
 eqb_at : (a b : ℕ) → a ≡ b → eqb a b ≡ true
 eqb_at a b same = elim (eqb_tells a b) [ inl h ↦ h.0 | inr h ↦ absurd (h.1 same) ]

@@ -2,7 +2,7 @@
 use Rattle.std.proofs.Common.{◌≡◌, ◌≢◌, ℕ, zero, suc, ◌+◌, ◌-◌, ◌<◌, List, [], ◌∷◌, ◌++◌, length, max, reverse, Option, Some, None, Bool, true, false, cond, ◌&&◌, eqb, eq-eqb, not, inl, inr, refl, sym, ap, ◌∙◌, subst, arith, ℤ, ◌+ℤ◌}
 use Rattle.std.specs.Prelude.{◌↔◌, IsSome, pos, slice_get}
 use Rattle.std.specs.Option.{option_map_or}
-use Rattle.std.specs.Vec.{vec_len, with_item}
+use Rattle.std.specs.Vec.{with_item}
 use Rattle.std.proofs.lemmas.Bool.Decides.{eqb_tells}
 use Rattle.std.proofs.lemmas.List.{length-append, reverse-reverse}
 use Rattle.std.proofs.lemmas.Option.{slice_get_within}
@@ -367,12 +367,12 @@ module _ (prog : Program) (places : Places) (k : Run) (slot : ℕ) (node : Node 
           let same : counted_in above.frame r.0 ≡ children_within m.core pa h.made r.0 = shown.agrees.counts up r.0 above below.stands ∙ count_at m.core pa h r.0 is_h in
           omega (arith, some, same)
 
-      pub counted_room : r.0 < vec_len above.frame.counts
+      pub counted_room : r.0 < length above.frame.counts.items
       counted_room = from (slice_get above.frame.counts.items r.0) refl living_room
         where
-          from : (o : Option RegionCount) → slice_get above.frame.counts.items r.0 ≡ o → 0 < option_map_or (λ (x : RegionCount). x.living) (slice_get above.frame.counts.items r.0) 0 → r.0 < vec_len above.frame.counts
+          from : (o : Option RegionCount) → slice_get above.frame.counts.items r.0 ≡ o → 0 < option_map_or (λ (x : RegionCount). x.living) (slice_get above.frame.counts.items r.0) 0 → r.0 < length above.frame.counts.items
           from None e some = absurd (let none : option_map_or (λ (x : RegionCount). x.living) (slice_get above.frame.counts.items r.0) 0 ≡ 0 = ap (λ o. option_map_or (λ (x : RegionCount). x.living) o 0) e in omega (arith, some, none))
-          from (Some x) e some = let lt = slice_get_within above.frame.counts.items r.0 x e in let size = above.frame.counts.ok.0 in omega (arith, lt, size)
+          from (Some x) e some = slice_get_within above.frame.counts.items r.0 x e
 
       pub made_room : 0 < above.frame.frame.made
       made_room = let x = below_made in let y = shows_h.made in omega (arith, x, y)

@@ -1,11 +1,10 @@
 -- A sync of the frame in a slot: it passes, or stalls.
-use Rattle.std.proofs.Common.{[], get_or, Vec, Global, ◌≡◌, ◌≢◌, ◌⊎◌, ℕ, ◌+◌, ◌<◌, length, max, Option, Some, None, Bool, true, false, cond, inl, inr, refl, sym, ap, ◌∙◌, subst, arith, ℤ}
+use Rattle.std.proofs.Common.{[], Vec, Global, ◌≡◌, ◌≢◌, ◌⊎◌, ℕ, ◌+◌, ◌<◌, length, max, Option, Some, None, Bool, true, false, cond, inl, inr, refl, sym, ap, ◌∙◌, subst, arith, ℤ}
 use Rattle.std.specs.Prelude.{option_and_then}
-use Rattle.std.specs.Option.{option_map, option_map_or}
-use Rattle.std.specs.Vec.{vec_len, with_item}
+use Rattle.std.specs.Option.{option_map}
+use Rattle.std.specs.Vec.{with_item}
 use Rattle.std.proofs.lemmas.Bool.Decides.{eqb_tells}
 use Rattle.std.proofs.lemmas.List.{get_or-set_same, get_or-set_other}
-use Rattle.std.proofs.lemmas.Option.{slice_get_read}
 use Rattle.linear.specs.declared.form.RegisterId.{RegisterId}
 use Rattle.semantics.specs.Arithmetic.{Trap, Unmatched}
 use Rattle.semantics.specs.Cells.{Object, Shared, Local, Memory}
@@ -22,7 +21,6 @@ use Rattle.semantics.proofs.ChildCounts.{count_at, counted_none, moved_alone, no
 use Rattle.program.specs.declared.identifier.BlockId.{BlockId}
 use Rattle.program.specs.declared.function.Program.{Program}
 use Rattle.program.specs.declared.instruction.Terminator.TheVariants as terminator
-use Rattle.sync_join.specs.declared.count.RegionCount.{RegionCount}
 use Rattle.frame.specs.declared.frame.Wait.TheVariants as wait
 use Rattle.frame.specs.Reading.{wait_of}
 use Rattle.cactus.specs.declared.node.Node.{Node}
@@ -83,21 +81,14 @@ module _ (prog : Program) (places : Places) (moves : ℕ) (text : TextFits prog 
 
 -- the frame has a count for the region
 pub counts_region : (prog : Program) (places : Places) (moves : ℕ) → TextFits prog places moves → (k : Run) (slot : ℕ) (n : Node Activation) (a : Activation) → node_at k.cactus slot ≡ Some (record n { frame = a }) → (m : Machine) → IsShown prog places m k →
-    (r : RegisterId) (b : BlockId) → item_here prog a.frame ≡ Some (Ends (terminator.Sync r b)) → r.0 < vec_len a.counts
+    (r : RegisterId) (b : BlockId) → item_here prog a.frame ≡ Some (Ends (terminator.Sync r b)) → r.0 < length a.counts.items
 counts_region prog places moves text k slot n a stands m shown r b item =
     let fits = shown.agrees.nodes slot (record n { frame = a }) stands in
     let low = region_within prog places moves text a.frame fits.fits r b item in
     let at = located prog a.frame.function.0 a.frame.place.block.0 a.frame.place.index (Ends (terminator.Sync r b)) item in
     let words = fits.fits.registers at.function at.is in
     let counts = fits.counts at.function at.is in
-    let size = a.counts.ok.0 in
-    omega (arith, low, words, counts, size)
-
-pub counted_is : (a : Activation) (r : RegisterId) (count : RegionCount) → r.0 < vec_len a.counts → count ≡ get_or a.counts.items r.0 count → counted_in a r.0 ≡ count.living
-counted_is a r count lt is =
-    let size = a.counts.ok.0 in
-    let within : r.0 < length a.counts.items = omega (arith, lt, size) in
-    ap (λ (o : Option RegionCount). option_map_or (λ (x : RegionCount). x.living) o 0) (slice_get_read a.counts.items (length a.counts.items) r.0 count refl within is)
+    omega (arith, low, words, counts)
 
 -- the worker's step leads to a machine that is shown
 abbrev pub LeadsTo : Program → Places → Run → Run → ℕ → Machine → Type 0

@@ -14,7 +14,7 @@ use Rattle.frame.specs.declared.frame.Wait.TheVariants as wait
 use Rattle.frame.specs.Reading.{wait_of}
 use Rattle.cactus.specs.declared.node.Node.{Node}
 use Rattle.cactus.specs.Frames.{Frames, Lives, node_at}
-use Rattle.sync_join.specs.declared.count.RegionCount.{RegionCount}
+use Rattle.sync_join.specs.Counting.{Counts, living_in}
 use Rattle.cactus.specs.ByPath.{named}
 use Rattle.cactus.specs.Lending.{with_frame}
 use Rattle.frame_engine.specs.declared.activation.Frame.{Frame}
@@ -25,7 +25,7 @@ use Rattle.frame_engine.specs.Flat.{cell_in, is_cell}
 use Rattle.frame_engine.specs.Shows.{Layout, ShowsCells}
 use Rattle.schedule_workers.specs.declared.activation.Activation.{Activation}
 use Rattle.schedule_workers.specs.declared.run.Run.{Run}
-use Rattle.schedule_workers.specs.Scheduling.{hand_of, counted_in, living_in}
+use Rattle.schedule_workers.specs.Scheduling.{hand_of, counted_in}
 use Rattle.schedule_workers.specs.Layouts.{alloca_at, own_at, layout_of, living, number_in, object_at}
 use Rattle.schedule_workers.specs.RunShown.{Agrees, BlocksStand, CalleeStands, HasBlock, HasTaker, cells_in, IsShown, NodeFits, ShowsAt, ShowsMachine, place_of, hands_of}
 use Rattle.schedule_workers.proofs.Views.{named_at_place, tree_after, named_written, stood, still, lives_still, hands_stay}
@@ -142,7 +142,7 @@ module _ (prog : Program) (places : Places) (m next : Machine) (k : Run) (slot :
             fits = went.fits;
             callee = callee_still later f.waits changed.callee went.callee;
             taker = λ x is. went.taker x (sym (ap (slice_get prog.functions) function) ∙ is);
-            counts = λ x is. ap (λ (v : Vec RegionCount Global). length v.items) went.counts ∙ before.counts x (sym (ap (slice_get prog.functions) function) ∙ is);
+            counts = λ x is. ap (λ (v : Counts). length v.items) went.counts ∙ before.counts x (sym (ap (slice_get prog.functions) function) ∙ is);
           }
 
       others_fit : (n : Node Activation) → NodeFits prog k.cactus n → NodeFits prog after n
@@ -189,7 +189,7 @@ module _ (prog : Program) (places : Places) (m next : Machine) (k : Run) (slot :
                 (agree.own w) s;
             nodes = of_each (λ s n. NodeFits prog after n) (λ s n away here. others_fit n (a.nodes s n here)) own_fits;
             counts = λ s r. of_each (λ x n. counted_in n.frame r ≡ count_of next.core (place_of n) r) (λ x n away here. a.counts x r n here ∙ sym (has.counts (place_of n) r))
-                (ap (λ (v : Vec RegionCount Global). living_in v.items r) went.counts ∙ a.counts slot r node stands ∙ sym (has.counts (place_of node) r)) s;
+                (ap (λ (v : Counts). living_in v.items r) went.counts ∙ a.counts slot r node stands ∙ sym (has.counts (place_of node) r)) s;
             made = (let b = a.made in let same = made_stays in omega (arith, b, same, more));
             blocks = blocks_stand;
           }

@@ -1,7 +1,6 @@
 -- What a worker runs, and what a frame counts.
-use Rattle.std.specs.Prelude.{◌≡◌, ℕ, List, Option, Some, None, slice_get, slice_index_or}
-use Rattle.std.specs.Option.{option_map_or}
-use Rattle.sync_join.specs.declared.count.RegionCount.{RegionCount}
+use Rattle.std.specs.Prelude.{◌≡◌, ℕ, List, Option, Some, None, slice_index_or}
+use Rattle.sync_join.specs.Counting.{living_in}
 use Rattle.schedule_workers.specs.declared.activation.Activation.{Activation}
 
 -- the slot of the top frame of the task that a worker runs
@@ -12,9 +11,6 @@ hand_of hands worker = slice_index_or hands worker None
 pub record IsInHand (hands : List (Option ℕ)) (slot : ℕ) : Type 0 where
   pub worker : ℕ
   pub hand : hand_of hands worker ≡ Some slot
-
-abbrev pub living_in : List RegionCount → ℕ → ℕ
-living_in counts region = option_map_or (λ (count : RegionCount). count.living) (slice_get counts region) 0
 
 -- the living children that the frame counts within a region
 abbrev pub counted_in : Activation → ℕ → ℕ

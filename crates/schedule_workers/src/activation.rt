@@ -9,7 +9,7 @@ use frame_engine::Frame;
 use lists::OutOfMemory;
 use program::BlockId;
 use std::alloc::Global;
-use sync_join::RegionCount;
+use sync_join::RegionCounts;
 
 /// A living frame with what the scheduler knows of it. A task is a frame that no call made, with the frames called on top of it, one on
 /// the other; the uppermost is the task's top.
@@ -17,7 +17,7 @@ use sync_join::RegionCount;
 pub struct Activation {
     pub frame: Frame,
     /// By the register that names a region: the children that the frame detached within it and that still live.
-    pub counts: Vec<RegionCount>,
+    pub counts: RegionCounts,
     /// The slot of the frame that this one called and waits for.
     pub callee: Option<usize>,
     /// The worker that runs the task of which this frame is the top.
@@ -33,12 +33,12 @@ impl Activation {
         ensures none { IfOk result (λ a. (region : ℕ) → counted_in a region ≡ 0) }
         ensures as_many { IfOk result (λ a. length a.counts.items ≡ length frame.registers.items) }
     {
-        Activation::with_counts(Vec::new(alloc), frame, worker)
+        Activation::with_counts(RegionCounts::new(alloc), frame, worker)
     }
 
     /// A frame that the worker begins to run, with its counts in this list, whatever it holds.
     pub fn with_counts(
-        mut counts: Vec<RegionCount>,
+        mut counts: RegionCounts,
         frame: Frame,
         worker: u8,
     ) -> Result<Activation, OutOfMemory>
@@ -46,8 +46,7 @@ impl Activation {
         ensures none { IfOk result (λ a. (region : ℕ) → counted_in a region ≡ 0) }
         ensures as_many { IfOk result (λ a. length a.counts.items ≡ length frame.registers.items) }
     {
-        counts.clear();
-        counts.resize(frame.registers.len(), RegionCount::NONE)?;
+        counts.restart(frame.registers.len())?;
         Ok(Activation {
             frame,
             counts,

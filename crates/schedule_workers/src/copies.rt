@@ -51,7 +51,7 @@ impl Clone for Activation {
     fn clone(&self) -> Result<Activation, AllocError> {
         Ok(Activation {
             frame: frame_copy(&self.frame)?,
-            counts: Vec::from_slice(self.allocator(), self.counts.as_slice())?,
+            counts: self.counts.copy()?,
             callee: self.callee,
             runner: self.runner,
             stalled_in: self.stalled_in,
@@ -61,7 +61,7 @@ impl Clone for Activation {
 
 impl FrameData for Activation {
     fn allocator(&self) -> Global {
-        *self.counts.allocator()
+        self.counts.allocator()
     }
 }
 

@@ -63,7 +63,7 @@ fn child_frame(alloc: Global, parent: &Frame, detach: Detach) -> Result<Frame, O
 impl Activation {
     /// The frame detached a child within the region: it stands at the continuation, and no worker runs it.
     fn leave_behind(&mut self, region: RegisterId, continuation: BlockId)
-        requires counted { region.0 < vec_len self.old.counts }
+        requires counted { region.0 < length self.old.counts.items }
         requires room { counted_in self.old region.0 + 1 < 2 ^ 64 }
         requires made { self.old.frame.made + 1 < 2 ^ 64 }
         ensures only { self.new ≡ record self.old { frame = self.new.frame; counts = self.new.counts; runner = None } }
@@ -77,7 +77,7 @@ impl Activation {
         ensures as_many { length self.new.counts.items ≡ length self.old.counts.items }
         ensures counted { (other : ℕ) → counted_in self.new other ≡ cond (eqb region.0 other) (counted_in self.old region.0 + 1) (counted_in self.old other) }
     {
-        self.counts[region.0].opened();
+        self.counts.open(region.0);
         self.frame.continue_at(continuation);
         self.runner = None;
     }

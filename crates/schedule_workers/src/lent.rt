@@ -1,6 +1,6 @@
 //! Cells that are lent to workers, for the allocas of frames that they make apart from the run.
 
-ghost use Rattle.std.specs.Prelude.{◌≡◌, ◌↔◌, ◌+◌, ◌≤◌, IfNone, IfSome, IsTrue, OnOk, slice_get};
+ghost use Rattle.std.specs.Prelude.{◌≡◌, ◌↔◌, ◌+◌, ◌≤◌, ℕ, IfNone, IfSome, IsTrue, OnOk, slice_get};
 ghost use Rattle.schedule_workers.specs.Lent.{AllAreClearOf, IsClearOf, IsFree, IsVacant, Lends, place_at};
 ghost use Rattle.program.specs.declared.function.Program.{Program as Text};
 ghost use Rattle.frame_engine.specs.declared.activation.Places.{Places};
@@ -11,7 +11,7 @@ use crate::run::{Block, Run};
 use frame::Role;
 use frame_engine::{Frame, frame_cells};
 use lists::OutOfMemory;
-use program::{FunctionId, Program};
+use program::{Function, FunctionId, Program};
 
 /// Whether so many cells from the start on end at the limit or before it.
 fn ends_by(start: usize, cells: usize, limit: usize) -> bool
@@ -78,11 +78,34 @@ fn is_clear_of(program: &Program, part: Block, frame: &Frame) -> bool
     }
 }
 
+/// Whether no function has allocas.
+fn have_no_allocas(functions: &[Function]) -> bool
+    ensures { IsTrue result → (function : ℕ) → cells_in (slice_get functions.now function) ≡ 0 }
+{
+    for function in functions {
+        if !function.allocas.is_empty() {
+            return false;
+        }
+    }
+    true
+}
+
 impl Run {
+    /// Whether the functions say that no frame has allocas. They are not asked where there are more of them than living frames, which tell it as fast.
+    pub(crate) fn needs_no_allocas(&self, program: &Program) -> bool
+        ensures { IsTrue result → (function : ℕ) → cells_in (slice_get program.now.functions function) ≡ 0 }
+    {
+        let functions = program.functions.as_slice();
+        functions.len() as u64 <= self.cactus.live_frames() && have_no_allocas(functions)
+    }
+
     /// Whether no living frame has its allocas in the part.
     fn all_are_clear_of(&self, program: &Program, part: Block) -> bool
         ensures { IsTrue result ↔ AllAreClearOf program.now self.now part }
     {
+        if self.needs_no_allocas(program) {
+            return true;
+        }
         for (_slot, node) in self.cactus.iter() {
             if !is_clear_of(program, part, &node.frame.frame) {
                 return false;

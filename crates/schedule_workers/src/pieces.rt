@@ -93,6 +93,9 @@ impl Run {
             from: limit,
             to: start,
         };
+        if self.needs_no_allocas(program) {
+            return taken;
+        }
         for (_slot, node) in self.cactus.iter() {
             taken = taken.with_frame(program, start, limit, &node.frame.frame);
         }

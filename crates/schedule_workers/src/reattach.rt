@@ -38,7 +38,7 @@ impl Activation {
 
     /// The child of this number, which the frame detached within the region, ends. Says whether the child's worker goes on with the frame.
     fn lose_child(&mut self, region: RegisterId, child: u64) -> bool
-        requires counted { region.0 < vec_len self.old.counts }
+        requires counted { region.0 < length self.old.counts.items }
         requires living { 0 < counted_in self.old region.0 }
         requires made { 0 < self.old.frame.made }
         ensures only { self.new ≡ record self.old { counts = self.new.counts } }
@@ -48,7 +48,7 @@ impl Activation {
             ≡ resumed_by_child self.old.runner self.old.frame.waits self.old.frame.made (counted_in self.new region.0) child region.0 }
     {
         let parent = self.as_parent();
-        match self.counts[region.0].closed(region.0, child, parent) {
+        match self.counts.close(region.0, child, parent) {
             Outcome::ResumeReady | Outcome::ResumeStalled => true,
             Outcome::Leave => false,
         }

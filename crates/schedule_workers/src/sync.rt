@@ -44,7 +44,7 @@ impl Run {
         let Some(top) = self.cactus.frame_mut(slot) else {
             unreachable!()
         };
-        let passage = top.counts[region.0].at_sync();
+        let passage = top.counts.at_sync(region.0);
         let block = top.frame.place.block;
         top.frame
             .sync(program, self.moves.as_mut_slice(), region, target);

@@ -1,5 +1,5 @@
 -- A strand whose frames' boxes were written stands as before; and what is seen of its frames.
-use Rattle.std.proofs.Common.{◌≡◌, ℕ, refl, sym, ap, ◌∙◌, subst, Bool, false, List, Option, Some, None, replicate}
+use Rattle.std.proofs.Common.{◌≡◌, ℕ, refl, sym, ap, ◌∙◌, subst, Bool, true, false, List, Option, Some, None, replicate}
 use Rattle.std.specs.List.{list_any}
 use Rattle.program.specs.declared.function.Program.{Program}
 use Rattle.program.specs.declared.instruction.Instruction.{Instruction}
@@ -27,7 +27,7 @@ use Rattle.shared_run.specs.declared.worker_strand.Standing.{Standing}
 use Rattle.shared_run.specs.declared.worker_strand.Standing.TheVariants.{Blank, Going, Border, Full, Need, Spoilt}
 use Rattle.shared_run.specs.Calls.{Appends, Stays}
 use Rattle.shared_run.specs.Story.{SeatView, Story}
-use Rattle.shared_run.specs.Strands.{Apart, FitsBoard, Holds, IsSettled, IsTop, IsUp, Publishes, is_reattach}
+use Rattle.shared_run.specs.Strands.{Apart, FitsBoard, Holds, IsBoxed, IsSettled, IsTop, IsUp, Publishes, is_reattach}
 use Rattle.shared_run.proofs.Calls.{stays_same}
 
 -- ---- it stands as before
@@ -80,6 +80,11 @@ has_room_up prog places x Spoilt h up = absurd up
 
 pub strand_of : (own code : Program) (x : Strand) → own ≡ code → IsStrandOf own x → IsStrandOf code x
 strand_of own code x is h = subst (λ (q : Program). IsStrandOf q x) is h
+
+-- where its frames were written
+pub written_strand : (own code : Program) (x : Strand) (written : Bool) → own ≡ code → written ≡ true → IsBoxed own x written → IsStrandOf code x
+written_strand own code x true is so h = strand_of own code x is h
+written_strand own code x false is so h = absurd cc
 
 -- ---- on the board
 

@@ -19,7 +19,7 @@ use Rattle.schedule_core.specs.strand.declared.strand.Strand.{Strand}
 use Rattle.schedule_core.specs.strand.declared.going.StrandPause.{StrandPause}
 use Rattle.schedule_core.specs.strand.declared.going.StrandPause.TheVariants as pause
 use Rattle.schedule_core.specs.declared.ready.Ticket.{Ticket}
-use Rattle.schedule_core.specs.Strands.{HasRoomFor, HasSettled, IsBegun, StrandFits}
+use Rattle.schedule_core.specs.Strands.{HasRoomFor, HasSettled, IsBegun, IsStrandOf, StrandFits}
 use Rattle.schedule_core.specs.ReadyBelow.{AreReadyBelow}
 use Rattle.schedule_core.specs.FrameStrands.{TakesSteps}
 use Rattle.shared_run.specs.declared.answers.Loaded.{Loaded}
@@ -54,6 +54,11 @@ Holds prog places x Border = HasRoomFor prog x × ∥ IsUnderWay prog places x �
 Holds prog places x Full = HasRoomFor prog x × ∥ IsGoing prog places x pause.Full ∥₁
 Holds prog places x (Need at) = HasRoomFor prog x × ∥ IsGoing prog places x (pause.Need at) ∥₁
 Holds prog places x Spoilt = ⊤
+
+-- and of its frames, where they were written as a board takes them
+abbrev pub IsBoxed : Program → Strand → Bool → Type 0
+IsBoxed prog x false = ⊤
+IsBoxed prog x true = IsStrandOf prog x
 
 -- a reattach stands there
 abbrev pub is_reattach : Option Item → Bool

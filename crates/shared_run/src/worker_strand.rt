@@ -81,6 +81,8 @@ pub struct WorkerStrand<'p, L: Bench> {
     pub(crate) code: &'p Decoded,
     pub(crate) strand: Strand,
     pub(crate) standing: Standing,
+    /// Its frames are as a board takes them: nothing has changed since they were written so.
+    pub(crate) boxed: bool,
 }
 
 /// Written out, so that no crate above proves it anew.
@@ -92,6 +94,7 @@ impl<L: Bench> Drop for WorkerStrand<'_, L> {
             code: _,
             strand: _,
             standing: _,
+            boxed: _,
         } = self;
     }
 }
@@ -99,13 +102,13 @@ impl<L: Bench> Drop for WorkerStrand<'_, L> {
 impl<'p, L: Bench> Model for WorkerStrand<'p, L> {
     ghost use Rattle.std.specs.Prelude.{◌≡◌};
     ghost use Rattle.schedule_core.specs.serial_machine.Decoding.{IsCodeOf};
-    ghost use Rattle.shared_run.specs.Strands.{Apart, Holds};
+    ghost use Rattle.shared_run.specs.Strands.{Apart, Holds, IsBoxed};
 
     ghost Value = { Apart };
 
     ghost view = { λ s. record { strand = s.strand; standing = s.standing } };
 
-    ghost invariant = { λ s. (s.verified.now ≡ L.code) × IsCodeOf s.verified.now s.code.now × Holds s.verified.now s.code.now.places s.strand s.standing };
+    ghost invariant = { λ s. (s.verified.now ≡ L.code) × IsCodeOf s.verified.now s.code.now × Holds s.verified.now s.code.now.places s.strand s.standing × IsBoxed s.verified.now s.strand s.boxed };
 }
 
 impl<'p, L: Bench> WorkerStrand<'p, L> {
@@ -130,6 +133,7 @@ impl<'p, L: Bench> WorkerStrand<'p, L> {
             code,
             strand,
             standing: Standing::Blank,
+            boxed: false,
         })
     }
 
@@ -192,20 +196,22 @@ impl<'p, L: Bench> WorkerStrand<'p, L> {
         }
     }
 
-    /// Its frames, where it holds one, are as a board takes them.
+    /// Its frames, where it holds one, are as a board takes them. That needs no lock, so it is done before one is taken; where it was, nothing is left to do.
     ///
     /// # Errors
     ///
     /// Memory was refused: it stands as before.
-    #[tactic(auto, using(crate::proofs::Strands::under_way, crate::proofs::Settling::has_room_up, crate::proofs::Settling::holds_settled, crate::proofs::Settling::strand_of))]
+    #[tactic(auto, using(crate::proofs::Strands::under_way, crate::proofs::Settling::has_room_up, crate::proofs::Settling::holds_settled, crate::proofs::Settling::strand_of, crate::proofs::Settling::written_strand))]
     pub(crate) fn settle(&mut self) -> Result<(), OutOfMemory>
         ensures only { IsSettled self.old self.new }
         ensures made { OnOk result (IsUp self.new.standing → IsStrandOf L.code self.new.strand) }
     {
-        if !self.standing.is_up() {
+        if self.boxed || !self.standing.is_up() {
             return Ok(());
         }
-        settle_strand(&mut self.strand, self.verified, self.code)
+        settle_strand(&mut self.strand, self.verified, self.code)?;
+        self.boxed = true;
+        Ok(())
     }
 
     /// Holds no frame from here on.
@@ -227,6 +233,7 @@ impl<'p, L: Bench> WorkerStrand<'p, L> {
             Standing::Spoilt => {
                 self.strand = blank_strand(self.strand.alloc, self.verified)?;
                 self.standing = Standing::Blank;
+                self.boxed = false;
             }
             _ => {}
         }
@@ -245,6 +252,7 @@ impl<'p, L: Bench> WorkerStrand<'p, L> {
         ensures none { result ≢ Ok true → ¬ IsUp self.new.standing }
     {
         self.renew()?;
+        self.boxed = false;
         match machine.load_strand(worker, &mut self.strand, self.code) {
             Ok(true) => {
                 self.standing = Standing::Going;
@@ -273,6 +281,7 @@ impl<'p, L: Bench> WorkerStrand<'p, L> {
         if self.standing != Standing::Going {
             return self.standing;
         }
+        self.boxed = false;
         let limit = self
             .strand
             .done
@@ -306,6 +315,7 @@ impl<'p, L: Bench> WorkerStrand<'p, L> {
             page,
         );
         self.standing = Standing::Going;
+        self.boxed = false;
     }
 
     /// Whether the page of the cell at this address is in use.
@@ -326,6 +336,7 @@ impl<'p, L: Bench> WorkerStrand<'p, L> {
         if self.standing != Standing::Going {
             return false;
         }
+        self.boxed = false;
         fill_strand_ahead(
             &mut self.strand,
             self.verified,
@@ -349,6 +360,7 @@ impl<L: Bench> WorkerStrand<'_, L> {
             code: _,
             strand,
             standing,
+            boxed: _,
         } = self;
         StrandRest { strand, standing }
     }

@@ -17,7 +17,7 @@ use Rattle.program.specs.declared.function.Program.{Program}
 use Rattle.frame.specs.declared.frame.Wait.{Wait}
 use Rattle.frame.specs.declared.frame.Wait.TheVariants as wait
 use Rattle.frame.specs.Reading.{wait_of}
-use Rattle.sync_join.specs.declared.count.RegionCount.{RegionCount}
+use Rattle.sync_join.specs.Counting.{Counts, living_in}
 use Rattle.cactus.specs.declared.node.Link.{Link}
 use Rattle.cactus.specs.declared.node.Node.{Node}
 use Rattle.cactus.specs.Frames.{Frames, node_at}
@@ -33,7 +33,7 @@ use Rattle.schedule_workers.specs.declared.activation.Activation.{Activation}
 use Rattle.schedule_workers.specs.declared.run.Run.{Run}
 use Rattle.schedule_workers.specs.Layouts.{alloca_at, number_in, own_at}
 use Rattle.schedule_workers.specs.Lent.{IsFree}
-use Rattle.schedule_workers.specs.Scheduling.{counted_in, hand_of, living_in}
+use Rattle.schedule_workers.specs.Scheduling.{counted_in, hand_of}
 use Rattle.schedule_workers.specs.RunShown.{CalleeStands, HasBlock, HasTaker, IsShown, ShowsAt, ShowsNode, place_of}
 use Rattle.schedule_workers.proofs.Changed.{Holds}
 use Rattle.schedule_workers.proofs.Handing.{hand_set, taken_up}
@@ -150,10 +150,10 @@ module _ (prog : Program) (places : Places) (k : Run) (m next : Machine) (shown 
               let there_a : slice_get prog.functions a.frame.function.0 ≡ Some g = ap (λ (y : Frame). slice_get prog.functions y.function.0) (sym same) ∙ there in
               let there_f : slice_get prog.functions f.function.0 ≡ Some g = ap (slice_get prog.functions) (sym on.shows.shown.function ∙ seat.shows.shown.function) ∙ there_a in
               subst (HasTaker (length g.registers)) (sym (ap (λ (y : Frame). y.waits) same ∙ seat.waits)) (takes (length g.registers) f f.waits (on.shows.fits.registers g there_f) on.taker);
-          counts = λ g there. ap (λ (y : Vec RegionCount Global). length y.items) counted ∙ seat.as_many g (ap (λ (y : Frame). slice_get prog.functions y.function.0) (sym same) ∙ there);
+          counts = λ g there. ap (λ (y : Counts). length y.items) counted ∙ seat.as_many g (ap (λ (y : Frame). slice_get prog.functions y.function.0) (sym same) ∙ there);
         };
         counts = λ r.
-            let own : counted_in n.frame r ≡ counted_in a r = ap (λ (y : Vec RegionCount Global). living_in y.items r) counted in
+            let own : counted_in n.frame r ≡ counted_in a r = ap (λ (y : Counts). living_in y.items r) counted in
             own ∙ (seat.counts r ∙ (sym (count r) ∙ ap (λ (q : Path). count_of next.core q r) (sym place)));
         block = subst (λ (y : Frame). HasBlock prog k.blocks.items k.lent s y) (sym same) seat.block;
       };

@@ -31,6 +31,10 @@ map_last : {X Y : Type 0} (f : X → Y) (xs : List X) (x : X) → map f (xs ++ x
 map_last f [] x = refl
 map_last f (y ∷ xs) x = ap (λ zs. f y ∷ zs) (map_last f xs x)
 
+append_none : (xs : List ℕ) → xs ++ [] ≡ xs
+append_none [] = refl
+append_none (z ∷ xs) = ap (λ (zs : List ℕ). z ∷ zs) (append_none xs)
+
 last_or : {X : Type 0} (xs : List X) (y : X) (i : ℕ) (x : X) → slice_get (xs ++ y ∷ []) i ≡ Some x → (slice_get xs i ≡ Some x) ⊎ ((i ≡ length xs) × (y ≡ x))
 last_or [] y zero x e = inr (refl, same_Some y x e)
 last_or [] y (suc i) x e = absurd cc
@@ -134,16 +138,29 @@ one_ready worker x n links l ready here =
       ];
     }
 
-pub ready_next : (worker : ℕ) (x : Strand) (n : ℕ) (f : Frame) → slice_get (frames_of x) n ≡ Some f → (numbers after : List ℕ) (number : ℕ) (links more : List (Link Activation)) (l : Link Activation) →
-    numbers ≡ path_of x n → AreReady worker x n links → after ≡ numbers ++ number ∷ [] → number ≡ f.made - 1 → l.path.numbers ≡ after → IsFrameOf worker x (n + 1) l.frame →
-    more ≡ links ++ l ∷ [] → (after ≡ path_of x (n + 1)) × AreReady worker x (n + 1) more
-ready_next worker x n f at numbers after number links more l was ready pushed made path frame is =
+there_at : {X : Type 0} (xs : List X) (k : ℕ) → k < length xs → (x : X) × (slice_get xs k ≡ Some x)
+there_at [] k within = absurd (omega (arith, within))
+there_at (x ∷ xs) zero within = (x, refl)
+there_at (x ∷ xs) (suc k) within = there_at xs k (omega (arith, within))
+
+-- the next one stands on the uppermost of them, or on the base
+pub path_ready : (worker : ℕ) (x : Strand) (n : ℕ) (links : List (Link Activation)) (numbers : List ℕ) → AreReady worker x n links → (length links ≡ 0 → numbers ≡ x.base.path.items) →
+    ((l : Link Activation) → slice_get links (length links - 1) ≡ Some l → numbers ≡ l.path.numbers) → numbers ≡ path_of x n
+path_ready worker x zero links numbers ready base uppermost = base ready.many ∙ sym (append_none x.base.path.items)
+path_ready worker x (suc k) links numbers ready base uppermost =
+    let m = ready.many in
+    let (l, is) = there_at links k (omega (arith, m)) in
+    let last : length links - 1 ≡ k = omega (arith, m) in
+    uppermost l (ap (slice_get links) last ∙ is) ∙ (ready.each k l is).path
+
+pub ready_next : (worker : ℕ) (x : Strand) (n : ℕ) (f : Frame) → slice_get (frames_of x) n ≡ Some f → (numbers : List ℕ) (number : ℕ) (links more : List (Link Activation)) (l : Link Activation) →
+    numbers ≡ path_of x n → AreReady worker x n links → number ≡ f.made - 1 → l.path.numbers ≡ numbers ++ number ∷ [] → IsFrameOf worker x (n + 1) l.frame →
+    more ≡ links ++ l ∷ [] → AreReady worker x (n + 1) more
+ready_next worker x n f there numbers number links more l was ready made path frame is =
     let one : suc n ≡ n + 1 = omega arith in
-    let there : after ≡ path_of x (suc n) = pushed ∙ (ap (λ (k : ℕ). numbers ++ k ∷ []) made ∙ (ap (λ (ns : List ℕ). ns ++ (f.made - 1) ∷ []) was ∙ sym (path_next x n f at))) in
-    let here : IsLink worker x (suc n) l = record { path = path ∙ there; frame = subst (λ (k : ℕ). IsFrameOf worker x k l.frame) (sym one) frame } in (
-      subst (λ (k : ℕ). after ≡ path_of x k) one there,
-      subst (λ (k : ℕ). AreReady worker x k more) one (subst (λ (ls : List (Link Activation)). AreReady worker x (suc n) ls) (sym is) (one_ready worker x n links l ready here)),
-    )
+    let next : numbers ++ number ∷ [] ≡ path_of x (suc n) = ap (λ (k : ℕ). numbers ++ k ∷ []) made ∙ (ap (λ (ns : List ℕ). ns ++ (f.made - 1) ∷ []) was ∙ sym (path_next x n f there)) in
+    let here : IsLink worker x (suc n) l = record { path = path ∙ next; frame = subst (λ (k : ℕ). IsFrameOf worker x k l.frame) (sym one) frame } in
+    subst (λ (k : ℕ). AreReady worker x k more) one (subst (λ (ls : List (Link Activation)). AreReady worker x (suc n) ls) (sym is) (one_ready worker x n links l ready here))
 
 -- ---- as they stand one on the other
 
@@ -181,10 +198,6 @@ from_index worker x (h ∷ hs) (l ∷ links) n f there many each =
     head_get : (fs : List Frame) → slice_get fs 0 ≡ head_of fs
     head_get [] = refl
     head_get (g ∷ fs) = refl
-
-append_none : (xs : List ℕ) → xs ++ [] ≡ xs
-append_none [] = refl
-append_none (z ∷ xs) = ap (λ (zs : List ℕ). z ∷ zs) (append_none xs)
 
 pub are_linked : (worker : ℕ) (x : Strand) (links : List (Link Activation)) → AreLinks worker x links → (f : Frame) (hs : List Frame) → frames_of x ≡ f ∷ hs → AreLinked worker x.base.path.items f hs links
 are_linked worker x links are f hs all =

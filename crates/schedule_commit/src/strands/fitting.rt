@@ -12,12 +12,7 @@ use strand::Strand;
 pub fn has_no_child(activation: &Activation) -> bool
     ensures { IsTrue result ↔ HasNoChild activation.now }
 {
-    for count in &activation.counts {
-        if count.living != 0 {
-            return false;
-        }
-    }
-    true
+    activation.counts.none_lives()
 }
 
 /// Whether the frame has no child where the base of the strand had none.

@@ -1,9 +1,11 @@
 //! The frames of a strand as they are to stand in the cactus, with paths, counts and runners.
 
-ghost use Rattle.std.specs.Prelude.{◌≡◌, ◌+◌, ◌^◌, ◌≤◌, ◌<◌, ℕ, IfOk, Some, length, slice_get, suc};
+ghost use Rattle.std.specs.Prelude.{◌≡◌, ◌+◌, ◌-◌, ◌++◌, ◌∷◌, [], ◌^◌, ◌≤◌, ◌<◌, ℕ, IfOk, Some, length, slice_get, suc};
 ghost use Rattle.std.specs.Option.{option_copied};
 ghost use Rattle.linear.specs.declared.form.RegisterId.{RegisterId};
 ghost use Rattle.program.specs.declared.identifier.BlockId.{BlockId};
+ghost use Rattle.cactus.specs.declared.node.Link.{Link as ReadyLink};
+ghost use Rattle.schedule_workers.specs.declared.activation.Activation.{Activation as Living};
 ghost use Rattle.schedule_workers.specs.Scheduling.{counted_in};
 ghost use Rattle.schedule_commit.specs.strands.Linking.{AreLinks, IsFrameOf, RegionsFit, counted_of, frames_of};
 
@@ -15,14 +17,14 @@ use schedule_workers::{Activation, frame_copy_in};
 use std::alloc::Global;
 use std::mem::replace;
 use strand::Strand;
-use sync_join::RegionCount;
+use sync_join::RegionCounts;
 
 /// Lists for a frame and its path, whatever they hold.
 #[derive(Drop)]
 struct Lists {
     numbers: Vec<u64>,
     registers: Vec<i64>,
-    counts: Vec<RegionCount>,
+    counts: RegionCounts,
 }
 
 impl Lists {
@@ -34,7 +36,7 @@ impl Lists {
             return Lists {
                 numbers: Vec::new(alloc),
                 registers: Vec::new(alloc),
-                counts: Vec::new(alloc),
+                counts: RegionCounts::new(alloc),
             };
         };
         Lists {
@@ -45,15 +47,28 @@ impl Lists {
     }
 }
 
-/// The path of these numbers, in the list.
-fn path_in(mut list: Vec<u64>, numbers: &[u64]) -> Result<Path, OutOfMemory>
-    ensures { IfOk result (λ path. path.numbers ≡ numbers.now) }
+/// The path of the child of this number of the frame at a path, in the list.
+fn child_path_in(mut list: Vec<u64>, path: &[u64], number: u64) -> Result<Path, OutOfMemory>
+    ensures { IfOk result (λ child. child.numbers ≡ path.now ++ number ∷ []) }
 {
     list.clear();
-    list.extend_from_slice(numbers)?;
+    list.reserve(path.len().saturating_add(1))?;
+    list.extend_from_slice(path)?;
+    list.push(number)?;
     Ok(Path {
         numbers: Seq::from_vec(list),
     })
+}
+
+/// The path of the uppermost frame of these, or of the base where there are none.
+fn path_below<'a>(strand: &'a Strand, links: &'a [Link<Activation>]) -> &'a [u64]
+    ensures base { length links.now ≡ 0 → result.now ≡ strand.now.base.path.items }
+    ensures uppermost { (link : ReadyLink Living) → slice_get links.now (length links.now - 1) ≡ Some link → result.now ≡ link.path.numbers }
+{
+    match links.last() {
+        Some(link) => link.path.numbers.as_slice(),
+        None => strand.base.path.as_slice(),
+    }
 }
 
 /// The strand's frame of this number, counted from the base.
@@ -89,14 +104,14 @@ pub(crate) fn count_above(activation: &mut Activation, above: &Frame)
     ensures counts { (region : ℕ) → counted_in activation.new region ≡ counted_of above.now.role region + counted_in activation.old region }
 {
     if let Role::Child { region, .. } = above.role {
-        activation.counts[region.0].opened();
+        activation.counts.open(region.0);
     }
 }
 
 /// What the scheduler is to know of the frame of this number, in these lists.
 fn activation_of(
     registers: Vec<i64>,
-    counts: Vec<RegionCount>,
+    counts: RegionCounts,
     worker: u8,
     strand: &Strand,
     number: usize,
@@ -127,11 +142,10 @@ pub(crate) fn links_of(
     ensures same { cactus.new ≡ cactus.old }
 {
     let mut links = Vec::with_capacity(alloc, strand.below.len())?;
-    let mut numbers = Vec::from_slice(alloc, strand.base.path.as_slice())?;
     for number in 0..strand.below.len() {
-        numbers.push(frame_of(strand, number).made.saturating_sub(1))?;
+        let child = frame_of(strand, number).made.saturating_sub(1);
         let lists = Lists::of_gone(alloc, cactus);
-        let path = path_in(lists.numbers, numbers.as_slice())?;
+        let path = child_path_in(lists.numbers, path_below(strand, links.as_slice()), child)?;
         let frame = activation_of(lists.registers, lists.counts, worker, strand, number + 1)?;
         links.push(Link { path, frame })?;
     }

@@ -4,6 +4,7 @@ use crate::bench::Bench;
 use crate::turns::habits::{Habits, Want};
 use crate::turns::tasks::{Hunger, Reason};
 use crate::worker_strand::{MOST_INSTRUCTIONS, Standing, WorkerStrand};
+use lists::OutOfMemory;
 
 /// A strand looks for others' demand after so many instructions at first, then each time it has done twice as many, up to the longest slice. With 16 no second
 /// worker comes into a run of 14 instructions (`examples/pair.ll`), which a case of `cases_machine` asks for.
@@ -18,6 +19,17 @@ const DEEP: usize = 4;
 
 /// More pauses than the slices of a strand make, which are some 75: so the loop has a bound that nothing comes to.
 const MOST_PAUSES: u32 = 1_000;
+
+/// The strand is to be put on the board. Its frames are written for that here, where no lock is held.
+fn to_publish<L: Bench>(strand: &mut WorkerStrand<'_, L>, reason: Reason) -> Want {
+    if strand.done() == 0 {
+        return Want::Publish { reason };
+    }
+    match strand.settle() {
+        Ok(()) => Want::Publish { reason },
+        Err(OutOfMemory) => Want::Leave,
+    }
+}
 
 /// Goes on to where something is wanted of the board: what that is.
 fn next_want<L: Bench, H: Hunger>(
@@ -49,11 +61,9 @@ fn next_want<L: Bench, H: Hunger>(
                 }
             }
         };
-        return Want::Publish { reason };
+        return to_publish(strand, reason);
     }
-    Want::Publish {
-        reason: Reason::Limit,
-    }
+    to_publish(strand, Reason::Limit)
 }
 
 /// Goes on outside of the board, as long as nothing is wanted of it and it is not over.

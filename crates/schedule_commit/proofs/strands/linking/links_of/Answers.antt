@@ -1,11 +1,20 @@
-use Rattle.std.proofs.Common.{◌∙◌}
-use Rattle.schedule_commit.proofs.strands.Linked.{ready_next}
+use Rattle.std.proofs.Common.{◌≡◌, ◌∙◌, ◌-◌, List, Some, length, subst, ap, sym}
+use Rattle.std.specs.Prelude.{slice_get}
+use Rattle.cactus.specs.declared.node.Link.{Link}
+use Rattle.schedule_workers.specs.declared.activation.Activation.{Activation}
+use Rattle.schedule_commit.proofs.strands.Linked.{path_ready, ready_next}
 use Rattle.schedule_commit.proofs.strands.linking.links_of.Goals as goal
 
 pub loop-number-preserved : goal.loop-number-preserved
 loop-number-preserved c =
     let l = c.loop-number in
-    let next = ready_next c.args.worker c.args.strand.now l.number c.frame_of.result.now c.frame_of.ensures l.numbers.items c.push.new.self.items c.saturating_sub.result l.links.items c.push-in-loop-number.new.self.items
-    (record { path = c.in_ok-path.path; frame = c.in_ok-frame.frame }) l.invariant.0 l.invariant.1 c.in_ok-push.ensures.items c.saturating_sub.ensures
-    (c.in_ok-path.ensures ∙ c.as_slice-in-loop-number.ensures.value) c.in_ok-frame.ensures c.in_ok-push-2.ensures.items in
-    (next.0, next.1, c.of_gone-lists.ensures ∙ l.invariant.2)
+    let links = l.links.items in
+    let same = c.as_slice.ensures.value in
+    let below = c.path_below.ensures in
+    let was = path_ready c.args.worker c.args.strand.now l.number links c.path_below.result.now l.invariant.0
+    (λ none. below.base (ap (λ (xs : List (Link Activation)). length xs) same ∙ none))
+    (λ link last. below.uppermost link (subst (λ (xs : List (Link Activation)). slice_get xs (length xs - 1) ≡ Some link) (sym same) last)) in (
+      ready_next c.args.worker c.args.strand.now l.number c.frame_of.result.now c.frame_of.ensures c.path_below.result.now c.saturating_sub-child.result links c.push.new.self.items
+          (record { path = c.in_ok-path.path; frame = c.in_ok-frame.frame }) was l.invariant.0 c.saturating_sub-child.ensures c.in_ok-path.ensures c.in_ok-frame.ensures c.in_ok-push.ensures.items,
+      c.of_gone-lists.ensures ∙ l.invariant.1,
+    )

@@ -21,6 +21,13 @@ loop-slot-init c =
       remains = λ slot node stands. inl (subst (λ (l : List (ℕ × Node Activation)). listed_in l slot node) (sym items) ((Contains-entries (record { slots = frames.nodes; vacant_key = 0; capacity = 0 }) slot node).1 stands));
     }
 
+-- where no function has allocas, no frame has
+pub returns-then-needs_no_allocas : goal.returns-then-needs_no_allocas
+returns-then-needs_no_allocas c = (
+  (λ yes slot node stands body some. absurd (let none = c.needs_no_allocas.ensures c.if-needs_no_allocas.true node.frame.frame.function.0 in omega (arith, some, none))),
+  λ all. refl,
+)
+
 first_listed : {X : Type 0} (x : X) (rest all : List X) → all ≡ x ∷ rest → Contains all x
 first_listed x rest all is = rw is (0, omega arith, refl)
 

@@ -6,7 +6,6 @@ use Rattle.frame.specs.declared.frame.Wait.TheVariants as wait
 use Rattle.cactus.specs.Frames.{Frames, node_at}
 use Rattle.schedule_workers.specs.declared.activation.Activation.{Activation}
 use Rattle.schedule_workers.specs.declared.run.Run.{Run}
-use Rattle.std.specs.Vec.{vec_len}
 use Rattle.frame_engine.specs.declared.activation.Frame.{Frame}
 use Rattle.frame_engine.specs.Activation.{ShowsFrame}
 use Rattle.schedule_workers.specs.Scheduling.{counted_in}
@@ -52,7 +51,7 @@ leave_behind-requires-clause-counted c =
     let same = found_again c.args.self.now.cactus c.args.slot node stands c.add_child.new.self node.frame.frame.made c.in_ok-begun.begun c.in_ok-begun_slot.begun_slot c.in_ok-begun_slot.ensures.ok c.in-Some-frame_mut.parent.now (sym c.frame_mut.ensures.value ∙ ap option_copied_mut c.in-Some-frame_mut.is) in
     ∥∥₁_elim c.requires.safe (hlevel props) (λ s.
     let within = counts_region c.args.program.now c.args.places.now c.args.self.now c.args.slot node stands s.machine s.shown c.args.detach.region c.args.detach.body c.args.detach.continuation (c.requires.item node stands) c.args.worker c.requires.hand s.safe _ c.requires.text in
-    subst (λ (x : Activation). c.args.detach.region.0 < vec_len x.counts) same within)
+    subst (λ (x : Activation). c.args.detach.region.0 < length x.counts.items) same within)
 
 pub leave_behind-requires-clause-room : goal.leave_behind-requires-clause-room
 leave_behind-requires-clause-room c =

@@ -1,7 +1,7 @@
 use Rattle.std.proofs.Common.{rules, [], true, ◌≡◌, ℕ, ◌+◌, ◌-◌, ◌<◌, List, length, None, Some, sym, ap, ◌∙◌, subst, arith}
 use Rattle.std.specs.Prelude.{slice_get}
 use Rattle.std.specs.Option.{option_copied, option_copied_mut}
-use Rattle.std.specs.Vec.{vec_len, with_item}
+use Rattle.std.specs.Vec.{with_item}
 use Rattle.std.proofs.Math.Logic.{∥∥₁_elim}
 use Rattle.std.proofs.Props.{props}
 use Rattle.semantics.specs.Events.{Step}
@@ -68,7 +68,7 @@ lose_child-requires-clause-counted c =
     ∥∥₁_elim c.requires.safe (hlevel props) (λ s.
     let there = found_above c.args.program.now c.args.places.now k c.args.slot node stands s.machine s.shown c.args.region it.0 it.1 c.args.worker c.requires.hand s.safe (search rules) c.discard.new.self c.discard.ensures.rest shrinks c.in-Some-above.parent c.in-Some-above.is c.in-Some-frame_mut.activation.now found in
     let room = counted_room c.args.program.now c.args.places.now k c.args.slot node stands s.machine s.shown c.args.region it.0 it.1 c.args.worker c.requires.hand s.safe (search rules) c.discard.new.self c.discard.ensures.rest shrinks c.in-Some-above.parent c.in-Some-above.is in
-    subst (λ (x : Activation). c.args.region.0 < vec_len x.counts) there room)
+    subst (λ (x : Activation). c.args.region.0 < length x.counts.items) there room)
 
 pub lose_child-requires-clause-living : goal.lose_child-requires-clause-living
 lose_child-requires-clause-living c =

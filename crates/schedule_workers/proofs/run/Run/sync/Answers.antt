@@ -8,7 +8,7 @@ use Rattle.frame_engine.specs.Activation.{FrameFits}
 use Rattle.schedule_workers.specs.declared.run.Run.{Run}
 use Rattle.frame_engine.proofs.Texts.{sync_edge}
 use Rattle.schedule_workers.proofs.Onward.{fits_prop, node_of, not_there}
-use Rattle.schedule_workers.proofs.Syncing.{LeadsTo, counts_region, counted_is, passes, stalls}
+use Rattle.schedule_workers.proofs.Syncing.{LeadsTo, counts_region, passes, stalls}
 use Rattle.schedule_workers.specs.declared.activation.Activation.{Activation}
 use Rattle.schedule_workers.specs.Follows.{KeepsUses}
 use Rattle.schedule_workers.specs.Stalls.{NotesStalls}
@@ -21,8 +21,8 @@ unreachable-requires c = ∥∥₁_elim c.requires.safe (hlevel props) (λ s.
     not_there c.args.self.now.cactus c.args.slot (s.shown.agrees.held c.args.worker c.args.slot c.requires.hand)
     (sym c.frame_mut.ensures.value ∙ ap option_copied_mut c.in_default.is))
 
-pub index-requires : goal.index-requires
-index-requires c =
+pub at_sync-passage-requires : goal.at_sync-passage-requires
+at_sync-passage-requires c =
     let a = c.in-Some.top.now in
     let n = node_of c.args.self.now.cactus c.args.slot a (sym c.frame_mut.ensures.value ∙ ap option_copied_mut c.in-Some.is) in
     ∥∥₁_elim c.requires.safe (hlevel props) (λ s.
@@ -53,11 +53,9 @@ returns-in-Pass-clause-steps c = λ m shown safe.
     let a = c.in-Some.top.now in
     let n = node_of k.cactus c.args.slot a (sym c.frame_mut.ensures.value ∙ ap option_copied_mut c.in-Some.is) in
     let item = c.requires.item (record n.0 { frame = a }) n.1 in
-    let within = counts_region c.args.program.now c.args.places.now _ c.requires.text k c.args.slot n.0 a n.1 m shown c.args.region c.args.target item in
-    let counted = counted_is a c.args.region c.index.result.now within (search rules) in
     passes c.args.program.now c.args.places.now k c.args.slot n.0 a n.1 m shown c.args.region c.args.target item c.args.worker c.requires.hand safe _ c.requires.text
     (record a { frame = c.sync.new.self }) c.sync.ensures.only c.sync.ensures.registers refl refl c.sync.ensures.shown (with_items k.moves c.sync.new.moves)
-    refl (counted ∙ c.at_sync-passage.ensures.0 c.in-Pass.is)
+    refl (c.at_sync-passage.ensures.0 c.in-Pass.is)
 
 pub returns-in-Stall-clause-steps : goal.returns-in-Stall-clause-steps
 returns-in-Stall-clause-steps c = λ m shown safe.
@@ -65,12 +63,10 @@ returns-in-Stall-clause-steps c = λ m shown safe.
     let a = c.in-Some.top.now in
     let n = node_of k.cactus c.args.slot a (sym c.frame_mut.ensures.value ∙ ap option_copied_mut c.in-Some.is) in
     let item = c.requires.item (record n.0 { frame = a }) n.1 in
-    let within = counts_region c.args.program.now c.args.places.now _ c.requires.text k c.args.slot n.0 a n.1 m shown c.args.region c.args.target item in
-    let counted = counted_is a c.args.region c.index.result.now within (search rules) in
     subst (λ (x : Run). LeadsTo c.args.program.now c.args.places.now k x c.args.worker m) (sym c.set_hand.ensures)
     (stalls c.args.program.now c.args.places.now k c.args.slot n.0 a n.1 m shown c.args.region c.args.target item c.args.worker c.requires.hand safe _ c.requires.text
     (record a { frame = c.sync.new.self; runner = None; stalled_in = Some a.frame.place.block }) c.sync.ensures.only c.sync.ensures.registers refl refl c.sync.ensures.shown (with_items k.moves c.sync.new.moves)
-    refl (λ none. let pass = c.at_sync-passage.ensures.1 (sym counted ∙ none) in let stall = c.in-Stall.is in cc) (search rules))
+    refl (λ none. let pass = c.at_sync-passage.ensures.1 none in let stall = c.in-Stall.is in cc) (search rules))
 
 pub returns-in-Pass-clause-stalls : goal.returns-in-Pass-clause-stalls
 returns-in-Pass-clause-stalls c = λ m shown safe.

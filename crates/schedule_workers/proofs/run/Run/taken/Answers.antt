@@ -26,6 +26,18 @@ loop-slot-init c =
       to = inl refl;
     }
 
+-- where no function has allocas, nothing is taken
+pub returns-then-needs_no_allocas : goal.returns-then-needs_no_allocas
+returns-then-needs_no_allocas c =
+    let less = c.requires in
+    record {
+      low = omega arith;
+      high = omega arith;
+      covers = λ slot node stands touch. absurd (let none = c.needs_no_allocas.ensures c.if-needs_no_allocas.true node.frame.frame.function.0 in let some = touch.some in omega (arith, some, none));
+      from = inl refl;
+      to = inl refl;
+    }
+
 first_listed : {X : Type 0} (x : X) (rest all : List X) → all ≡ x ∷ rest → Contains all x
 first_listed x rest all is = rw is (0, omega arith, refl)
 

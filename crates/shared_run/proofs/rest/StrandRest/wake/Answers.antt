@@ -6,4 +6,5 @@ invariant_of-result g c = (
   c.requires.code,
   c.requires.decoded,
   c.requires.rests c.args.code.now.places (places_are c.args.verified.now c.args.code.now c.requires.decoded),
+  tt,
 )

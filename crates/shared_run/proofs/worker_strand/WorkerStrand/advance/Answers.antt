@@ -15,6 +15,7 @@ invariant_of-self g c =
       c.self.invariant.0,
       c.self.invariant.1,
       holds_onward x.verified.now x.code.now.places c.advance_strand.new.strand c.in-Ok.pause c.of-self-inside.result c.of-self-inside.ensures c.in-Ok.ensures.moves c.in-Ok.ensures.board c.in-Ok.ensures.going,
+      tt,
     )
 
 -- a strand that is under way has done no more than one may
