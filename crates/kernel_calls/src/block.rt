@@ -21,6 +21,7 @@ use std::marker::Model;
 use store::{Finished, Memory, RunFault};
 
 /// A run with its module. Contracts see where it began, its events and its fuel.
+#[derive(Drop)]
 pub struct RunBlock {
     module: Shared,
     run: HostedRun,
@@ -37,14 +38,8 @@ impl Model for RunBlock {
     ghost invariant = { λ b. RunsFrom (start_of b.module b.run) b.run };
 }
 
-/// Written out, so that it is proved once.
-impl Drop for RunBlock {
-    fn drop(self) {
-        let RunBlock { module: _, run: _ } = self;
-    }
-}
-
 /// A worker with its own hold on the module. Contracts see the module's program.
+#[derive(Drop)]
 pub struct WorkerBlock {
     module: Shared,
     worker: HostedWorker,
@@ -59,16 +54,6 @@ impl Model for WorkerBlock {
     ghost view = { λ w. w.module };
 
     ghost invariant = { λ w. WorksFor w.module w.worker };
-}
-
-/// Written out, so that it is proved once.
-impl Drop for WorkerBlock {
-    fn drop(self) {
-        let WorkerBlock {
-            module: _,
-            worker: _,
-        } = self;
-    }
 }
 
 impl RunBlock {

@@ -10,6 +10,7 @@ use std::marker::Model;
 use verifier::Verified;
 
 /// A verified module, which is decoded once for all its runs. Contracts see it as its program.
+#[derive(Drop)]
 pub struct Prepared {
     verified: Verified,
     code: Decoded,
@@ -28,18 +29,6 @@ impl Model for Prepared {
     ghost view = { λ m. m.verified };
 
     ghost invariant = { λ m. IsCodeOf m.verified m.code };
-}
-
-/// Written out, so that it is proved once.
-impl Drop for Prepared {
-    fn drop(self) {
-        let Prepared {
-            verified: _,
-            code: _,
-            names: _,
-            mark: _,
-        } = self;
-    }
 }
 
 impl Prepared {

@@ -14,6 +14,7 @@ use std::marker::Model;
 use std::mem::replace;
 
 /// A stop with one of its owners. Contracts see nothing of it.
+#[derive(Drop)]
 pub struct StopBlock {
     stop: Stop,
 }
@@ -24,13 +25,6 @@ impl Model for StopBlock {
     ghost Value = { ⊤ };
 
     ghost view = { λ s. tt };
-}
-
-/// Written out, so that it is proved once.
-impl Drop for StopBlock {
-    fn drop(self) {
-        let StopBlock { stop: _ } = self;
-    }
 }
 
 /// A stop, or nothing. All zeroes are nothing.

@@ -8,7 +8,6 @@ ghost use Rattle.schedule_commit.specs.Absorbing.{steps_in};
 ghost use Rattle.schedule_commit.specs.frame_strand.declared.standing.FrameStrandPause.TheVariants.{Blank};
 ghost use Rattle.schedule_workers.specs.Follows.{Follows};
 ghost use Rattle.schedule_workers.specs.Layouts.{layout_of};
-ghost use Rattle.schedule_workers.specs.Starts.{ArePlaces};
 ghost use Rattle.schedule_core.specs.Replaying.{IsMachine, LeavesAsBefore};
 ghost use Rattle.schedule_core.specs.Spots.{KeepsSpots};
 ghost use Rattle.schedule_core.specs.Stages.{IsState, program_of};
@@ -16,22 +15,8 @@ ghost use Rattle.schedule_core.specs.FrameStrands.{Absorbs, FrameStrandFits, IsL
 
 use crate::machine::Machine;
 use crate::stage::Stage;
-use frame_engine::Places;
 use lists::OutOfMemory;
 use schedule_commit::{FrameStrand, FrameStrandPause, absorb, cell};
-use serial_machine::Verified;
-use std::alloc::Global;
-
-/// Where the objects of a module begin: what its strands are made with.
-///
-/// # Errors
-///
-/// Memory was refused.
-pub fn places_of(alloc: Global, verified: &Verified) -> Result<Places, OutOfMemory>
-    ensures { IfOk result (ArePlaces verified.now) }
-{
-    Places::of_program(alloc, verified.program())
-}
 
 /// How many steps of its worker a strand is: its instructions, and the border's where it stands at one.
 pub fn steps_of(strand: &FrameStrand<'_>) -> u64

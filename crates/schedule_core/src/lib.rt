@@ -47,7 +47,7 @@ mod strands;
 mod task;
 mod view;
 
-pub use absorb::{places_of, steps_of};
+pub use absorb::steps_of;
 pub use frame::Event;
 pub use frame_engine::{Frame, Item, Places};
 pub use frames::FrameView;

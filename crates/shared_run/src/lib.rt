@@ -54,7 +54,7 @@ pub use outside::{advance, blank_frame_strand, clear};
 pub use rest::{BoardRest, StrandRest};
 pub use schedule_core::{
     CodePlace, Decoded, Event, Finished, FrameStrand, FrameStrandPause, Machine, Memory, Places,
-    RunFault, Status, TaskView, Verified, places_of, replay, steps_of,
+    RunFault, Status, TaskView, Verified, replay, steps_of,
 };
 pub use seat::Seat;
 pub use shared::{Shared, Unended};

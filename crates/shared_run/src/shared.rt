@@ -96,15 +96,9 @@ impl<'a, L: Bench> Shared<'a, L> {
 }
 
 /// What was in a [`Shared`] whose run has not ended. Contracts see the board: no contract tells what stands in a lock.
+#[derive(Drop)]
 pub struct Unended<'a, L: Bench> {
     board: Board<'a, L>,
-}
-
-/// Written out, so that no crate above proves it anew.
-impl<L: Bench> Drop for Unended<'_, L> {
-    fn drop(self) {
-        let Unended { board: _ } = self;
-    }
 }
 
 impl<'a, L: Bench> Model for Unended<'a, L> {

@@ -12,6 +12,7 @@ use views::{
 };
 
 /// A run that is watched: each event gives a [`Moment`].
+#[derive(Drop)]
 pub struct Watch<'v> {
     alloc: Global,
     verified: &'v Verified,
@@ -20,20 +21,6 @@ pub struct Watch<'v> {
     objects: Objects,
     /// Whether the next moment tells what registers and cells were set.
     is_detailed: bool,
-}
-
-/// Written out, so that no crate above proves it anew.
-impl Drop for Watch<'_> {
-    fn drop(self) {
-        let Watch {
-            alloc: _,
-            verified: _,
-            machine: _,
-            workers: _,
-            objects: _,
-            is_detailed: _,
-        } = self;
-    }
 }
 
 /// Where a task stands.

@@ -26,24 +26,13 @@ use std::marker::Brand;
 use std::sync::ledger::Blank;
 
 /// A run between two calls of its host.
+#[derive(Drop)]
 pub struct HostedRun {
     pub(crate) board: BoardRest,
     pub(crate) offers: Offers,
     /// The run is not to go on once it has done so many instructions.
     pub(crate) fuel: u64,
     pub(crate) stop: Stop,
-}
-
-/// Written out, so that no crate above proves it anew.
-impl Drop for HostedRun {
-    fn drop(self) {
-        let HostedRun {
-            board: _,
-            offers: _,
-            fuel: _,
-            stop: _,
-        } = self;
-    }
 }
 
 /// A board before the first event.

@@ -32,23 +32,12 @@ impl Hunger for Ears {
 }
 
 /// A worker with its strand.
+#[derive(Drop)]
 pub struct HostedWorker {
     pub(crate) number: u8,
     pub(crate) strand: StrandRest,
     pub(crate) habits: Habits,
     pub(crate) ears: Ears,
-}
-
-/// Written out, so that no crate above proves it anew.
-impl Drop for HostedWorker {
-    fn drop(self) {
-        let HostedWorker {
-            number: _,
-            strand: _,
-            habits: _,
-            ears: _,
-        } = self;
-    }
 }
 
 /// Goes on outside of the board.
