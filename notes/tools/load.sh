@@ -1,0 +1,1 @@
+for p in $(pgrep -f 'bin/rattle '); do printf '%s %s %s\n' "$(tr '\0' ' ' </proc/$p/cmdline | grep -o 'crate-name [a-z_]*')" "$(readlink /proc/$p/cwd | cut -c1-40)" "$(awk '{print ($14+$15)/100}' /proc/$p/stat)"; done

@@ -1,0 +1,1 @@
+while true; do for p in $(pgrep -f 'bin/rattle check'); do c=$(readlink /proc/$p/cwd 2>/dev/null); case $c in /tmp/rt-edit*) renice -n 15 -p $p >/dev/null 2>&1; for t in /proc/$p/task/*; do renice -n 15 -p ${t##*/} >/dev/null 2>&1; done;; esac; done; sleep 5; done
